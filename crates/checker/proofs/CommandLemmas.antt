@@ -1,5 +1,5 @@
 -- What two calls of `arg` make of a command.
-use Rattle.std.proofs.Common.{◌≡◌, ◌∙◌, zero, suc, List, [], ◌∷◌, true, false, Option, refl, sym, ap, ap₂, subst, inl, inr, arith, slice_index, codes, is_some}
+use Rattle.std.proofs.Common.{◌≡◌, ◌<◌, ◌∙◌, Bool, ℕ, zero, suc, List, [], ◌∷◌, true, false, Option, refl, sym, ap, ap₂, subst, inl, inr, arith, slice_index, codes, is_some}
 use Rattle.std.specs.List.{All}
 use Rattle.clap.specs.Words.{IsPlainArg, Text, app_of, args_of, first_of, first_value, found_of, groups_of, is_simple, is_simple_and_free, matches_of, rule_of, with_rule, AddsArg, HasMatchesOf}
 use Rattle.clap.specs.Built.{FitsChain, HasDistinctIds, TakesValue}
@@ -10,50 +10,39 @@ use Rattle.clap.specs.declared.parser.matches.ArgMatches.{ArgMatches}
 use Rattle.clap.proofs.CallerLemmas.{required_in_chain}
 use Rattle.clap.proofs.OnLiterals.{clap_on_literals}
 use Rattle.clap.proofs.WalkLemmas.{first_value-rows}
-use Rattle.checker.specs.CommandLine.{TakesPaths, nameless_app, one_path_or_two, optional_rule, required_rule}
+use Rattle.execrun.specs.CommandLine.{nameless_app, path_rule}
+use Rattle.checker.specs.CommandLine.{TakesPaths, one_path_or_two}
 
--- the machine file's argument
-pub record IsMachine (a : Arg) : Type 0 where
-  pub id : a.id.now ≡ codes "MACHINE"
-  pub rule : rule_of a ≡ required_rule (codes "MACHINE")
+-- the argument of that name, which has to be given if it is required
+pub record IsPath (name : Text) (required : Bool) (a : Arg) : Type 0 where
+  pub id : a.id.now ≡ name
+  pub rule : rule_of a ≡ path_rule name required
   pub plain : IsPlainArg a × (a.global ≡ false)
-  pub value : TakesValue a
+  pub value : required ≡ true → TakesValue a
 
--- that of the event text
-pub record IsEvents (a : Arg) : Type 0 where
-  pub id : a.id.now ≡ codes "EVENTS"
-  pub rule : rule_of a ≡ optional_rule (codes "EVENTS")
-  pub plain : IsPlainArg a × (a.global ≡ false)
+abbrev pub IsMachine : Arg → Type 0
+IsMachine = IsPath (codes "MACHINE") true
+
+abbrev pub IsEvents : Arg → Type 0
+IsEvents = IsPath (codes "EVENTS") false
 
 -- a command with no argument yet, whose words begin with no name of the program
 pub record IsBare (c : Command) : Type 0 where
-  pub app : app_of c ≡ nameless_app
+  pub app : app_of c ≡ nameless_app (codes "execcheck")
   pub args : args_of c ≡ []
   pub groups : groups_of c ≡ []
   pub globals : (out-Command c).has_globals ≡ false
   pub negates : (out-Command c).subcommand_negates_reqs ≡ false
 
-fits_machine : (a : Arg) → IsMachine a → FitsChain a
-fits_machine a p =
-    let first : (t : Text) → a.id.now ≡ t → slice_index t 0 ≡ 77 = λ t e. rw (← e, p.id) refl in (
+fits : (name : Text) (required : Bool) (a : Arg) (n : ℕ) → IsPath name required a → slice_index name 0 ≡ n → 0 < n → n < 104 → FitsChain a
+fits name required a n p is least most =
+    let first : (t : Text) → a.id.now ≡ t → slice_index t 0 ≡ n = λ t e. rw (← e, p.id) is in (
       p.plain.0,
       p.plain.1,
-      (λ e. let bad : 0 ≡ 77 = first [] e in absurd (omega arith)),
+      (λ e. let bad : 0 ≡ n = first [] e in absurd (omega arith)),
       (λ auto. elim auto [
-        | inl h ↦ let bad : 104 ≡ 77 = first _ h in absurd (omega arith)
-        | inr h ↦ let bad : 118 ≡ 77 = first _ h in absurd (omega arith)
-      ]),
-    )
-
-fits_events : (a : Arg) → IsEvents a → FitsChain a
-fits_events a p =
-    let first : (t : Text) → a.id.now ≡ t → slice_index t 0 ≡ 69 = λ t e. rw (← e, p.id) refl in (
-      p.plain.0,
-      p.plain.1,
-      (λ e. let bad : 0 ≡ 69 = first [] e in absurd (omega arith)),
-      (λ auto. elim auto [
-        | inl h ↦ let bad : 104 ≡ 69 = first _ h in absurd (omega arith)
-        | inr h ↦ let bad : 118 ≡ 69 = first _ h in absurd (omega arith)
+        | inl h ↦ let bad : 104 ≡ n = first _ h in absurd (omega arith)
+        | inr h ↦ let bad : 118 ≡ n = first _ h in absurd (omega arith)
       ]),
     )
 
@@ -80,7 +69,8 @@ takes_paths start mid cmd a b bare p q first second = record {
   app = second.shape q.plain.1 ∙ ap₂ with_rule (first.shape p.plain.1 ∙ ap₂ with_rule bare.app p.rule) q.rule;
   machine = λ m parsed. subst (λ (id : Text). is_some (first_value (found_of m) id) ≡ true) p.id
       (required_in_chain start cmd (a ∷ b ∷ []) 0 a m (mid, first, (cmd, second, refl)) bare.args bare.groups bare.globals bare.negates
-      (all_fit a b (fits_machine a p) (fits_events b q)) (distinct a b p q) (omega arith) p.value parsed);
+      (all_fit a b (fits _ _ a 77 p refl (omega arith) (omega arith)) (fits _ _ b 69 q refl (omega arith) (omega arith))) (distinct a b p q)
+      (omega arith) (p.value refl) parsed);
 }
 
 -- clap's own account of a parse holds of this command

@@ -1,15 +1,10 @@
 -- From what is found in the texts to the status.
 use Rattle.std.proofs.Common.{◌≡◌, ◌≢◌, ◌⊎◌, ◌↔◌, ℕ, List, Option, None, Some, inl, inr, sym, subst}
-use Rattle.std.specs.Prelude.{IfSome, IsSomeAnd, MatchOption}
+use Rattle.std.specs.Prelude.{IsSomeAnd, MatchOption}
 use Rattle.std.specs.Borrow.{Bor}
-use Rattle.execrun.specs.Texts.{IsTextAt, Opens, TextAt}
+use Rattle.execrun.specs.Texts.{IsTextAt, TextAt}
 use Rattle.checker.specs.Judging.{IsRefusedMachine, IsRefusedScript, JudgesEvents, JudgesTexts}
 use Rattle.checker.specs.declared.command_line.Paths.{Paths}
-
--- what is reported of a text is what a reader has before it
-pub read_whole : (told remaining : Option (List ℕ)) (bytes : List ℕ) → Opens told remaining → IfSome remaining (λ all. bytes ≡ all) → IfSome told (λ all. bytes ≡ all)
-read_whole None remaining bytes opens read = tt
-read_whole (Some all) remaining bytes opens read = rw opens at read
 
 -- an event text and its run, if a run refuses nothing
 pub judges_events : (text_at : TextAt) (path : List ℕ) (status of_text of_run : ℕ) (events : List ℕ) → IsTextAt text_at path events

@@ -46,11 +46,8 @@ pub fn run_on_arguments<R: Env + Files + AllocGlobal, W: Write + Drop, E: Write>
         Ok(arguments) => arguments,
         Err(error) => return end_without_words(alloc, &error, err),
     };
-    match arguments
-        .iter()
-        .map(|word| word.as_str())
-        .collect::<Vec<&str>>(alloc)
-    {
+    let words = arguments.iter().map(|word| word.as_str());
+    match words.collect::<Vec<&str>>(alloc) {
         Err(_) => report(alloc, &Failure::NoMemory, err),
         Ok(words) => run_on_texts(&SystemTexts(rt), alloc, &words, &mut out, err),
     }

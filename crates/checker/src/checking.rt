@@ -1,16 +1,14 @@
 //! What is found in the texts at the paths, and the status that comes of it.
-ghost use Rattle.std.specs.Prelude.{◌≡◌, ◌≢◌, ◌≤◌, ◌⊎◌, ◌↔◌, [], true, false, IfOk};
+ghost use Rattle.std.specs.Prelude.{◌≡◌, ◌≢◌, ◌≤◌, ◌⊎◌, ◌↔◌, [], true, false, IfErr, IfOk};
 ghost use Rattle.checker.specs.Judging.{IsRefusedMachine, IsRefusedScript, JudgesEvents, JudgesTexts};
 ghost use Rattle.execrun.specs.Texts.{IsTextAt};
 
 use crate::command_line::Paths;
 use crate::failure::Failure;
 use execadvice::{check_events, check_machine};
-use execrun::Texts;
-use execsim::{ReadFault, read_limited};
+use execrun::{Fault, Texts, read_text};
 use runadvice::check_run;
 use std::alloc::Global;
-use std::io;
 use std::io::Write;
 
 /// The status if nothing was found.
@@ -23,16 +21,14 @@ const REFUSED: u8 = 1;
 const WARNED: u8 = 3;
 
 /// The bytes of the text at a path.
-#[tactic(auto, using(crate::proofs::JudgingLemmas::read_whole))]
-fn read_text<'a, T: Texts>(texts: &T, alloc: Global, path: &'a str) -> Result<Vec<u8>, Failure<'a>>
-    ensures { IfOk result (λ bytes. IsTextAt (T.text_at texts.now) path.now bytes.items) }
+fn text_at<'a, T: Texts>(texts: &T, alloc: Global, path: &'a str) -> Result<Vec<u8>, Failure<'a>>
+    ensures bytes { IfOk result (λ bytes. IsTextAt (T.text_at texts.now) path.now bytes.items) }
+    ensures failure { IfErr result (λ failure. (failure ≡ Failure.NoMemory) ⊎ (failure ≡ Failure.CannotRead path.entry)) }
 {
-    match texts.open_text(path) {
-        Err(error) => Err(Failure::at(path, ReadFault::from(error))),
-        Ok(mut text) => match read_limited(alloc, &mut text) {
-            Ok(bytes) => Ok(bytes),
-            Err(fault) => Err(Failure::at(path, fault)),
-        },
+    match read_text(texts, alloc, path) {
+        Ok(bytes) => Ok(bytes),
+        Err(Fault::NoMemory) => Err(Failure::NoMemory),
+        Err(_) => Err(Failure::CannotRead(path)),
     }
 }
 
@@ -72,17 +68,12 @@ fn worse(one: u8, other: u8) -> u8
     }
 }
 
-fn write_whole<W: Write>(text: &str, out: &mut W) -> io::Result<()> {
-    out.write_all(text.as_bytes())?;
-    out.flush()
-}
-
 /// Writes what was found, so that it is before what comes later, on standard error too.
 fn write_text<'a, W: Write>(text: &str, out: &mut W) -> Result<(), Failure<'a>> {
-    match write_whole(text, out) {
-        Ok(()) => Ok(()),
-        Err(_) => Err(Failure::WriteFailed),
+    if out.write_all(text.as_bytes()).is_err() || out.flush().is_err() {
+        return Err(Failure::WriteFailed);
     }
+    Ok(())
 }
 
 /// Checks a machine file that was read from a path, and writes what was found in it.
@@ -97,9 +88,8 @@ fn check_machine_text<'a, W: Write>(
     ensures refused { IfOk result (λ status. (status ≡ 1) ↔ IsRefusedMachine bytes.now) }
 {
     let finding = check_machine(alloc, path, bytes)?;
-    let text = finding.text.as_str();
-    write_text(text, out)?;
-    Ok(status_of(finding.fault.is_some(), text))
+    write_text(finding.text.as_str(), out)?;
+    Ok(status_of(finding.fault.is_some(), finding.text.as_str()))
 }
 
 /// Checks an event text that was read from a path, and writes what was found in it.
@@ -114,9 +104,8 @@ fn check_events_text<'a, W: Write>(
     ensures refused { IfOk result (λ status. (status ≡ 1) ↔ IsRefusedScript bytes.now) }
 {
     let finding = check_events(alloc, path, bytes)?;
-    let text = finding.text.as_str();
-    write_text(text, out)?;
-    Ok(status_of(finding.fault.is_some(), text))
+    write_text(finding.text.as_str(), out)?;
+    Ok(status_of(finding.fault.is_some(), finding.text.as_str()))
 }
 
 /// Checks the run of two texts, and writes what was found in it. A run refuses nothing, and notes alone are no warning.
@@ -150,7 +139,7 @@ fn check_events_at<'a, T: Texts, W: Write>(
     ensures known { IfOk result (λ status. status ≢ 2) }
     ensures judged { IfOk result (JudgesEvents (T.text_at texts.now) path.now) }
 {
-    let events = read_text(texts, alloc, path)?;
+    let events = text_at(texts, alloc, path)?;
     let of_text = check_events_text(alloc, path, &events, out)?;
     let of_run = check_run_of(alloc, machine_path, machine, &events, out)?;
     Ok(worse(of_text, of_run))
@@ -172,7 +161,7 @@ pub fn check_texts<'a, T: Texts, W: Write>(
     ensures known { IfOk result (λ status. status ≢ 2) }
     ensures judged { IfOk result (JudgesTexts (T.text_at texts.now) paths.entry) }
 {
-    let machine = read_text(texts, alloc, paths.machine)?;
+    let machine = text_at(texts, alloc, paths.machine)?;
     let of_machine = check_machine_text(alloc, paths.machine, &machine, out)?;
     match paths.events {
         None => Ok(of_machine),

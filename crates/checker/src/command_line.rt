@@ -1,9 +1,10 @@
 //! The command line: a path, and another one that may be absent.
-ghost use Rattle.std.specs.Prelude.{◌≡◌, codes, IfOk, false};
+ghost use Rattle.std.specs.Prelude.{◌≡◌, IfOk, true, false};
 ghost use Rattle.clap.specs.Words.{FailsBy, IsPlainArg, fault_of, rule_of};
 ghost use Rattle.clap.specs.Built.{TakesValue};
 ghost use Rattle.clap.specs.Walk.{texts};
-ghost use Rattle.checker.specs.CommandLine.{AreGivenBy, TakesPaths, one_path_or_two, optional_rule, required_rule};
+ghost use Rattle.execrun.specs.CommandLine.{path_rule};
+ghost use Rattle.checker.specs.CommandLine.{AreGivenBy, TakesPaths, one_path_or_two};
 
 use clap::{Arg, ArgAction, Command, Error};
 use std::alloc::{AllocError, Global};
@@ -17,36 +18,30 @@ pub struct Paths<'a> {
     pub events: Option<&'a str>,
 }
 
-/// The path of the machine file, which has to be given.
-fn machine_argument<'a>(alloc: Global) -> Arg<'a>
-    ensures id { result.id.now ≡ codes "MACHINE" }
-    ensures rule { rule_of result ≡ required_rule (codes "MACHINE") }
+/// An argument that takes a path, which has to be given if it `is_required`.
+fn path_argument<'a>(
+    alloc: Global,
+    name: &'static str,
+    help: &'static str,
+    is_required: bool,
+) -> Arg<'a>
+    ensures id { result.id.now ≡ name.now }
+    ensures rule { rule_of result ≡ path_rule name.now is_required }
     ensures plain { IsPlainArg result × (result.global ≡ false) }
-    ensures value { TakesValue result }
+    ensures value { is_required ≡ true → TakesValue result }
 {
-    Arg::new(alloc, "MACHINE")
-        .required(true)
+    Arg::new(alloc, name)
+        .required(is_required)
         .action(ArgAction::Set)
-        .help("The machine file, in TOML")
-}
-
-/// The path of the event text, which may be absent.
-fn events_argument<'a>(alloc: Global) -> Arg<'a>
-    ensures id { result.id.now ≡ codes "EVENTS" }
-    ensures rule { rule_of result ≡ optional_rule (codes "EVENTS") }
-    ensures plain { IsPlainArg result × (result.global ≡ false) }
-{
-    Arg::new(alloc, "EVENTS")
-        .action(ArgAction::Set)
-        .help("The event text, an event a line")
+        .help(help)
 }
 
 /// The command, whose words are given without its own name.
 fn command<'a>(alloc: Global) -> Result<Command<'a>, AllocError>
     ensures { IfOk result TakesPaths }
 {
-    let machine = machine_argument(alloc);
-    let events = events_argument(alloc);
+    let machine = path_argument(alloc, "MACHINE", "The machine file, in TOML", true);
+    let events = path_argument(alloc, "EVENTS", "The event text, an event a line", false);
     Command::new(alloc, "execcheck")
         .about("Says what is wrong with the texts of a run of execsim, and where")
         .after_help("execcheck --version, with nothing else, prints the version.")

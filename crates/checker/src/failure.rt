@@ -2,7 +2,6 @@
 ghost use Rattle.std.specs.Prelude.{◌≡◌};
 
 use execadvice::shown;
-use execsim::ReadFault;
 use std::alloc::{AllocError, Global};
 use std::io::Write;
 
@@ -26,20 +25,6 @@ pub enum Failure<'a> {
 impl From<AllocError> for Failure<'_> {
     fn from(_error: AllocError) -> Self {
         Failure::NoMemory
-    }
-}
-
-impl<'a> Failure<'a> {
-    /// What a fault of reading the file at this path is to the program.
-    pub fn at(path: &'a str, fault: ReadFault) -> Failure<'a>
-        ensures memory { fault ≡ ReadFault.OutOfMemory → result ≡ Failure.NoMemory }
-        ensures failed { fault ≡ ReadFault.Failed → result ≡ Failure.CannotRead path.entry }
-        ensures long { fault ≡ ReadFault.TooLong → result ≡ Failure.CannotRead path.entry }
-    {
-        match fault {
-            ReadFault::OutOfMemory => Failure::NoMemory,
-            ReadFault::Failed | ReadFault::TooLong => Failure::CannotRead(path),
-        }
     }
 }
 

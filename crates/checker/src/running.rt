@@ -2,8 +2,8 @@
 ghost use Rattle.std.specs.Prelude.{◌≡◌, ◌≢◌, ◌≤◌, ◌⊎◌};
 ghost use Rattle.clap.specs.Walk.{texts as words_of};
 ghost use Rattle.clap.specs.Words.{kind_of};
-ghost use Rattle.execrun.specs.Texts.{nothing_told};
-ghost use Rattle.checker.specs.CommandLine.{AreRefused, AreRight, AskForHelp};
+ghost use Rattle.execrun.specs.CommandLine.{AreRefused, AreRight, AskForHelp};
+ghost use Rattle.checker.specs.CommandLine.{one_path_or_two};
 ghost use Rattle.checker.specs.Judging.{JudgesGiven};
 
 use crate::checking::check_texts;
@@ -60,11 +60,11 @@ pub fn run_on_texts<T: Texts, W: Write, E: Write>(
     err: &mut E,
 ) -> u8
     ensures status { result ≤ 4 }
-    ensures right { AreRight (words_of words.now) → result ≢ 2 }
+    ensures right { AreRight one_path_or_two (words_of words.now) → result ≢ 2 }
     // A command line is also refused when out of memory, with 4.
-    ensures refused { AreRefused (words_of words.now) → (result ≡ 2) ⊎ (result ≡ 4) }
-    ensures judged { AreRight (words_of words.now) → result ≢ 4 → JudgesGiven (T.text_at texts.now) (words_of words.now) result }
-    ensures help { AskForHelp (words_of words.now) → (result ≡ 0) ⊎ (result ≡ 4) }
+    ensures refused { AreRefused one_path_or_two (words_of words.now) → (result ≡ 2) ⊎ (result ≡ 4) }
+    ensures judged { AreRight one_path_or_two (words_of words.now) → result ≢ 4 → JudgesGiven (T.text_at texts.now) (words_of words.now) result }
+    ensures help { AskForHelp one_path_or_two (words_of words.now) → (result ≡ 0) ⊎ (result ≡ 4) }
     ensures silent { result ≢ 2 → result ≢ 4 → err.new ≡ err.old }
 {
     match paths_given(alloc, words) {

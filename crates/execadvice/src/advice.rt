@@ -1,17 +1,27 @@
 //! Why a line says no command, in one sentence, with a proposal if one is near.
 
-use crate::assignments::{assignment_of_c, call_with_parentheses, missing_word};
+use crate::assignments::{assignment_of_c, call_with_parentheses, is_value, missing_word};
 use crate::foreign::{equivalent_of, number_of_constants, written_number};
-use crate::members::name_of;
-use crate::mistake::{Mistake, is_variable, mistake_in};
-use crate::near::{lower_case, nearest, proposal};
+use crate::made::Made;
+use crate::members::{has_named, name_of};
+use crate::near::{lower_case, nearest, proposal, question};
+use crate::said::cut;
 use crate::show::{Advice, Span, field_span, width_of};
 use crate::spacing::spacing_advice;
-use std::alloc::{AllocError, Global};
+use crate::variables::is_variable;
+use std::alloc::Global;
 use taskscript::{
-    Kind, Word, fields_of, is_identifier, is_name, number_of, quoted_in, word_of, words,
+    Kind, Word, fields_of, is_identifier, is_name, label_in, number_of, quoted_in, word_of, words,
 };
 use toml::Value;
+
+/// What a line has to be that is no label but ends with a colon.
+const LABEL: &str =
+    "expected a label: a letter a to z, then letters a to z, digits and _, 1 to 16 characters, and a colon";
+
+/// What has to be before `=`.
+const TARGET: &str =
+    "expected a variable: a letter a to z, then letters a to z, digits and _, 1 to 16 characters, with @ before it if it is shared";
 
 /// Whether a part is a word, with a target and `=` that no spaces separate.
 fn is_assignment(field: &str) -> bool {
@@ -21,24 +31,13 @@ fn is_assignment(field: &str) -> bool {
     }
 }
 
-fn label_reason(alloc: Global, field: &str) -> Result<String, AllocError> {
-    let name = field.trim_end_matches(':');
+/// Why a name is no label. A colon that is wanted is in `end`, and `wanted` is said if it is none with small letters either.
+fn label_reason(alloc: Global, name: &str, end: &str, wanted: &str) -> Made<String> {
     let lower = lower_case(alloc, name)?;
     if is_identifier(lower.as_str().as_bytes()) {
-        return format!(in alloc; "a label has no capital letter; did you mean {lower}:?");
+        return format!(in alloc; "a label has no capital letter; did you mean {lower}{end}?");
     }
-    format!(in alloc;
-        "expected a label: a letter a to z, then letters a to z, digits and _, 1 to 16 characters, and a colon"
-    )
-}
-
-/// The texts of all words.
-fn word_texts(alloc: Global) -> Result<Vec<&'static str>, AllocError> {
-    let mut texts = Vec::new(alloc);
-    for word in &words(alloc)? {
-        texts.push(word.text())?;
-    }
-    Ok(texts)
+    String::from_str(alloc, wanted)
 }
 
 /// What is wrong with a text that is no word, if the characters at its end, or the part after it, show that.
@@ -55,13 +54,11 @@ fn joint_reason(text: &str, fields: &[&str], at: usize) -> Option<&'static str> 
     }
 }
 
-/// Why a text is no word.
-fn word_reason(alloc: Global, fields: &[&str], at: usize) -> Result<String, AllocError> {
-    let Some(text) = fields.get(at).copied() else {
-        return format!(in alloc; "expected a word here");
-    };
+/// Why the part of that number is no word.
+fn word_reason(alloc: Global, fields: &[&str], at: usize) -> Made<String> {
+    let text = fields.get(at).copied().unwrap_or("");
     if at == 0 && fields.len() == 1 && text.ends_with(":") {
-        return label_reason(alloc, text);
+        return label_reason(alloc, text.trim_end_matches(':'), ":", LABEL);
     }
     if let Some(reason) = joint_reason(text, fields, at) {
         return String::from_str(alloc, reason);
@@ -78,9 +75,17 @@ fn word_reason(alloc: Global, fields: &[&str], at: usize) -> Result<String, Allo
     if let Some(equivalent) = equivalent_of(text) {
         return format!(in alloc; "unknown word; write {equivalent}");
     }
-    let texts = word_texts(alloc)?;
+    unknown_word_reason(alloc, text)
+}
+
+/// That a text is no word, with the nearest one.
+fn unknown_word_reason(alloc: Global, text: &str) -> Made<String> {
+    let mut texts = Vec::new(alloc);
+    for word in &words(alloc)? {
+        texts.push(word.text())?;
+    }
     let near = nearest(alloc, text, &texts)?;
-    let question = proposal(alloc, "", near, "")?;
+    let question = proposal(alloc, near, "")?;
     match near {
         Some(word) if text.eq_ignore_ascii_case(word) => {
             format!(in alloc; "unknown word; words are case-sensitive{question}")
@@ -89,14 +94,13 @@ fn word_reason(alloc: Global, fields: &[&str], at: usize) -> Result<String, Allo
     }
 }
 
-fn target_reason(alloc: Global, field: &str) -> Result<String, AllocError> {
+/// Why a field is no variable. `wanted` is said if it is none with small letters either.
+fn variable_reason(alloc: Global, field: &str, wanted: &str) -> Made<String> {
     let lower = lower_case(alloc, field)?;
     if is_variable(lower.as_str()) {
         return format!(in alloc; "a variable has no capital letter; did you mean {lower}?");
     }
-    format!(in alloc;
-        "expected a variable: a letter a to z, then letters a to z, digits and _, 1 to 16 characters, with @ before it if it is shared"
-    )
+    String::from_str(alloc, wanted)
 }
 
 /// A part without the zeros before it, or none if that is no number.
@@ -117,11 +121,12 @@ fn base_sixteen(field: &str) -> Option<&str> {
     }
 }
 
-fn base_sixteen_reason(alloc: Global, digits: &str) -> Result<String, AllocError> {
-    let mut number = format!(in alloc; "$")?;
-    for c in digits.chars() {
-        number.push(c.to_ascii_uppercase())?;
-    }
+fn base_sixteen_reason(alloc: Global, digits: &str) -> Made<String> {
+    let digits: String = digits
+        .chars()
+        .map(|c| c.to_ascii_uppercase())
+        .collect(alloc)?;
+    let number = format!(in alloc; "${digits}")?;
     if number_of(number.as_str().as_bytes()).is_some() {
         return format!(in alloc;
             "a number in base 16 is $ with digits 0 to 9 and A to F; did you mean {number}?"
@@ -131,7 +136,7 @@ fn base_sixteen_reason(alloc: Global, digits: &str) -> Result<String, AllocError
 }
 
 /// Why a part is no number and no variable.
-fn value_reason(alloc: Global, field: &str) -> Result<String, AllocError> {
+fn value_reason(alloc: Global, field: &str) -> Made<String> {
     if let Some(digits) = base_sixteen(field) {
         return base_sixteen_reason(alloc, digits);
     }
@@ -152,33 +157,31 @@ fn value_reason(alloc: Global, field: &str) -> Result<String, AllocError> {
     if !digits.is_empty() && digits.as_bytes().iter().all(|b| b.is_ascii_digit()) {
         return format!(in alloc; "a number is from -2147483648 to 4294967295");
     }
-    let lower = lower_case(alloc, field)?;
-    if is_variable(lower.as_str()) {
-        return format!(in alloc; "a variable has no capital letter; did you mean {lower}?");
-    }
-    if lower.len() > 16 && is_identifier(lower.as_str().get(..16).unwrap_or("").as_bytes()) {
-        return format!(in alloc;
-            "expected a number or a variable here; a variable has at most 16 characters"
-        );
-    }
-    format!(in alloc; "expected a number or a variable here")
+    let first = lower_case(alloc, field.get(..16).unwrap_or(""))?;
+    let wanted = if field.len() > 16 && is_identifier(first.as_str().as_bytes()) {
+        "expected a number or a variable here; a variable has at most 16 characters"
+    } else {
+        "expected a number or a variable here"
+    };
+    variable_reason(alloc, field, wanted)
 }
 
 /// Why a part is no label.
-fn label_argument_reason(alloc: Global, field: &str) -> Result<String, AllocError> {
+fn label_argument_reason(alloc: Global, field: &str) -> Made<String> {
     let name = field.trim_end_matches(':');
     if name.len() < field.len() && is_identifier(name.as_bytes()) {
         return format!(in alloc; "only the label's own line has the colon; did you mean {name}?");
     }
-    let lower = lower_case(alloc, name)?;
-    if is_identifier(lower.as_str().as_bytes()) {
-        return format!(in alloc; "a label has no capital letter; did you mean {lower}?");
-    }
-    format!(in alloc; "expected the name of a label of this body here")
+    label_reason(
+        alloc,
+        name,
+        "",
+        "expected the name of a label of this body here",
+    )
 }
 
 /// Why a part is no name between double quotes.
-fn quoted_reason(alloc: Global, field: &str, or_none: &str) -> Result<String, AllocError> {
+fn quoted_reason(alloc: Global, field: &str, or_none: &str) -> Made<String> {
     if is_name(field.as_bytes()) {
         return format!(in alloc;
             "expected a name between double quotes{or_none} here; did you mean \"{field}\"?"
@@ -202,24 +205,23 @@ fn quoted_reason(alloc: Global, field: &str, or_none: &str) -> Result<String, Al
 }
 
 /// Why a name is none of the file's software interrupts.
-fn softint_reason(alloc: Global, softints: &[Value], field: &str) -> Result<String, AllocError> {
+fn softint_reason(alloc: Global, softints: &[Value], field: &str) -> Made<String> {
     if quoted_in(field).is_none() {
         return quoted_reason(alloc, field, "");
     }
     if softints.is_empty() {
         return format!(in alloc; "the file has no software interrupt");
     }
-    let mut names = Vec::new(alloc);
-    for softint in softints {
-        names.push(name_of(softint))?;
-    }
-    let near = nearest(alloc, field.trim_matches('"'), &names)?;
-    let question = proposal(alloc, "\"", near, "\"")?;
+    let names: Vec<&str> = softints
+        .iter()
+        .map(|softint| name_of(softint))
+        .collect(alloc)?;
+    let question = question(alloc, field.trim_matches('"'), &names, "\"")?;
     format!(in alloc; "the file has no software interrupt of this name{question}")
 }
 
 /// `1 argument`, `2 arguments`.
-fn counted(alloc: Global, count: usize) -> Result<String, AllocError> {
+fn counted(alloc: Global, count: usize) -> Made<String> {
     match count {
         0 => format!(in alloc; "no argument"),
         1 => format!(in alloc; "1 argument"),
@@ -228,7 +230,7 @@ fn counted(alloc: Global, count: usize) -> Result<String, AllocError> {
 }
 
 /// Why a word has not as many arguments as it takes.
-fn count_reason(alloc: Global, word: Word, after: &[&str]) -> Result<String, AllocError> {
+fn count_reason(alloc: Global, word: Word, after: &[&str]) -> Made<String> {
     let text = word.text();
     let given = after.len();
     let wanted = counted(alloc, word.kinds().len())?;
@@ -247,111 +249,145 @@ fn count_reason(alloc: Global, word: Word, after: &[&str]) -> Result<String, All
     }
 }
 
-/// Why an argument is not right.
-fn argument_reason(
+/// A line of a body, and the software interrupts of the file.
+#[derive(Clone, Copy)]
+struct Line<'a> {
     alloc: Global,
-    softints: &[Value],
-    word: Word,
-    after: &[&str],
-    number: usize,
-) -> Result<String, AllocError> {
-    let kinds = word.kinds();
-    let (Some(kind), Some(field)) = (kinds.get(number).copied(), after.get(number).copied()) else {
-        return count_reason(alloc, word, after);
-    };
-    match kind {
-        Kind::Value => value_reason(alloc, field),
-        Kind::Label => label_argument_reason(alloc, field),
-        Kind::Name => quoted_reason(alloc, field, ""),
-        Kind::NameOrNone => quoted_reason(alloc, field, ", or 0,"),
-        Kind::Softint => softint_reason(alloc, softints, field),
-    }
+    softints: &'a [Value],
+    text: &'a str,
 }
 
-/// The number of the part that is the word: the first, or the third if a target and `=` are before it.
-fn word_place(fields: &[&str]) -> usize {
-    match fields {
-        [_, equals, ..] if *equals == "=" => 2,
-        _ => 0,
-    }
-}
-
-/// The part in which a mistake is, by its number, as far as a number goes.
-fn part_of(fields: &[&str], mistake: Mistake) -> usize {
-    let at = word_place(fields);
-    match mistake {
-        Mistake::NoWord | Mistake::UnknownWord => at,
-        Mistake::NoAnswer | Mistake::Target => 0,
-        Mistake::Argument(number) => at.saturating_add(1).saturating_add(number),
-    }
-}
-
-/// Why a mistake is one.
-fn mistake_reason(
-    alloc: Global,
-    softints: &[Value],
-    fields: &[&str],
-    mistake: Mistake,
-) -> Result<String, AllocError> {
-    let at = word_place(fields);
-    let text = fields.get(at).copied().unwrap_or("");
-    match mistake {
-        Mistake::NoWord => format!(in alloc; "expected a word after the ="),
-        Mistake::UnknownWord => word_reason(alloc, fields, at),
-        Mistake::NoAnswer => {
-            format!(in alloc; "{text} returns nothing, so it cannot be assigned")
+impl Line<'_> {
+    /// Whether a field is an argument of that kind.
+    fn is_right(&self, kind: Kind, field: &str) -> bool {
+        match kind {
+            Kind::Value => is_value(field),
+            Kind::Label => is_identifier(field.as_bytes()),
+            Kind::Name => quoted_in(field).is_some(),
+            Kind::NameOrNone => field == "0" || quoted_in(field).is_some(),
+            Kind::Softint => match quoted_in(field) {
+                None => false,
+                Some(name) => has_named(self.softints, name.as_str()),
+            },
         }
-        Mistake::Target => target_reason(alloc, fields.get(0).copied().unwrap_or("")),
-        Mistake::Argument(number) => {
-            let after = fields.get(at.saturating_add(1)..).unwrap_or(&[]);
-            match word_of(text) {
-                None => word_reason(alloc, fields, at),
-                Some(word) => argument_reason(alloc, softints, word, after, number),
+    }
+
+    /// Why a field is no argument of that kind.
+    fn kind_reason(&self, kind: Kind, field: &str) -> Made<String> {
+        let alloc = self.alloc;
+        match kind {
+            Kind::Value => value_reason(alloc, field),
+            Kind::Label => label_argument_reason(alloc, field),
+            Kind::Name => quoted_reason(alloc, field, ""),
+            Kind::NameOrNone => quoted_reason(alloc, field, ", or 0,"),
+            Kind::Softint => softint_reason(alloc, self.softints, field),
+        }
+    }
+
+    /// Why the part of a number is not right.
+    fn advice(&self, part: usize, reason: String) -> Option<Advice> {
+        Some(Advice::of_field(self.text, part, reason))
+    }
+
+    /// The first argument of a word that is not right: it is of another kind, or there is none, or it is one too many. `first` is the number of
+    /// the part that is the first argument.
+    fn argument_mistake(&self, word: Word, after: &[&str], first: usize) -> Made<Option<Advice>> {
+        for (i, kind) in word.kinds().iter().enumerate() {
+            let part = first.saturating_add(i);
+            match after.get(i).copied() {
+                None => return Ok(self.advice(part, count_reason(self.alloc, word, after)?)),
+                Some(field) => {
+                    if !self.is_right(*kind, field) {
+                        return Ok(self.advice(part, self.kind_reason(*kind, field)?));
+                    }
+                }
+            }
+        }
+        let count = word.kinds().len();
+        if after.len() <= count {
+            return Ok(None);
+        }
+        let part = first.saturating_add(count);
+        Ok(self.advice(part, count_reason(self.alloc, word, after)?))
+    }
+
+    /// Why a word has not the target that is before it, if it has not.
+    fn target_mistake(&self, word: Word, target: &str) -> Made<Option<String>> {
+        if !word.answers() {
+            let text = word.text();
+            let reason = format!(in self.alloc;
+                "{text} returns nothing, so it cannot be assigned"
+            )?;
+            return Ok(Some(reason));
+        }
+        if !is_variable(target) {
+            return Ok(Some(variable_reason(self.alloc, target, TARGET)?));
+        }
+        Ok(None)
+    }
+
+    /// The first part that is not right, and why: a word that is wanted or is not known, a target, or an argument.
+    fn mistake(&self, parts: &[&str]) -> Made<Option<Advice>> {
+        let (target, after) = cut(parts);
+        let at = if target.is_some() { 2 } else { 0 };
+        let [text, arguments @ ..] = after else {
+            let reason = format!(in self.alloc; "expected a word after the =")?;
+            return Ok(self.advice(at, reason));
+        };
+        let Some(word) = word_of(text) else {
+            return Ok(self.advice(at, word_reason(self.alloc, parts, at)?));
+        };
+        if let Some(target) = target {
+            if let Some(reason) = self.target_mistake(word, target)? {
+                return Ok(self.advice(0, reason));
+            }
+        }
+        self.argument_mistake(word, arguments, at.saturating_add(1))
+    }
+
+    /// What is meant by the line if it is written in the manner of C, with what is wrong with it.
+    fn meant(&self) -> Made<Option<String>> {
+        if let Some(meant) = call_with_parentheses(self.alloc, self.text)? {
+            return Ok(Some(format!(in self.alloc;
+                "arguments follow the word, with one space before each; did you mean {meant}?"
+            )?));
+        }
+        match assignment_of_c(self.alloc, self.text)? {
+            None => Ok(None),
+            Some(meant) => {
+                let reason = format!(in self.alloc; "a word is missing; did you mean {meant}?")?;
+                Ok(Some(reason))
             }
         }
     }
-}
 
-/// The part in which a mistake is, and why it is one. `parts` are those of the line.
-fn mistake_advice(
-    alloc: Global,
-    softints: &[Value],
-    line: &str,
-    parts: &[&str],
-    mistake: Mistake,
-) -> Result<Advice, AllocError> {
-    let reason = mistake_reason(alloc, softints, parts, mistake)?;
-    Ok(Advice {
-        span: field_span(line, part_of(parts, mistake)),
-        reason,
-    })
+    /// What is wrong before a mistake in its words, or else that.
+    fn first_mistake(&self, parts: &[&str], mistake: Advice) -> Made<Advice> {
+        if let Some(reason) = self.meant()? {
+            let (start, width) = (0, width_of(self.text));
+            let span = Span { start, width };
+            return Ok(Advice { span, reason });
+        }
+        match spacing_advice(self.alloc, self.text, parts)? {
+            Some(advice) => Ok(advice),
+            None => Ok(mistake),
+        }
+    }
 }
 
 /// The part of a line for which it says no command, and why. `softints` are the software interrupts of the file.
 ///
 /// A tab, a part that no line has or a space that separates nothing goes before the mistake in its words: a word that is wanted or is not
 /// known, a target, or an argument. In a line with no mistake it is the first part.
-pub fn line_advice(alloc: Global, softints: &[Value], line: &str) -> Result<Advice, AllocError> {
-    let fields = fields_of(alloc, line)?;
-    let Some(mistake) = mistake_in(softints, &fields) else {
-        return Advice::new(alloc, field_span(line, 0), "this line says no command");
+pub fn line_advice(alloc: Global, softints: &[Value], text: &str) -> Made<Advice> {
+    let line = Line {
+        alloc,
+        softints,
+        text,
     };
-    let span = Span {
-        start: 0,
-        width: width_of(line),
-    };
-    if let Some(meant) = call_with_parentheses(alloc, line)? {
-        let reason = format!(in alloc;
-            "arguments follow the word, with one space before each; did you mean {meant}?"
-        )?;
-        return Ok(Advice { span, reason });
-    }
-    if let Some(meant) = assignment_of_c(alloc, line)? {
-        let reason = format!(in alloc; "a word is missing; did you mean {meant}?")?;
-        return Ok(Advice { span, reason });
-    }
-    match spacing_advice(alloc, line)? {
-        Some(advice) => Ok(advice),
-        None => mistake_advice(alloc, softints, line, &fields, mistake),
+    let parts = fields_of(alloc, text)?;
+    match line.mistake(&parts)? {
+        Some(mistake) if label_in(text).is_none() => line.first_mistake(&parts, mistake),
+        _ => Advice::new(alloc, field_span(text, 0), "this line says no command"),
     }
 }

@@ -1,12 +1,14 @@
 //! Lines in the manner of C: assignments without a word, and calls with parentheses.
 
 use crate::escaped::is_hidden;
-use crate::mistake::is_variable;
-use std::alloc::{AllocError, Global};
-use taskscript::{number_of, word_of};
+use crate::made::Made;
+use crate::said::said_by;
+use crate::variables::is_variable;
+use std::alloc::Global;
+use taskscript::number_of;
 
 /// Whether a part is a number or a variable.
-fn is_value(part: &str) -> bool {
+pub fn is_value(part: &str) -> bool {
     is_variable(part) || number_of(part.as_bytes()).is_some()
 }
 
@@ -23,14 +25,11 @@ fn word_for(operator: &str) -> Option<&'static str> {
 
 /// The word for an operator of C that ends with `=`.
 fn word_for_change(operator: &str) -> Option<&'static str> {
-    match operator.strip_suffix("=") {
-        None => None,
-        Some(operator) => word_for(operator),
-    }
+    word_for(operator.strip_suffix("=")?)
 }
 
 /// What is meant by the parts of a line that sets a variable without a word, as `x = 5`, `x = y + 1` and `x += 1`.
-pub fn missing_word(alloc: Global, parts: &[&str]) -> Result<Option<String>, AllocError> {
+pub fn missing_word(alloc: Global, parts: &[&str]) -> Made<Option<String>> {
     match parts {
         [target, equals, value] if *equals == "=" && is_value(*value) => {
             Ok(Some(format!(in alloc; "{target} = Set {value}")?))
@@ -52,7 +51,7 @@ pub fn missing_word(alloc: Global, parts: &[&str]) -> Result<Option<String>, All
 }
 
 /// The target and the value of a line as `x=5`, `x:=5`, `x==5` or `x := 5`, with a word to which they are given.
-fn joined(alloc: Global, line: &str) -> Result<Option<String>, AllocError> {
+fn joined(alloc: Global, line: &str) -> Made<Option<String>> {
     let Some((target, value)) = line.split_once("=") else {
         return Ok(None);
     };
@@ -66,7 +65,7 @@ fn joined(alloc: Global, line: &str) -> Result<Option<String>, AllocError> {
 }
 
 /// The variable of a line as `x++` or `x--`, with the word that does it.
-fn counted(alloc: Global, line: &str) -> Result<Option<String>, AllocError> {
+fn counted(alloc: Global, line: &str) -> Made<Option<String>> {
     for (end, word) in [("++", "Add"), ("--", "Sub")] {
         if let Some(target) = line.strip_suffix(end) {
             if is_variable(target) {
@@ -78,7 +77,7 @@ fn counted(alloc: Global, line: &str) -> Result<Option<String>, AllocError> {
 }
 
 /// What is meant by a line that sets a variable in the manner of C, without a word.
-pub fn assignment_of_c(alloc: Global, line: &str) -> Result<Option<String>, AllocError> {
+pub fn assignment_of_c(alloc: Global, line: &str) -> Made<Option<String>> {
     match joined(alloc, line)? {
         None => counted(alloc, line),
         Some(meant) => Ok(Some(meant)),
@@ -86,7 +85,7 @@ pub fn assignment_of_c(alloc: Global, line: &str) -> Result<Option<String>, Allo
 }
 
 /// A line with a space for each parenthesis, comma and semicolon, and with one space between its parts.
-fn without_parentheses(alloc: Global, line: &str) -> Result<String, AllocError> {
+fn without_parentheses(alloc: Global, line: &str) -> Made<String> {
     let mut out = String::new(alloc);
     let mut is_apart = false;
     for c in line.chars() {
@@ -104,17 +103,12 @@ fn without_parentheses(alloc: Global, line: &str) -> Result<String, AllocError> 
 }
 
 /// What is meant by a line with a call as in C, as `Wait($1000);`. None if it has no parentheses, or no word where one has to be.
-pub fn call_with_parentheses(alloc: Global, line: &str) -> Result<Option<String>, AllocError> {
+pub fn call_with_parentheses(alloc: Global, line: &str) -> Made<Option<String>> {
     if !line.contains('(') || line.len() > 80 || line.chars().any(|c| is_hidden(c)) {
         return Ok(None);
     }
     let meant = without_parentheses(alloc, line)?;
-    let mut parts = meant.as_str().split(' ');
-    let first = parts.next().unwrap_or("");
-    let second = parts.next().unwrap_or("");
-    let third = parts.next().unwrap_or("");
-    let word = if second == "=" { third } else { first };
-    if word_of(word).is_none() {
+    if said_by(alloc, meant.as_str())?.is_none() {
         return Ok(None);
     }
     Ok(Some(meant))

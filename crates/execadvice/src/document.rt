@@ -1,31 +1,13 @@
 //! What is said of bytes that are no TOML document.
 
 use crate::escaped::{hidden_reason, is_hidden};
-use crate::events::{is_event, line_numbered, line_text, lossy_line};
+use crate::events::is_event;
+use crate::made::Made;
 use crate::show::{Advice, Span, width_of};
+use crate::text::{Text, text_or_nothing};
 use crate::written::FilePlace;
-use std::alloc::{AllocError, Global};
+use std::alloc::Global;
 use std::str::from_utf8;
-use taskscript::FileFault;
-
-/// How many characters begin in some bytes.
-fn characters_in(bytes: &[u8]) -> usize {
-    bytes.iter().filter(|byte| **byte & 0xC0 != 0x80).count()
-}
-
-/// The place after some bytes.
-fn place_after(before: &[u8]) -> FilePlace {
-    let mut line = 1usize;
-    let mut last = before;
-    for one in before.split(|byte| *byte == b'\n').skip(1) {
-        line = line.saturating_add(1);
-        last = one;
-    }
-    FilePlace {
-        line,
-        column: characters_in(last).saturating_add(1),
-    }
-}
 
 /// What is likely wrong at a character that TOML does not take; `before` is the character before it.
 fn likely_reason(before: char, c: char) -> Option<&'static str> {
@@ -45,12 +27,7 @@ fn likely_reason(before: char, c: char) -> Option<&'static str> {
 }
 
 /// What the reader of TOML says at a character, and what is likely wrong. `before` is the character before it.
-fn character_reason(
-    alloc: Global,
-    message: &str,
-    before: char,
-    c: char,
-) -> Result<String, AllocError> {
+fn character_reason(alloc: Global, message: &str, before: char, c: char) -> Made<String> {
     match likely_reason(before, c) {
         Some(reason) => format!(in alloc; "{message}; {reason}"),
         None if is_hidden(c) => {
@@ -61,27 +38,19 @@ fn character_reason(
     }
 }
 
-/// Why bytes are no document, at a place of a line that is text.
-fn reason_in(
-    alloc: Global,
-    line: &str,
-    column: usize,
-    error: &toml::de::Error,
-) -> Result<String, AllocError> {
+/// Why bytes are no document, at a character of a line that is text, by its number from 0. `message` is what the reader of TOML says.
+fn reason_in(alloc: Global, line: &str, start: usize, message: &str) -> Made<String> {
     if is_event(line) {
         return String::from_str(
             alloc,
             "this is a line of an event text; the machine file is the first path, and the event text the second",
         );
     }
-    let mut characters = line.chars().skip(column.saturating_sub(2));
-    let before = if column < 2 {
-        '\n'
-    } else {
-        characters.next().unwrap_or('\n')
+    let before = match start {
+        0 => '\n',
+        _ => line.chars().nth(start.saturating_sub(1)).unwrap_or('\n'),
     };
-    let c = characters.next().unwrap_or('\n');
-    let message = error.message();
+    let c = line.chars().nth(start).unwrap_or('\n');
     if c == '\n' && message != "invalid string" {
         return String::from_str(alloc, message);
     }
@@ -98,51 +67,25 @@ fn reason_of_bytes(bytes: &[u8]) -> &'static str {
     }
 }
 
-/// How many characters are marked: those of the error that are in the line, but one at least.
-fn marked(line: &str, column: usize, error: &toml::de::Error, start: usize) -> usize {
-    let length = match error.span() {
-        None => 1,
-        Some(span) => span.end.saturating_sub(start),
-    };
-    let left = width_of(line).saturating_sub(column.saturating_sub(1));
-    length.min(left).max(1)
-}
-
 /// What there is to say of what is no document: what the reader of TOML says, at its place.
-pub fn no_document_text(
-    alloc: Global,
-    path: &str,
-    bytes: &[u8],
-    fault: FileFault,
-    error: &toml::de::Error,
-) -> Result<String, AllocError> {
-    let offset = match error.span() {
-        None => 0,
-        Some(span) => span.start,
+pub fn no_document_text(text: &Text<'_>, name: &str, error: &toml::de::Error) -> Made<String> {
+    let (offset, end) = match error.span() {
+        None => (0, 1),
+        Some(span) => (span.start, span.end),
     };
-    let at = place_after(bytes.get(..offset).unwrap_or(&[]));
-    let bytes_of_line = line_numbered(bytes, at.line);
+    let before = text_or_nothing(text.bytes.get(..offset).unwrap_or(&[]));
+    let at = FilePlace { line: 1, column: 1 }.after(before);
     let start = at.column.saturating_sub(1);
-    match from_utf8(bytes_of_line) {
+    match from_utf8(text.line(at.line)) {
         Ok(line) => {
             let line = line.trim_end_matches('\r');
-            let width = marked(line, at.column, error, offset);
-            let reason = reason_in(alloc, line, at.column, error)?;
+            // Marks are under what of the error is in the line, but under one character at least.
+            let left = width_of(line).saturating_sub(start);
+            let width = end.saturating_sub(offset).min(left).max(1);
+            let reason = reason_in(text.alloc, line, start, error.message())?;
             let span = Span { start, width };
-            line_text(
-                alloc,
-                path,
-                line,
-                at.line,
-                fault.name(),
-                &Advice { span, reason },
-            )
+            text.line_text(line, at.line, name, &Advice { span, reason })
         }
-        Err(_) => {
-            let line = lossy_line(alloc, bytes_of_line)?;
-            let span = Span { start, width: 1 };
-            let advice = Advice::new(alloc, span, reason_of_bytes(bytes))?;
-            line_text(alloc, path, line.as_str(), at.line, fault.name(), &advice)
-        }
+        Err(_) => text.bytes_text(at.line, name, start, reason_of_bytes(text.bytes)),
     }
 }

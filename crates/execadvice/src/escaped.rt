@@ -1,5 +1,6 @@
 //! How text of a file, and a path, is shown: each character that a terminal obeys or does not show is written as an escape.
 
+use crate::made::Made;
 use std::alloc::{AllocError, Global};
 
 /// The characters that are shown as an escape, beside the control characters of Unicode: first and last of each row.
@@ -38,7 +39,7 @@ pub fn is_hidden(c: char) -> bool {
 }
 
 /// The escape of a character.
-fn escape_of(alloc: Global, c: char) -> Result<String, AllocError> {
+fn escape_of(alloc: Global, c: char) -> Made<String> {
     match c {
         '\t' => format!(in alloc; "\\t"),
         '\n' => format!(in alloc; "\\n"),
@@ -51,7 +52,7 @@ fn escape_of(alloc: Global, c: char) -> Result<String, AllocError> {
 }
 
 /// Adds a character as it is shown, and answers how many columns that takes.
-pub fn push_character(alloc: Global, out: &mut String, c: char) -> Result<usize, AllocError> {
+pub fn push_character(alloc: Global, out: &mut String, c: char) -> Made<usize> {
     if !is_hidden(c) {
         out.push(c)?;
         return Ok(1);
@@ -61,6 +62,19 @@ pub fn push_character(alloc: Global, out: &mut String, c: char) -> Result<usize,
     Ok(escape.len())
 }
 
+/// The first characters of a text as they are shown, and two dots for those after them.
+fn shown_first(alloc: Global, text: &str, most: usize) -> Made<String> {
+    let mut out = String::new(alloc);
+    for (i, c) in text.chars().enumerate() {
+        if i == most {
+            out.push_str("..")?;
+            break;
+        }
+        push_character(alloc, &mut out, c)?;
+    }
+    Ok(out)
+}
+
 /// A text as it is shown: a tab as `\t`, a line feed as `\n`, and other characters that a terminal obeys or does not show by their number, as
 /// `\u{202e}`.
 ///
@@ -68,24 +82,12 @@ pub fn push_character(alloc: Global, out: &mut String, c: char) -> Result<usize,
 ///
 /// If memory is refused.
 pub fn shown(alloc: Global, text: &str) -> Result<String, AllocError> {
-    let mut out = String::new(alloc);
-    for c in text.chars() {
-        push_character(alloc, &mut out, c)?;
-    }
-    Ok(out)
+    shown_first(alloc, text, usize::MAX)
 }
 
 /// A name of a file as it is shown, without what is after its first 40 characters.
-pub fn shown_name(alloc: Global, name: &str) -> Result<String, AllocError> {
-    let mut out = String::new(alloc);
-    for (i, c) in name.chars().enumerate() {
-        if i == 40 {
-            out.push_str("..")?;
-            return Ok(out);
-        }
-        push_character(alloc, &mut out, c)?;
-    }
-    Ok(out)
+pub fn shown_name(alloc: Global, name: &str) -> Made<String> {
+    shown_first(alloc, name, 40)
 }
 
 /// What a hidden character is called.
@@ -104,13 +106,10 @@ fn name_of_hidden(c: char) -> &'static str {
 }
 
 /// What is to be done about a hidden character.
-pub fn hidden_reason(alloc: Global, c: char) -> Result<String, AllocError> {
+pub fn hidden_reason(alloc: Global, c: char) -> Made<String> {
     let name = name_of_hidden(c);
-    let is_space = c.is_whitespace() && c != '\n' && c != '\r';
-    let remedy = if is_space {
-        "put one space in its place"
-    } else {
-        "remove it"
-    };
-    format!(in alloc; "{name} is here: {remedy}")
+    if c.is_whitespace() && c != '\n' && c != '\r' {
+        return format!(in alloc; "{name} is here: put one space in its place");
+    }
+    format!(in alloc; "{name} is here: remove it")
 }

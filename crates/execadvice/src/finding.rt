@@ -4,22 +4,19 @@ ghost use Rattle.taskscript.specs.File.{file_of, placed_file_of};
 ghost use Rattle.execadvice.specs.Findings.{fault_of, place_of};
 
 use crate::advice::line_advice;
-use crate::code::{body_at, line_at};
+use crate::bodies::{body_at, line_at};
 use crate::document::no_document_text;
-use crate::escaped::shown;
-use crate::events::text_or_nothing;
+use crate::file::{File, first_line, line_text};
 use crate::labels::bad_label;
-use crate::limits::past_limit_in;
-use crate::places::{line_words, tree_words};
-use crate::reasons::{key_at, tree_reason};
+use crate::made::Made;
 use crate::show::{Advice, Span, push_marked, push_reason, width_of};
 use crate::stands::not_in_interrupt;
-use crate::tree_parts::part_of;
-use crate::warnings::{Warning, warnings_of};
-use crate::written::{FilePlace, Part, Written};
+use crate::text::{Text, text_or_nothing};
+use crate::variables::past_limit_in;
+use crate::warnings::warnings_of;
+use crate::written::{Part, Written};
 use std::alloc::{AllocError, Global};
 use taskscript::{FileFault, LinePlace, Place, Refused, TreePlace, items_at, read_placed};
-use toml::Table;
 
 /// How many parts of dotted keys a refused file has at most that is read again. Each part is a table of its own.
 const MOST_PARTS: usize = 200_000;
@@ -35,136 +32,82 @@ pub struct Finding {
     pub text: String,
 }
 
-/// The path of a file, a place in it if that is known, the place in words, and a name.
-pub fn first_line(
-    alloc: Global,
-    path: &str,
-    place: Option<FilePlace>,
-    words: &str,
-    name: &str,
-) -> Result<String, AllocError> {
-    let path = shown(alloc, path)?;
-    match place {
-        None => format!(in alloc; "{path}: {words}{name}\n"),
-        Some(place) => {
-            let (line, column) = (place.line, place.column);
-            format!(in alloc; "{path}:{line}:{column}: {words}{name}\n")
+impl File<'_, '_> {
+    /// Adds the line of the file in which a part is, without the white space before it, and marks under the part, as far as it is in that line.
+    fn push_part(&self, out: &mut String, part: Part<'_>, reason: String) -> Made<()> {
+        let whole = self.written.file_line(part.place.line);
+        let before = width_of(whole).saturating_sub(width_of(whole.trim_start()));
+        let start = part.place.column.saturating_sub(1).saturating_sub(before);
+        let width = width_of(part.text.lines().next().unwrap_or(""));
+        let span = Span { start, width };
+        push_marked(self.alloc, out, whole.trim(), &Advice { span, reason })
+    }
+
+    /// What there is to say of a fault of the tree.
+    fn tree_text(&self, place: TreePlace, fault: FileFault) -> Made<String> {
+        let wrong = self.wrong_at(place, fault)?;
+        let at = match wrong.part {
+            None => None,
+            Some(part) => Some(part.place),
+        };
+        let mut told = first_line(
+            self.alloc,
+            self.path,
+            at,
+            wrong.words.as_str(),
+            fault.name(),
+        )?;
+        match wrong.part {
+            None => push_reason(&mut told, wrong.reason.as_str())?,
+            Some(part) => self.push_part(&mut told, part, wrong.reason)?,
+        }
+        Ok(told)
+    }
+
+    /// What is wrong with the line at a place.
+    fn advice_at(&self, place: LinePlace, fault: FileFault) -> Made<Advice> {
+        let (alloc, body) = (self.alloc, body_at(&self.table, place));
+        let found = match fault {
+            FileFault::BadLabel => bad_label(alloc, body)?,
+            FileFault::NotInInterrupt => not_in_interrupt(alloc, body)?,
+            FileFault::TooMany => past_limit_in(alloc, &self.table)?,
+            _ => None,
+        };
+        match found {
+            Some(advice) => Ok(advice),
+            None => {
+                let softints = items_at(&self.table, "softint");
+                line_advice(alloc, softints, line_at(&self.table, place))
+            }
         }
     }
-}
 
-/// Adds the line of the file in which a part is, without the white space before it, and marks under the part, as far as it is in that line.
-fn push_part(
-    alloc: Global,
-    out: &mut String,
-    written: &Written<'_>,
-    part: Part<'_>,
-    reason: String,
-) -> Result<(), AllocError> {
-    let whole = written.file_line(part.place.line);
-    let line = whole.trim();
-    let before = width_of(whole).saturating_sub(width_of(whole.trim_start()));
-    let start = part.place.column.saturating_sub(1).saturating_sub(before);
-    let width = width_of(part.text.lines().next().unwrap_or(""));
-    let advice = Advice {
-        span: Span { start, width },
-        reason,
-    };
-    push_marked(alloc, out, line, &advice)
-}
-
-/// What there is to say of a fault of the tree.
-fn tree_fault(
-    alloc: Global,
-    path: &str,
-    written: &Written<'_>,
-    table: &Table,
-    place: TreePlace,
-    fault: FileFault,
-) -> Result<String, AllocError> {
-    let key = key_at(place, table);
-    let words = tree_words(alloc, table, place, key)?;
-    let reason = tree_reason(alloc, place, fault, table)?;
-    let part = part_of(alloc, written, table, place, key, fault)?;
-    let at = match part {
-        None => None,
-        Some(part) => Some(part.place),
-    };
-    let mut told = first_line(alloc, path, at, words.as_str(), fault.name())?;
-    match part {
-        None => push_reason(&mut told, reason.as_str())?,
-        Some(part) => push_part(alloc, &mut told, written, part, reason)?,
-    }
-    Ok(told)
-}
-
-/// What is wrong with the line at a place.
-fn advice_at(
-    alloc: Global,
-    table: &Table,
-    fault: FileFault,
-    place: LinePlace,
-) -> Result<Advice, AllocError> {
-    let found = match fault {
-        FileFault::BadLabel => bad_label(alloc, body_at(table, place))?,
-        FileFault::NotInInterrupt => not_in_interrupt(alloc, body_at(table, place))?,
-        FileFault::TooMany => past_limit_in(alloc, table)?,
-        _ => None,
-    };
-    match found {
-        Some(advice) => Ok(advice),
-        None => line_advice(alloc, items_at(table, "softint"), line_at(table, place)),
-    }
-}
-
-/// What there is to say of a line of a body: its place with a name, and the line with marks under a part of it and a reason.
-///
-/// # Errors
-///
-/// If memory is refused.
-pub fn line_text(
-    alloc: Global,
-    path: &str,
-    written: &Written<'_>,
-    table: &Table,
-    place: LinePlace,
-    name: &str,
-    advice: &Advice,
-) -> Result<String, AllocError> {
-    let words = line_words(alloc, table, place)?;
-    let at = written.place_of_code(place, advice.span.start);
-    let mut text = first_line(alloc, path, at, words.as_str(), name)?;
-    push_marked(alloc, &mut text, line_at(table, place), advice)?;
-    Ok(text)
-}
-
-/// What there is to say of a fault of a file that has a tree.
-fn fault_text(
-    alloc: Global,
-    path: &str,
-    written: &Written<'_>,
-    table: &Table,
-    refused: Refused,
-) -> Result<String, AllocError> {
-    let fault = refused.fault;
-    match refused.place {
-        Place::File => first_line(alloc, path, None, "", fault.name()),
-        Place::Tree(place) => tree_fault(alloc, path, written, table, place, fault),
-        Place::Line(place) => {
-            let advice = advice_at(alloc, table, fault, place)?;
-            line_text(alloc, path, written, table, place, fault.name(), &advice)
+    /// What there is to say of a fault of the file.
+    fn fault_text(&self, refused: Refused) -> Made<String> {
+        let fault = refused.fault;
+        match refused.place {
+            Place::File => first_line(self.alloc, self.path, None, "", fault.name()),
+            Place::Tree(place) => self.tree_text(place, fault),
+            Place::Line(place) => {
+                let advice = self.advice_at(place, fault)?;
+                let (alloc, path, written) = (self.alloc, self.path, &self.written);
+                line_text(
+                    alloc,
+                    path,
+                    written,
+                    &self.table,
+                    place,
+                    fault.name(),
+                    &advice,
+                )
+            }
         }
     }
 }
 
 /// What there is to say of a refused file that takes long to read again, since it has very many dotted keys: where the first of them is, if it
 /// is one of the faulty table.
-fn brief_text(
-    alloc: Global,
-    path: &str,
-    written: &Written<'_>,
-    refused: Refused,
-) -> Result<String, AllocError> {
+fn brief_text(alloc: Global, path: &str, written: &Written<'_>, refused: Refused) -> Made<String> {
     let mut at = None;
     if let Place::Tree(TreePlace::UnknownKey(of)) = refused.place {
         let found = written
@@ -181,12 +124,7 @@ fn brief_text(
 }
 
 /// What there is to say of a refused file.
-fn refusal_text(
-    alloc: Global,
-    path: &str,
-    bytes: &[u8],
-    refused: Refused,
-) -> Result<String, AllocError> {
+fn refusal_text(alloc: Global, path: &str, bytes: &[u8], refused: Refused) -> Made<String> {
     let text = text_or_nothing(bytes);
     let written = Written::new(alloc, text)?;
     if written.parts > MOST_PARTS {
@@ -197,49 +135,37 @@ fn refusal_text(
             if error.is_memory() {
                 return Err(AllocError);
             }
-            no_document_text(alloc, path, bytes, refused.fault, &error)
+            no_document_text(&Text { alloc, path, bytes }, refused.fault.name(), &error)
         }
-        Ok(table) => fault_text(alloc, path, &written, &table, refused),
+        Ok(table) => {
+            let file = File {
+                alloc,
+                path,
+                written,
+                table,
+            };
+            file.fault_text(refused)
+        }
     }
-}
-
-/// What there is to say of some warnings, one after the other.
-fn warnings_text(
-    alloc: Global,
-    path: &str,
-    text: &str,
-    table: &Table,
-    warnings: &[Warning],
-) -> Result<String, AllocError> {
-    let mut told = String::new(alloc);
-    if warnings.is_empty() {
-        return Ok(told);
-    }
-    let written = Written::new(alloc, text)?;
-    for warning in warnings {
-        let one = line_text(
-            alloc,
-            path,
-            &written,
-            table,
-            warning.place,
-            "warning",
-            &warning.advice,
-        )?;
-        told.push_str(one.as_str())?;
-    }
-    Ok(told)
 }
 
 /// What there is to say of a file that is accepted: its warnings.
-fn accepted_text(alloc: Global, path: &str, bytes: &[u8]) -> Result<String, AllocError> {
-    match toml::table_from_slice(alloc, bytes) {
-        Err(_) => Err(AllocError),
-        Ok(table) => {
-            let warnings = warnings_of(alloc, &table)?;
-            warnings_text(alloc, path, text_or_nothing(bytes), &table, &warnings)
-        }
+fn accepted_text(alloc: Global, path: &str, bytes: &[u8]) -> Made<String> {
+    let Ok(table) = toml::table_from_slice(alloc, bytes) else {
+        return Err(AllocError);
+    };
+    let mut told = String::new(alloc);
+    let warnings = warnings_of(alloc, &table)?;
+    if warnings.is_empty() {
+        return Ok(told);
     }
+    let written = Written::new(alloc, text_or_nothing(bytes))?;
+    for warning in &warnings {
+        let (place, advice) = (warning.place, &warning.advice);
+        let one = line_text(alloc, path, &written, &table, place, "warning", advice)?;
+        told.push_str(one.as_str())?;
+    }
+    Ok(told)
 }
 
 /// What the bytes of a machine file are refused for, and where, or else what is worth a warning. `path` is before each place.

@@ -1,6 +1,7 @@
 //! Names of other systems and of Exec's headers, with what has their place in a machine file.
 
-use std::alloc::{AllocError, Global};
+use crate::made::Made;
+use std::alloc::Global;
 
 /// The constants of Exec's headers that the words of the simulator take or answer, each with its number.
 const CONSTANTS: [(&str, u32); 45] = [
@@ -116,46 +117,26 @@ const NAMES: [(&str, &str); 45] = [
 
 /// What is written in the place of a name of another system.
 pub fn equivalent_of(name: &str) -> Option<&'static str> {
-    match NAMES.iter().find(|row| name.eq_ignore_ascii_case(row.0)) {
-        None => None,
-        Some(row) => Some(row.1),
-    }
-}
-
-/// The number of a constant of Exec's headers.
-fn constant(name: &str) -> Option<u32> {
-    match CONSTANTS.iter().find(|row| name == row.0) {
-        None => None,
-        Some(row) => Some(row.1),
-    }
+    Some(NAMES.iter().find(|row| name.eq_ignore_ascii_case(row.0))?.1)
 }
 
 /// The number of a constant of Exec's headers, or of several with `|` between them.
 pub fn number_of_constants(text: &str) -> Option<u32> {
     let mut sum = 0u32;
     for name in text.split('|') {
-        match constant(name) {
-            None => return None,
-            Some(number) => sum |= number,
-        }
+        sum |= CONSTANTS.iter().find(|row| name == row.0)?.1;
     }
     Some(sum)
 }
 
 /// A number as it is written in a machine file: small ones and negative ones in decimal digits.
-pub fn written_number(alloc: Global, number: u32) -> Result<String, AllocError> {
+pub fn written_number(alloc: Global, number: u32) -> Made<String> {
     if number < 16 {
         return format!(in alloc; "{number}");
     }
     if number >= 0xFFFF_FF00 {
-        let below = 0xFFFF_FFFF - number;
-        let magnitude = below.saturating_add(1);
+        let magnitude = (0xFFFF_FFFF - number).saturating_add(1);
         return format!(in alloc; "-{magnitude}");
     }
-    let digits = format!(in alloc; "{number:x}")?;
-    let mut text = String::from_str(alloc, "$")?;
-    for c in digits.as_str().chars() {
-        text.push(c.to_ascii_uppercase())?;
-    }
-    Ok(text)
+    format!(in alloc; "${number:X}")
 }

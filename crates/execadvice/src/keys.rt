@@ -1,5 +1,8 @@
-//! The keys of the tables of a machine file, and what each may hold, in words.
+//! The keys of the tables of a machine file, what each may hold, in words, and what is likely meant by another one.
 
+use crate::made::Made;
+use crate::near::{nearest, proposal};
+use std::alloc::Global;
 use taskscript::{Array, Key, TablePlace};
 use toml::Table;
 
@@ -40,20 +43,76 @@ pub fn wanted_of(of: TablePlace, key: Key) -> &'static str {
     }
 }
 
-/// Whether a table may have a key.
-fn has_key(of: TablePlace, key: &str) -> bool {
-    if of == TablePlace::Top && Array::ALL.iter().any(|array| key == array.key()) {
-        return true;
+/// The texts of the keys that a table may have.
+fn key_texts(alloc: Global, of: TablePlace) -> Made<Vec<&'static str>> {
+    let mut keys = Vec::new(alloc);
+    for key in keys_of(of) {
+        keys.push(key.text())?;
     }
-    keys_of(of).iter().any(|one| key == one.text())
+    if of == TablePlace::Top {
+        for array in &Array::ALL {
+            keys.push(array.key())?;
+        }
+    }
+    Ok(keys)
 }
 
-/// The first key of a table, in the order of the bytes of their texts, that it may not have.
-pub fn unknown_key(of: TablePlace, table: &Table) -> Option<&str> {
+/// The first key of a table, in the order of the bytes of their texts, that it may not have; the empty text if there is none.
+pub fn unknown_key(alloc: Global, of: TablePlace, table: &Table) -> Made<&str> {
+    let keys = key_texts(alloc, of)?;
     for (key, _value) in table {
-        if !has_key(of, key.as_str()) {
-            return Some(key.as_str());
+        if !keys.iter().any(|one| key.as_str() == *one) {
+            return Ok(key.as_str());
+        }
+    }
+    Ok("")
+}
+
+/// Names that other systems have for keys, each with the keys that may be meant.
+const OTHER_KEYS: [(&str, &str); 16] = [
+    ("tasks", "task"),
+    ("process", "task"),
+    ("thread", "task"),
+    ("interrupt", "server"),
+    ("interrupt", "softint"),
+    ("irq", "server"),
+    ("memory", "region"),
+    ("mem", "region"),
+    ("priority", "pri"),
+    ("address", "base"),
+    ("length", "size"),
+    ("flags", "attrs"),
+    ("script", "code"),
+    ("lines", "code"),
+    ("commands", "code"),
+    ("tick", "tick_micros"),
+];
+
+/// The first of some keys that is likely meant by a name of another system.
+fn key_meant(name: &str, keys: &[&str]) -> Option<&'static str> {
+    for row in &OTHER_KEYS {
+        if name.eq_ignore_ascii_case(row.0) && keys.iter().any(|key| *key == row.1) {
+            return Some(row.1);
         }
     }
     None
+}
+
+/// Why a key is none of a table, with the keys that the table may have.
+pub fn unknown_key_reason(alloc: Global, of: TablePlace, key: &str) -> Made<String> {
+    let keys = key_texts(alloc, of)?;
+    let near = match key_meant(key, &keys) {
+        Some(meant) => Some(meant),
+        None => nearest(alloc, key, &keys)?,
+    };
+    let question = proposal(alloc, near, "")?;
+    let its = if near.is_some() { " Its" } else { "; its" };
+    let mut reason = format!(in alloc; "unknown key in this table{question}{its} keys are ")?;
+    for (i, one) in keys.iter().enumerate() {
+        if i > 0 {
+            reason.push_str(", ")?;
+        }
+        reason.push_str(*one)?;
+    }
+    Ok(reason)
 }

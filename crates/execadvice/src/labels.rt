@@ -1,9 +1,10 @@
 //! Labels that are twice in a body, and jumps to labels that it lacks.
 
-use crate::near::{nearest, proposal};
+use crate::made::Made;
+use crate::near::question;
 use crate::said::{Said, label_of, said_by};
-use crate::show::{Advice, Span, field_span, width_of};
-use std::alloc::{AllocError, Global};
+use crate::show::{Advice, Span, width_of};
+use std::alloc::Global;
 use taskscript::line_in;
 use toml::Value;
 
@@ -23,7 +24,7 @@ impl Label<'_> {
 }
 
 /// The labels of a body, in their order.
-pub fn labels_of<'a>(alloc: Global, lines: &'a [Value]) -> Result<Vec<Label<'a>>, AllocError> {
+pub fn labels_of<'a>(alloc: Global, lines: &'a [Value]) -> Made<Vec<Label<'a>>> {
     let mut labels = Vec::new(alloc);
     for (line, item) in lines.iter().enumerate() {
         if let Some(name) = label_of(line_in(item)) {
@@ -39,7 +40,7 @@ fn label_named<'a>(labels: &[Label<'a>], name: &str) -> Option<Label<'a>> {
 }
 
 /// What is wrong with the first label that was before.
-fn repeated(alloc: Global, labels: &[Label<'_>]) -> Result<Option<Advice>, AllocError> {
+fn repeated(alloc: Global, labels: &[Label<'_>]) -> Made<Option<Advice>> {
     for (i, label) in labels.iter().enumerate() {
         if let Some(first) = label_named(labels.get(..i).unwrap_or(&[]), label.name) {
             let number = first.line.saturating_add(1);
@@ -54,42 +55,33 @@ fn repeated(alloc: Global, labels: &[Label<'_>]) -> Result<Option<Advice>, Alloc
 }
 
 /// Why a body lacks the label of that name, to which a line jumps.
-fn astray_reason(
-    alloc: Global,
-    labels: &[Label<'_>],
-    said: &Said<'_>,
-    name: &str,
-) -> Result<String, AllocError> {
+fn astray_reason(alloc: Global, labels: &[Label<'_>], said: &Said<'_>, name: &str) -> Made<String> {
     let first = said.arguments.get(0).copied().unwrap_or("");
     if label_named(labels, first).is_some() {
         let word = said.word.text();
         return format!(in alloc; "the label is last; did you mean {word} {name} {first}?");
     }
-    let mut names = Vec::new(alloc);
-    for label in labels {
-        names.push(label.name)?;
-    }
-    let question = proposal(alloc, "", nearest(alloc, name, &names)?, "")?;
+    let names: Vec<&str> = labels.iter().map(|label| label.name).collect(alloc)?;
+    let question = question(alloc, name, &names, "")?;
     format!(in alloc; "the body has no label of this name{question}")
 }
 
 /// What is wrong with a line if it jumps to a label that is none of these.
-fn astray(alloc: Global, labels: &[Label<'_>], line: &str) -> Result<Option<Advice>, AllocError> {
+fn astray(alloc: Global, labels: &[Label<'_>], line: &str) -> Made<Option<Advice>> {
     let Some(said) = said_by(alloc, line)? else {
         return Ok(None);
     };
     match said.jump() {
         Some((part, name)) if label_named(labels, name).is_none() => {
             let reason = astray_reason(alloc, labels, &said, name)?;
-            let span = field_span(line, part);
-            Ok(Some(Advice { span, reason }))
+            Ok(Some(Advice::of_field(line, part, reason)))
         }
         _ => Ok(None),
     }
 }
 
 /// What is wrong with a body that is BadLabel: its first label that was before, or else its first jump to a label that it lacks.
-pub fn bad_label(alloc: Global, lines: &[Value]) -> Result<Option<Advice>, AllocError> {
+pub fn bad_label(alloc: Global, lines: &[Value]) -> Made<Option<Advice>> {
     let labels = labels_of(alloc, lines)?;
     if let Some(advice) = repeated(alloc, &labels)? {
         return Ok(Some(advice));

@@ -3,25 +3,22 @@
 use taskscript::{member, total_of};
 use toml::{Table, Value};
 
-/// The text that the key holds, or the empty one.
-pub fn text_at<'a>(table: &'a Table, key: &str) -> &'a str {
-    match member(table, key) {
+/// What the key of an item holds, if it is a table.
+pub fn member_of<'a>(item: &'a Value, key: &str) -> Option<&'a Value> {
+    member(item.as_table()?, key)
+}
+
+/// The name of an item, or the empty text.
+pub fn name_of(item: &Value) -> &str {
+    match member_of(item, "name") {
         None => "",
         Some(value) => value.as_str().unwrap_or(""),
     }
 }
 
-/// The name of an item, or the empty text.
-pub fn name_of(owner: &Value) -> &str {
-    match owner.as_table() {
-        None => "",
-        Some(table) => text_at(table, "name"),
-    }
-}
-
 /// Whether one of the items has that name.
-pub fn has_named(owners: &[Value], name: &str) -> bool {
-    owners.iter().any(|owner| name == name_of(owner))
+pub fn has_named(items: &[Value], name: &str) -> bool {
+    items.iter().any(|item| name == name_of(item))
 }
 
 /// The bytes that the regions of a file may have together, by its version.

@@ -1,27 +1,20 @@
 //! The nearest of some texts, for proposals.
 
-use std::alloc::{AllocError, Global};
+use crate::made::Made;
+use std::alloc::Global;
 use strsim::osa_distance;
 
 /// The length in bytes of the longest text for which a proposal is looked for.
 const LONGEST: usize = 40;
 
 /// A text with small letters for capital ones.
-pub fn lower_case(alloc: Global, text: &str) -> Result<String, AllocError> {
-    let mut lower = String::new(alloc);
-    for c in text.chars() {
-        lower.push(c.to_ascii_lowercase())?;
-    }
-    Ok(lower)
+pub fn lower_case(alloc: Global, text: &str) -> Made<String> {
+    text.chars().map(|c| c.to_ascii_lowercase()).collect(alloc)
 }
 
 /// The one of some texts that was likely meant: it differs in at most a third of its letters, and no other in fewer. Upper and lower case are
 /// the same, and two letters that changed places are one.
-pub fn nearest<'a>(
-    alloc: Global,
-    text: &str,
-    among: &[&'a str],
-) -> Result<Option<&'a str>, AllocError> {
+pub fn nearest<'a>(alloc: Global, text: &str, among: &[&'a str]) -> Made<Option<&'a str>> {
     if text.len() > LONGEST {
         return Ok(None);
     }
@@ -45,15 +38,15 @@ pub fn nearest<'a>(
     Ok(found)
 }
 
-/// The question that proposes a text, with what is before and after it, or nothing.
-pub fn proposal(
-    alloc: Global,
-    before: &str,
-    near: Option<&str>,
-    after: &str,
-) -> Result<String, AllocError> {
+/// The question that proposes a text, with that quote before and after it, or nothing.
+pub fn proposal(alloc: Global, near: Option<&str>, quote: &str) -> Made<String> {
     match near {
         None => Ok(String::new(alloc)),
-        Some(text) => format!(in alloc; "; did you mean {before}{text}{after}?"),
+        Some(text) => format!(in alloc; "; did you mean {quote}{text}{quote}?"),
     }
+}
+
+/// The question that proposes the nearest of some texts, or nothing if none is near.
+pub fn question(alloc: Global, text: &str, among: &[&str], quote: &str) -> Made<String> {
+    proposal(alloc, nearest(alloc, text, among)?, quote)
 }

@@ -1,9 +1,10 @@
 //! Why the regions of a file are refused all together.
 
-use crate::members::total_at;
+use crate::made::Made;
+use crate::members::{member_of, total_at};
 use memlist::MEM_BLOCKSIZE;
-use std::alloc::{AllocError, Global};
-use taskscript::{items_at, member};
+use std::alloc::Global;
+use taskscript::items_at;
 use toml::{Table, Value};
 
 /// The address that no region goes past.
@@ -24,106 +25,86 @@ impl Extent {
 
 /// A region that does not fit, by its number from 0, with the key that is wrong and why.
 #[derive(Drop)]
-struct Unfit {
-    item: usize,
-    key: &'static str,
-    reason: String,
+pub struct Unfit {
+    pub item: usize,
+    pub key: &'static str,
+    pub reason: String,
 }
 
 /// The number that a key of a region holds, or 0.
 fn number_in(region: &Value, key: &str) -> u64 {
-    let value = match region.as_table() {
-        None => None,
-        Some(table) => member(table, key),
-    };
-    match value {
+    match member_of(region, key) {
         None => 0,
         Some(value) => value.as_integer().unwrap_or(0).unsigned_abs(),
     }
 }
 
 /// The regions of a file.
-fn extents_of(alloc: Global, table: &Table) -> Result<Vec<Extent>, AllocError> {
+fn extents_of(alloc: Global, table: &Table) -> Made<Vec<Extent>> {
     let mut extents = Vec::new(alloc);
     for region in items_at(table, "region") {
-        extents.push(Extent {
-            base: number_in(region, "base"),
-            size: number_in(region, "size"),
-        })?;
+        let (base, size) = (number_in(region, "base"), number_in(region, "size"));
+        extents.push(Extent { base, size })?;
     }
     Ok(extents)
 }
 
-/// Why a region is refused by itself: the key that is wrong, and what it would have to be.
-fn unfit_alone(region: Extent) -> Option<(&'static str, &'static str)> {
-    let block = u64::from(MEM_BLOCKSIZE);
-    if region.base % block != 0 {
-        Some(("base", "is not a multiple of 8"))
-    } else if region.size % block != 0 {
-        Some(("size", "is not a multiple of 8"))
-    } else if region.size == 0 {
-        Some(("size", "is 0"))
-    } else if region.base < 4096 {
-        Some(("base", "is below 4096"))
+/// Why a region is refused by itself: the key that is wrong, with what it holds and what that is.
+fn unfit_alone(alloc: Global, item: usize, region: Extent) -> Made<Option<Unfit>> {
+    let (number, block) = (item.saturating_add(1), u64::from(MEM_BLOCKSIZE));
+    let Extent { base, size } = region;
+    let (key, reason) = if base % block != 0 {
+        let reason = format!(in alloc; "region {number}: its base {base} is not a multiple of 8")?;
+        ("base", reason)
+    } else if size % block != 0 {
+        let reason = format!(in alloc; "region {number}: its size {size} is not a multiple of 8")?;
+        ("size", reason)
+    } else if size == 0 {
+        ("size", format!(in alloc; "region {number}: its size is 0")?)
+    } else if base < 4096 {
+        let reason = format!(in alloc; "region {number}: its base {base} is below 4096")?;
+        ("base", reason)
     } else {
-        None
-    }
-}
-
-/// That a key of a region is wrong, with what it holds if that is not 0.
-fn unfit_text(
-    alloc: Global,
-    number: usize,
-    extent: Extent,
-    key: &str,
-    why: &str,
-) -> Result<String, AllocError> {
-    if extent.size == 0 && key == "size" {
-        return format!(in alloc; "region {number}: its size is 0");
-    }
-    let held = if key == "base" {
-        extent.base
-    } else {
-        extent.size
+        return Ok(None);
     };
-    format!(in alloc; "region {number}: its {key} {held} {why}")
+    Ok(Some(Unfit { item, key, reason }))
 }
 
 /// The first region that is refused by itself.
-fn first_unfit(alloc: Global, extents: &[Extent]) -> Result<Option<Unfit>, AllocError> {
+fn first_unfit(alloc: Global, extents: &[Extent]) -> Made<Option<Unfit>> {
     for (item, extent) in extents.iter().enumerate() {
-        if let Some((key, why)) = unfit_alone(*extent) {
-            let reason = unfit_text(alloc, item.saturating_add(1), *extent, key, why)?;
-            return Ok(Some(Unfit { item, key, reason }));
+        if let Some(found) = unfit_alone(alloc, item, *extent)? {
+            return Ok(Some(found));
         }
     }
     Ok(None)
 }
 
 /// The first region with which all have more bytes than there may be.
-fn first_past(alloc: Global, extents: &[Extent], most: u64) -> Result<Option<Unfit>, AllocError> {
-    let total = extents
-        .iter()
-        .fold(0u64, |sum, extent| sum.saturating_add(extent.size));
-    if total <= most {
-        return Ok(None);
+fn first_past(alloc: Global, extents: &[Extent], most: u64) -> Made<Option<Unfit>> {
+    let mut total = 0u64;
+    let mut first = None;
+    for (item, extent) in extents.iter().enumerate() {
+        total = total.saturating_add(extent.size);
+        if total > most && first.is_none() {
+            first = Some(item);
+        }
     }
+    let Some(item) = first else {
+        return Ok(None);
+    };
     let reason = format!(in alloc;
         "the regions have {total} bytes together; there are at most {most}"
     )?;
-    let mut sum = 0u64;
-    let (mut item, key) = (0usize, "size");
-    for (region, extent) in extents.iter().enumerate() {
-        if sum <= most {
-            item = region;
-        }
-        sum = sum.saturating_add(extent.size);
-    }
-    Ok(Some(Unfit { item, key, reason }))
+    Ok(Some(Unfit {
+        item,
+        key: "size",
+        reason,
+    }))
 }
 
 /// The first region that ends past what there may be.
-fn first_beyond(alloc: Global, extents: &[Extent]) -> Result<Option<Unfit>, AllocError> {
+fn first_beyond(alloc: Global, extents: &[Extent]) -> Made<Option<Unfit>> {
     for (item, extent) in extents.iter().enumerate() {
         let end = extent.end();
         if end > REACH {
@@ -141,7 +122,7 @@ fn overlapped(region: Extent, others: &[Extent]) -> Option<usize> {
 }
 
 /// The first two regions that overlap.
-fn first_overlap(alloc: Global, extents: &[Extent]) -> Result<Option<Unfit>, AllocError> {
+fn first_overlap(alloc: Global, extents: &[Extent]) -> Made<Option<Unfit>> {
     for (region, extent) in extents.iter().enumerate() {
         let after = region.saturating_add(1);
         if let Some(other) = overlapped(*extent, extents.get(after..).unwrap_or(&[])) {
@@ -156,13 +137,12 @@ fn first_overlap(alloc: Global, extents: &[Extent]) -> Result<Option<Unfit>, All
 
 /// The region that does not fit: the first whose base or size is no multiple of 8, whose size is 0 or whose base is below 4096; else that with
 /// which all have too many bytes together; else the first that ends past 2 GB; else the second of the first two that overlap.
-fn first_that_does_not_fit(alloc: Global, table: &Table) -> Result<Unfit, AllocError> {
+pub fn unfit_region(alloc: Global, table: &Table) -> Made<Unfit> {
     let extents = extents_of(alloc, table)?;
     if let Some(found) = first_unfit(alloc, &extents)? {
         return Ok(found);
     }
-    let most = u64::from(total_at(table));
-    if let Some(found) = first_past(alloc, &extents, most)? {
+    if let Some(found) = first_past(alloc, &extents, u64::from(total_at(table)))? {
         return Ok(found);
     }
     if let Some(found) = first_beyond(alloc, &extents)? {
@@ -176,16 +156,4 @@ fn first_that_does_not_fit(alloc: Global, table: &Table) -> Result<Unfit, AllocE
             reason: String::from_str(alloc, "the regions are refused")?,
         }),
     }
-}
-
-/// Which regions break which rule, in one sentence.
-pub fn regions_reason(alloc: Global, table: &Table) -> Result<String, AllocError> {
-    let found = first_that_does_not_fit(alloc, table)?;
-    Ok(found.reason)
-}
-
-/// The region that does not fit, by its number from 0, and the key that is wrong.
-pub fn unfit_region(alloc: Global, table: &Table) -> Result<(usize, &'static str), AllocError> {
-    let found = first_that_does_not_fit(alloc, table)?;
-    Ok((found.item, found.key))
 }

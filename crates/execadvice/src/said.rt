@@ -1,5 +1,6 @@
 //! A line that says something, by its parts.
 
+use crate::made::Made;
 use std::alloc::{AllocError, Global};
 use taskscript::{Kind, Word, fields_of, label_in, word_of};
 
@@ -13,14 +14,12 @@ pub struct Said<'a> {
 
 /// The name of the label that a line is, if it is one.
 pub fn label_of(line: &str) -> Option<&str> {
-    match label_in(line) {
-        None => None,
-        Some(_) => line.strip_suffix(':'),
-    }
+    label_in(line)?;
+    line.strip_suffix(':')
 }
 
 /// The target that is before `=`, if it is there, and the parts after it.
-fn cut<'b, 'a>(parts: &'b [&'a str]) -> (Option<&'a str>, &'b [&'a str]) {
+pub fn cut<'b, 'a>(parts: &'b [&'a str]) -> (Option<&'a str>, &'b [&'a str]) {
     match parts {
         [target, equals, after @ ..] if *equals == "=" => (Some(*target), after),
         whole => (None, whole),
@@ -50,11 +49,6 @@ pub fn said_by(alloc: Global, line: &str) -> Result<Option<Said<'_>>, AllocError
 }
 
 impl<'a> Said<'a> {
-    /// Whether the argument of a number has to be of a kind.
-    fn is_of(&self, number: usize, kind: Kind) -> bool {
-        self.word.kinds().get(number).copied() == Some(kind)
-    }
-
     /// The number of the field of its word: after a target and `=` if they are.
     pub fn place_of_word(&self) -> usize {
         if self.target.is_some() { 2 } else { 0 }
@@ -79,10 +73,10 @@ impl<'a> Said<'a> {
     }
 
     /// The arguments that may be variables, each with the number of its field: what the line reads.
-    pub fn read_values(&self, alloc: Global) -> Result<Vec<(usize, &'a str)>, AllocError> {
+    pub fn read_values(&self, alloc: Global) -> Made<Vec<(usize, &'a str)>> {
         let mut values = Vec::new(alloc);
         for (i, field) in self.arguments.iter().enumerate() {
-            if self.is_of(i, Kind::Value) {
+            if self.word.kinds().get(i).copied() == Some(Kind::Value) {
                 values.push((self.place_of(i), *field))?;
             }
         }
@@ -90,7 +84,7 @@ impl<'a> Said<'a> {
     }
 
     /// The target, if it is there, and the arguments that may be variables, each with the number of its field.
-    pub fn values(&self, alloc: Global) -> Result<Vec<(usize, &'a str)>, AllocError> {
+    pub fn values(&self, alloc: Global) -> Made<Vec<(usize, &'a str)>> {
         let mut values = self.read_values(alloc)?;
         if let Some(field) = self.target {
             values.insert(0, (0, field))?;

@@ -1,6 +1,7 @@
 //! A line of a text, with marks below the part that is wrong.
 
 use crate::escaped::push_character;
+use crate::made::Made;
 use std::alloc::{AllocError, Global};
 
 /// The most characters of a line that are shown.
@@ -31,6 +32,12 @@ impl Advice {
             reason: String::from_str(alloc, reason)?,
         })
     }
+
+    /// The reason for the part of a line between single spaces that has this number, from 0.
+    pub fn of_field(line: &str, number: usize, reason: String) -> Advice {
+        let span = field_span(line, number);
+        Advice { span, reason }
+    }
 }
 
 /// How many characters a text has.
@@ -41,20 +48,18 @@ pub fn width_of(text: &str) -> usize {
 /// The part of a line between single spaces that has this number, from 0; after the last one, the place after the line's end.
 pub fn field_span(line: &str, number: usize) -> Span {
     let mut start = 0usize;
-    let mut i = 0usize;
-    for field in line.split(' ') {
+    for (i, field) in line.split(' ').enumerate() {
         let width = width_of(field);
         if i == number {
             return Span { start, width };
         }
         start = start.saturating_add(width).saturating_add(1);
-        i = i.saturating_add(1);
     }
     Span { start, width: 1 }
 }
 
 /// Adds a character as often as that.
-fn push_times(out: &mut String, c: char, count: usize) -> Result<(), AllocError> {
+fn push_times(out: &mut String, c: char, count: usize) -> Made<()> {
     for i in 0..count {
         out.push(c)?;
     }
@@ -71,12 +76,7 @@ fn first_shown(length: usize, start: usize) -> usize {
 }
 
 /// Adds the part of a line that is shown, and a line feed. The answer is the number of columns before the marked part, and that of its own.
-fn push_window(
-    alloc: Global,
-    out: &mut String,
-    line: &str,
-    span: Span,
-) -> Result<(usize, usize), AllocError> {
+fn push_window(alloc: Global, out: &mut String, line: &str, span: Span) -> Made<(usize, usize)> {
     let first = first_shown(width_of(line), span.start);
     let end = span.start.saturating_add(span.width);
     let mut at = first;
@@ -107,12 +107,7 @@ fn push_window(
 
 /// Adds the line, and below it marks under the part that is wrong, with the reason. Of a line of more than 160 characters only those near
 /// the part are shown.
-pub fn push_marked(
-    alloc: Global,
-    out: &mut String,
-    line: &str,
-    advice: &Advice,
-) -> Result<(), AllocError> {
+pub fn push_marked(alloc: Global, out: &mut String, line: &str, advice: &Advice) -> Made<()> {
     out.push_str("    ")?;
     let (before, width) = push_window(alloc, out, line, advice.span)?;
     out.push_str("    ")?;
@@ -124,7 +119,7 @@ pub fn push_marked(
 }
 
 /// Adds a reason on a line of its own.
-pub fn push_reason(out: &mut String, reason: &str) -> Result<(), AllocError> {
+pub fn push_reason(out: &mut String, reason: &str) -> Made<()> {
     out.push_str("    ")?;
     out.push_str(reason)?;
     out.push_str("\n")

@@ -1,9 +1,9 @@
 //! Mistakes of a line that are seen before its words: spaces, tabs, characters that are not seen, commas and comments.
 
 use crate::escaped::{hidden_reason, is_hidden};
+use crate::made::Made;
 use crate::show::{Advice, Span, field_span};
-use std::alloc::{AllocError, Global};
-use taskscript::fields_of;
+use std::alloc::Global;
 
 /// What a part is that no line has, if it is one: a comment, or one with a comma or a semicolon at its end.
 fn reason_of(part: &str) -> Option<&'static str> {
@@ -32,38 +32,36 @@ fn space_reason(line: &str, start: usize) -> &'static str {
 }
 
 /// What is wrong with the parts of a line: the first that no line has, or else a space that separates nothing.
-fn parts_advice(alloc: Global, line: &str) -> Result<Option<Advice>, AllocError> {
-    let parts = fields_of(alloc, line)?;
+fn parts_advice(alloc: Global, line: &str, parts: &[&str]) -> Made<Option<Advice>> {
     for (i, part) in parts.iter().enumerate() {
         if let Some(reason) = reason_of(*part) {
             return Ok(Some(Advice::new(alloc, field_span(line, i), reason)?));
         }
     }
-    match parts.iter().position(|part| part.is_empty()) {
-        None => Ok(None),
-        Some(part) => {
-            let start = field_span(line, part).start;
-            let span = Span { start, width: 1 };
-            Ok(Some(Advice::new(alloc, span, space_reason(line, start))?))
-        }
-    }
+    let Some(part) = parts.iter().position(|part| part.is_empty()) else {
+        return Ok(None);
+    };
+    let start = field_span(line, part).start;
+    let span = Span { start, width: 1 };
+    Ok(Some(Advice::new(alloc, span, space_reason(line, start))?))
 }
 
-/// What is wrong with a line before its words are looked at, and where: the first tab or other character that is not seen; or else the
-/// first part that begins as a comment (`#`, `;` or `//`) or has a comma or a semicolon at its end; or else the first space that separates
-/// nothing, as one does at the beginning, at the end, after another, or if the line is empty. None if there is none of these.
-pub fn spacing_advice(alloc: Global, line: &str) -> Result<Option<Advice>, AllocError> {
+/// What is to be done about the hidden character of a line that has this number, from 0.
+pub fn hidden_advice(alloc: Global, line: &str, start: usize) -> Made<Advice> {
+    let reason = match line.chars().nth(start).unwrap_or('\t') {
+        '\t' => format!(in alloc; "put one space in place of the tab")?,
+        c => hidden_reason(alloc, c)?,
+    };
+    let span = Span { start, width: 1 };
+    Ok(Advice { span, reason })
+}
+
+/// What is wrong with a line, which has these parts, before its words are looked at, and where: the first tab or other character that is not seen;
+/// or else the first part that begins as a comment (`#`, `;` or `//`) or has a comma or a semicolon at its end; or else the first space that
+/// separates nothing, as one does at the beginning, at the end, after another, or if the line is empty. None if there is none of these.
+pub fn spacing_advice(alloc: Global, line: &str, parts: &[&str]) -> Made<Option<Advice>> {
     match line.chars().position(|c| is_hidden(c)) {
-        None => parts_advice(alloc, line),
-        Some(start) => {
-            let c = line.chars().nth(start).unwrap_or('\t');
-            let reason = if c == '\t' {
-                String::from_str(alloc, "put one space in place of the tab")?
-            } else {
-                hidden_reason(alloc, c)?
-            };
-            let span = Span { start, width: 1 };
-            Ok(Some(Advice { span, reason }))
-        }
+        None => parts_advice(alloc, line, parts),
+        Some(start) => Ok(Some(hidden_advice(alloc, line, start)?)),
     }
 }

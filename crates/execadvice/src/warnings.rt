@@ -1,17 +1,15 @@
 //! What an accepted file most likely does not mean: it refuses nothing.
 
+use crate::bodies::{Body, bodies_in};
 use crate::labels::labels_of;
-use crate::members::name_of;
+use crate::made::Made;
+use crate::members::{member_of, name_of};
 use crate::near::{nearest, proposal};
-use crate::reads::unset_reads;
-use crate::said::said_by;
 use crate::show::{Advice, Span, field_span};
-use crate::spoken::{Spoken, spoken_in};
-use std::alloc::{AllocError, Global};
+use crate::variables::{Variables, is_shared, is_variable};
+use std::alloc::Global;
 use std::collections::HashSet;
-use taskscript::{
-    LinePlace, Owner, PortWord, TaskWord, Word, items_at, line_in, lines_of, member, quoted_in,
-};
+use taskscript::{LinePlace, Owner, PortWord, TaskWord, Word, items_at, quoted_in};
 use toml::{Table, Value};
 
 /// The most pairs of names that are compared for the proposals of a file.
@@ -32,79 +30,62 @@ struct Warnings {
 }
 
 impl Warnings {
-    fn push(&mut self, place: LinePlace, span: Span, reason: &str) -> Result<(), AllocError> {
+    fn push(&mut self, place: LinePlace, span: Span, reason: &str) -> Made<()> {
         let advice = Advice::new(self.alloc, span, reason)?;
         self.list.push(Warning { place, advice })?;
         Ok(())
     }
 }
 
-/// The names among which one is looked for, and how many pairs may still be compared.
-#[derive(Drop)]
-struct Names<'a> {
-    names: Vec<&'a str>,
-    known: HashSet<&'a str>,
-    pairs: usize,
+/// The shared variables that some bodies set.
+fn shared_in<'a>(alloc: Global, bodies: &[Body<'a>]) -> Made<Variables<'a>> {
+    let mut set = Variables::new(alloc);
+    for body in bodies {
+        for one in &body.spoken {
+            match one.said.target {
+                Some(name) if is_shared(name) => set.add(name)?,
+                _ => {}
+            }
+        }
+    }
+    Ok(set)
 }
 
-impl<'a> Names<'a> {
-    fn new(alloc: Global) -> Names<'a> {
-        Names {
-            names: Vec::new(alloc),
-            known: HashSet::new(alloc),
-            pairs: MOST_PAIRS,
+/// Adds a warning for each variable that a body reads and that is none of those that are set: the shared ones that any body sets, those that this
+/// body sets, and those with a warning.
+fn add_unset_in<'a>(out: &mut Warnings, body: &Body<'a>, set: &mut Variables<'a>) -> Made<()> {
+    set.leave_body(out.alloc);
+    for one in &body.spoken {
+        if let Some(name) = one.said.target {
+            set.add(name)?;
         }
     }
-
-    fn add(&mut self, name: &'a str) -> Result<(), AllocError> {
-        if self.known.insert(name)? {
-            self.names.push(name)?;
+    for one in &body.spoken {
+        for (part, field) in &one.said.read_values(out.alloc)? {
+            let name = *field;
+            if is_variable(name) && !set.has(name) {
+                set.add(name)?;
+                let reason = format!(in out.alloc; "{name} is read and never set, so it is 0")?;
+                out.push(one.place, field_span(one.line, *part), reason.as_str())?;
+            }
         }
-        Ok(())
-    }
-
-    /// The nearest to a name; none if too many pairs were compared.
-    fn nearest(&mut self, alloc: Global, name: &str) -> Result<Option<&'a str>, AllocError> {
-        let pairs = self.names.len();
-        if pairs > self.pairs {
-            return Ok(None);
-        }
-        self.pairs = self.pairs.saturating_sub(pairs);
-        nearest(alloc, name, &self.names)
-    }
-}
-
-/// Adds a warning for each variable that is read and never set, at the part of the first line that reads it.
-fn add_unset(out: &mut Warnings, all: &[Spoken<'_>]) -> Result<(), AllocError> {
-    for read in &unset_reads(out.alloc, all)? {
-        let name = read.name;
-        let reason = format!(in out.alloc; "{name} is read and never set, so it is 0")?;
-        out.push(read.place, read.span, reason.as_str())?;
     }
     Ok(())
 }
 
-/// The labels to which the lines of a body jump.
-fn jumps_of(alloc: Global, lines: &[Value]) -> Result<HashSet<&str>, AllocError> {
-    let mut labels = HashSet::new(alloc);
-    for item in lines {
-        if let Some(said) = said_by(alloc, line_in(item))? {
-            if let Some((_, name)) = said.jump() {
-                labels.insert(name)?;
-            }
+/// Adds a warning for each label of a body to which nothing jumps.
+fn add_unused(out: &mut Warnings, body: &Body<'_>) -> Made<()> {
+    let mut jumps = HashSet::new(out.alloc);
+    for one in &body.spoken {
+        if let Some((_, name)) = one.said.jump() {
+            jumps.insert(name)?;
         }
     }
-    Ok(labels)
-}
-
-/// Adds a warning for each label of a task to which nothing jumps.
-fn add_unused(out: &mut Warnings, item: usize, lines: &[Value]) -> Result<(), AllocError> {
-    let jumps = jumps_of(out.alloc, lines)?;
-    for label in &labels_of(out.alloc, lines)? {
+    for label in &labels_of(out.alloc, body.lines)? {
         if !jumps.contains(label.name) {
-            let (owner, line) = (Owner::Task, label.line);
-            let reason = "nothing jumps to this label";
-            out.push(LinePlace { owner, item, line }, label.span(), reason)?;
+            let line = label.line;
+            let place = LinePlace { line, ..body.place };
+            out.push(place, label.span(), "nothing jumps to this label")?;
         }
     }
     Ok(())
@@ -112,85 +93,99 @@ fn add_unused(out: &mut Warnings, item: usize, lines: &[Value]) -> Result<(), Al
 
 /// The value of the key `start` of a task, if it has one.
 fn start_of(task: &Value) -> Option<bool> {
-    member(task.as_table()?, "start")?.as_bool()
+    member_of(task, "start")?.as_bool()
 }
 
-/// Adds a warning for each task that is not added at the start, if no line adds a task.
-fn add_never_run(
-    out: &mut Warnings,
-    tasks: &[Value],
-    all: &[Spoken<'_>],
-) -> Result<(), AllocError> {
-    if all
-        .iter()
-        .any(|one| one.said.word == Word::Tasks(TaskWord::AddTask))
-    {
-        return Ok(());
-    }
+/// Adds a warning for each task that is not added at the start.
+fn add_never_run(out: &mut Warnings, tasks: &[Value]) -> Made<()> {
     let reason = "this task never runs: its start is false, and no line has AddTask";
     for (item, task) in tasks.iter().enumerate() {
         if start_of(task) == Some(false) {
             let (owner, line) = (Owner::Task, 0);
-            out.push(
-                LinePlace { owner, item, line },
-                Span { start: 0, width: 1 },
-                reason,
-            )?;
+            let span = Span { start: 0, width: 1 };
+            out.push(LinePlace { owner, item, line }, span, reason)?;
         }
     }
     Ok(())
 }
 
-/// The name between double quotes that is an argument of a line, by its number.
-fn name_at<'a>(one: &Spoken<'a>, number: usize) -> Option<&'a str> {
-    let field = one.said.arguments.get(number).copied()?;
-    quoted_in(field)?;
-    Some(field.trim_matches('"'))
+/// A name between double quotes that is an argument of a line.
+#[derive(Clone, Copy)]
+struct Quoted<'a> {
+    name: &'a str,
+    place: LinePlace,
+    span: Span,
 }
 
-/// The names that lines give to ports.
-fn ports_in<'a>(alloc: Global, all: &[Spoken<'a>]) -> Result<Names<'a>, AllocError> {
-    let mut names = Names::new(alloc);
-    for one in all {
-        if one.said.word == Word::Ports(PortWord::AddPort) {
-            if let Some(name) = name_at(one, 1) {
-                names.add(name)?;
-            }
-        }
-    }
-    Ok(names)
-}
-
-/// The names of the tasks.
-fn tasks_in(alloc: Global, tasks: &[Value]) -> Result<Names<'_>, AllocError> {
-    let mut names = Names::new(alloc);
-    for task in tasks {
-        names.add(name_of(task))?;
-    }
-    Ok(names)
-}
-
-/// Adds a warning for each line of a word that asks for a name which is none of these, with the nearest of them.
-fn add_unknown(
-    out: &mut Warnings,
-    all: &[Spoken<'_>],
+/// The names between double quotes that are the argument of that number of a word.
+fn quoted_at<'a>(
+    alloc: Global,
+    bodies: &[Body<'a>],
     word: Word,
-    what: &str,
-    names: &mut Names<'_>,
-) -> Result<(), AllocError> {
-    for one in all {
-        match name_at(one, 0) {
-            Some(name) if one.said.word == word && !names.known.contains(name) => {
-                let near = names.nearest(out.alloc, name)?;
-                let question = proposal(out.alloc, "\"", near, "\"")?;
-                let reason = format!(in out.alloc; "{what} of this name{question}")?;
-                let span = field_span(one.line, one.said.place_of(0));
-                out.push(one.place, span, reason.as_str())?;
+    number: usize,
+) -> Made<Vec<Quoted<'a>>> {
+    let mut found = Vec::new(alloc);
+    for body in bodies {
+        for one in &body.spoken {
+            let field = one.said.arguments.get(number).copied().unwrap_or("");
+            if one.said.word == word && quoted_in(field).is_some() {
+                found.push(Quoted {
+                    name: field.trim_matches('"'),
+                    place: one.place,
+                    span: field_span(one.line, one.said.place_of(number)),
+                })?;
             }
-            _ => {}
+        }
+    }
+    Ok(found)
+}
+
+/// Adds a warning for each line that asks for a name which is none of these, with the nearest of them, until too many pairs were compared.
+fn add_unknown(out: &mut Warnings, asked: &[Quoted<'_>], names: &[&str], what: &str) -> Made<()> {
+    let mut known = HashSet::new(out.alloc);
+    let mut among = Vec::new(out.alloc);
+    for name in names {
+        if known.insert(*name)? {
+            among.push(*name)?;
+        }
+    }
+    let mut pairs = MOST_PAIRS;
+    for one in asked {
+        if !known.contains(one.name) {
+            let mut near = None;
+            if among.len() <= pairs {
+                pairs = pairs.saturating_sub(among.len());
+                near = nearest(out.alloc, one.name, &among)?;
+            }
+            let question = proposal(out.alloc, near, "\"")?;
+            let reason = format!(in out.alloc; "{what} of this name{question}")?;
+            out.push(one.place, one.span, reason.as_str())?;
         }
     }
     Ok(())
+}
+
+/// Adds a warning for each name that FindPort asks for, and no AddPort gives.
+fn add_unknown_ports(out: &mut Warnings, bodies: &[Body<'_>]) -> Made<()> {
+    let given = quoted_at(out.alloc, bodies, Word::Ports(PortWord::AddPort), 1)?;
+    let names: Vec<&str> = given.iter().map(|one| one.name).collect(out.alloc)?;
+    let asked = quoted_at(out.alloc, bodies, Word::Ports(PortWord::FindPort), 0)?;
+    add_unknown(out, &asked, &names, "no line adds a port")
+}
+
+/// Adds a warning for each name that FindTask asks for, and no task has.
+fn add_unknown_tasks(out: &mut Warnings, bodies: &[Body<'_>], tasks: &[Value]) -> Made<()> {
+    let names: Vec<&str> = tasks.iter().map(|task| name_of(task)).collect(out.alloc)?;
+    let asked = quoted_at(out.alloc, bodies, Word::Tasks(TaskWord::FindTask), 0)?;
+    add_unknown(out, &asked, &names, "the file has no task")
+}
+
+/// Whether a line of some bodies has AddTask.
+fn add_tasks(bodies: &[Body<'_>]) -> bool {
+    let word = Word::Tasks(TaskWord::AddTask);
+    bodies
+        .iter()
+        .any(|body| body.spoken.iter().any(|one| one.said.word == word))
 }
 
 /// What is worth a warning in a file that is accepted, each by the line, the part of it, and why; in this order:
@@ -200,29 +195,24 @@ fn add_unknown(
 /// - labels that no line of their task jumps to;
 /// - tasks that never run: they are not added at the start, and no line has AddTask;
 /// - names that FindPort asks for, and no AddPort gives, and names that FindTask asks for, and no task has.
-pub fn warnings_of(alloc: Global, table: &Table) -> Result<Vec<Warning>, AllocError> {
-    let all = spoken_in(alloc, table)?;
+pub fn warnings_of(alloc: Global, table: &Table) -> Made<Vec<Warning>> {
+    let bodies = bodies_in(alloc, table)?;
     let tasks = items_at(table, "task");
     let mut out = Warnings {
         alloc,
         list: Vec::new(alloc),
     };
-    add_unset(&mut out, &all)?;
-    for (item, task) in tasks.iter().enumerate() {
-        add_unused(&mut out, item, lines_of(task))?;
+    let mut set = shared_in(alloc, &bodies)?;
+    for body in &bodies {
+        add_unset_in(&mut out, body, &mut set)?;
     }
-    add_never_run(&mut out, tasks, &all)?;
-    let find_port = Word::Ports(PortWord::FindPort);
-    let mut ports = ports_in(alloc, &all)?;
-    add_unknown(&mut out, &all, find_port, "no line adds a port", &mut ports)?;
-    let find_task = Word::Tasks(TaskWord::FindTask);
-    let mut names = tasks_in(alloc, tasks)?;
-    add_unknown(
-        &mut out,
-        &all,
-        find_task,
-        "the file has no task",
-        &mut names,
-    )?;
+    for body in &bodies {
+        add_unused(&mut out, body)?;
+    }
+    if !add_tasks(&bodies) {
+        add_never_run(&mut out, tasks)?;
+    }
+    add_unknown_ports(&mut out, &bodies)?;
+    add_unknown_tasks(&mut out, &bodies, tasks)?;
     Ok(out.list)
 }

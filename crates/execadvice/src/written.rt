@@ -1,10 +1,11 @@
 //! Where the keys, the tables and the lines of code of a machine file are written.
 
-use crate::code::array_of;
-use crate::scan::scan;
+use crate::bodies::array_of;
+use crate::made::Made;
+use crate::scan::{scan, token};
 use std::alloc::{AllocError, Global};
 use taskscript::{Array, LinePlace, TablePlace};
-use toml_parser::{Key, ParseError, dotted_key};
+use toml_parser::{Key, dotted_key};
 
 /// A character of a file.
 #[derive(Clone, Copy, Debug, PartialEq, Eq)]
@@ -20,17 +21,11 @@ impl FilePlace {
     pub fn after(self, text: &str) -> FilePlace {
         let mut place = self;
         for c in text.chars() {
-            place = if c == '\n' {
-                FilePlace {
-                    line: place.line.saturating_add(1),
-                    column: 1,
-                }
-            } else {
-                FilePlace {
-                    line: place.line,
-                    column: place.column.saturating_add(1),
-                }
-            };
+            place.column = place.column.saturating_add(1);
+            if c == '\n' {
+                place.line = place.line.saturating_add(1);
+                place.column = 1;
+            }
         }
         place
     }
@@ -76,26 +71,24 @@ pub struct Written<'a> {
 }
 
 /// The part of a key that has that number, or the last one.
-fn name_in(key: &Key, number: usize) -> &str {
-    match key.path.get(number) {
-        None => key.last.as_str(),
-        Some(name) => name.as_str(),
-    }
+pub fn name_in(key: &Key, number: usize) -> &str {
+    key.path.get(number).unwrap_or(&key.last).as_str()
 }
 
 /// Whether a key of a table, as it is written, is that name. In the head of a table below an item the name is the second part.
-fn is_key(alloc: Global, of: TablePlace, written: &str, name: &str) -> Result<bool, AllocError> {
-    let number = if of != TablePlace::Top && written.starts_with("[") {
-        1
-    } else {
-        0
-    };
+fn is_key(alloc: Global, of: TablePlace, written: &str, name: &str) -> Made<bool> {
+    let is_below = of != TablePlace::Top && written.starts_with("[");
     let inside = written.trim_start_matches('[').trim_start();
-    match dotted_key(alloc, inside) {
-        Err(ParseError::OutOfMemory) => Err(AllocError),
-        Err(_) => Ok(false),
-        Ok((key, _)) => Ok(name_in(&key, number) == name),
-    }
+    Ok(match token(dotted_key(alloc, inside))? {
+        None => false,
+        Some((key, _)) => name_in(&key, usize::from(is_below)) == name,
+    })
+}
+
+/// What of a text is before its end.
+pub fn until<'a>(text: &'a str, end: &str) -> &'a str {
+    text.get(..text.len().saturating_sub(end.len()))
+        .unwrap_or("")
 }
 
 impl<'a> Written<'a> {
@@ -146,12 +139,7 @@ impl<'a> Written<'a> {
     }
 
     /// The first key of a table that has that name.
-    pub fn key(
-        &self,
-        alloc: Global,
-        of: TablePlace,
-        name: &str,
-    ) -> Result<Option<WrittenKey<'a>>, AllocError> {
+    pub fn key(&self, alloc: Global, of: TablePlace, name: &str) -> Made<Option<WrittenKey<'a>>> {
         for key in &self.keys {
             if key.of == of && is_key(alloc, of, key.key.text, name)? {
                 return Ok(Some(*key));
@@ -208,44 +196,39 @@ fn rest_of_escape(c: char) -> usize {
     }
 }
 
+/// The inside of a string without the white space that is left out before its next character, as it is after a backslash at the end of a line.
+fn unfolded(inside: &str, is_basic: bool) -> &str {
+    let mut rest = inside;
+    for _ in 0..inside.len() {
+        let after = rest.strip_prefix("\\").unwrap_or("");
+        let next = after.trim_start();
+        if !is_basic || next.len() == after.len() {
+            break;
+        }
+        rest = next;
+    }
+    rest
+}
+
+/// What of the inside of a string is after its first character, or after the escape that is in its place in a basic string.
+fn after_character(inside: &str, is_basic: bool) -> &str {
+    let mut characters = inside.chars();
+    let width = match (characters.next(), characters.next()) {
+        (Some('\\'), Some(kind)) if is_basic => rest_of_escape(kind).saturating_add(2),
+        _ => 1,
+    };
+    match inside.char_indices().nth(width) {
+        None => "",
+        Some((at, _)) => inside.get(at..).unwrap_or(""),
+    }
+}
+
 /// What of a string, as it is written, is before the character of that number, from 0.
 fn before_character(string: &str, character: usize) -> &str {
-    let opening = opening(string);
     let is_basic = string.starts_with("\"");
-    let mut seen = 0usize;
-    // Where the last escape begins, whether its kind is to come, and how many of its characters are.
-    let mut escape = 0usize;
-    let mut is_escape = false;
-    let mut to_come = 0usize;
-    // Whether white space is left out, as it is after a backslash at the end of a line.
-    let mut is_folded = false;
-    for (at, c) in string.char_indices() {
-        if at < opening {
-            continue;
-        }
-        if to_come > 0 {
-            to_come = to_come.saturating_sub(1);
-        } else if is_escape {
-            is_escape = false;
-            is_folded = c.is_whitespace();
-            if !is_folded {
-                if seen == character {
-                    return string.get(..escape).unwrap_or("");
-                }
-                seen = seen.saturating_add(1);
-                to_come = rest_of_escape(c);
-            }
-        } else if !(is_folded && c.is_whitespace()) {
-            is_folded = false;
-            if is_basic && c == '\\' {
-                is_escape = true;
-                escape = at;
-            } else if seen == character {
-                return string.get(..at).unwrap_or("");
-            } else {
-                seen = seen.saturating_add(1);
-            }
-        }
+    let mut rest = string.get(opening(string)..).unwrap_or("");
+    for _ in 0..character {
+        rest = after_character(unfolded(rest, is_basic), is_basic);
     }
-    string
+    until(string, unfolded(rest, is_basic))
 }

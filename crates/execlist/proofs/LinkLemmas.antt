@@ -119,6 +119,14 @@ home-some ls n i h e =
     let small : i < n = omega (arith, home_known (homes_of ls n) i h e, homes_length ls n) in
     (small, header-some (link_at ls i).home h (sym (home-at ls n i small) ∙ e))
 
+-- a node that is in a list is the node of its number
+pub node-known : (ls : List Link) (n i h : ℕ) → home (homes_of ls n) i ≡ Some h → node_at n i ≡ Some i
+node-known ls n i h e = let small = (home-some ls n i h e).0 in cond-true _ _ _ (lt-ltb i n small)
+
+-- no node has the number of all of them
+pub node-none : (n : ℕ) → node_at n n ≡ None
+node-none n = cond-false _ _ _ (le-ltb n n (omega arith))
+
 pub home-none : (ls : List Link) (n i : ℕ) → i < n → home (homes_of ls n) i ≡ None → (link_at ls i).home ≡ 0
 home-none ls n i small e = header-none (link_at ls i).home (sym (home-at ls n i small) ∙ e)
 

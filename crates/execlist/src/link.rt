@@ -138,20 +138,21 @@ impl LinkSpace {
     {
         let mut next = from;
         let mut back = self.last(h)?;
-        let mut found = None;
+        // a number that no node has, until the walk back finds one
+        let mut found = self.nodes;
         loop {
             if self.is_sought(next, wanted) {
                 return Some(next);
             }
             if next == back {
-                return found;
+                return self.node_of(found);
             }
             if self.is_sought(back, wanted) {
-                found = Some(back);
+                found = back;
             }
             next = self.succ(next)?;
             if next == back {
-                return found;
+                return self.node_of(found);
             }
             back = self.pred(back)?;
         }
@@ -170,12 +171,24 @@ impl LinkSpace {
         }
     }
 
+    /// The node of a number, or none if no node has it.
+    #[inline]
+    fn node_of(&self, number: usize) -> Option<NodeId>
+        ensures { result ≡ node_at self.now.nodes number }
+    {
+        if number < self.nodes {
+            Some(number)
+        } else {
+            None
+        }
+    }
+
     /// The node that the cell is, or none if it is a header's.
+    #[inline]
     fn node_at(&self, cell: u32) -> Option<NodeId>
         ensures { result ≡ node_at self.now.nodes cell }
     {
-        let cell = cell as usize;
-        if cell < self.nodes { Some(cell) } else { None }
+        self.node_of(cell as usize)
     }
 }
 

@@ -16,7 +16,7 @@ use Rattle.execmodel.proofs.GivingWay.{asking_for_object_keeps}
 all_but_blocks : (m n : Memory) → without_blocks n ≡ without_blocks m → n ≡ record m { heap = n.heap }
 all_but_blocks m n same = ap (λ (x : Memory). record x { heap = n.heap }) same
 
-placed_same : (size : ℕ) (object : Object) (place : Option ℕ) (m : Memory) → without_blocks (placed size object place m) ≡ without_blocks m
+pub placed_same : (size : ℕ) (object : Object) (place : Option ℕ) (m : Memory) → without_blocks (placed size object place m) ≡ without_blocks m
 placed_same size object None m = refl
 placed_same size object (Some address) m = refl
 

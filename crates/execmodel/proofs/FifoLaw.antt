@@ -12,13 +12,13 @@ use Rattle.execmodel.specs.Step.{switches, ends, starts, events, run}
 use Rattle.execmodel.specs.Marks.{port_turn, turns_at_port}
 use Rattle.execmodel.specs.Laws.{FirstInFirstOut}
 use Rattle.execmodel.proofs.Queues.{Follows, IsOnce, follows_more, follows_once, in_order}
-use Rattle.execmodel.proofs.Itself.{does_itself}
+use Rattle.execmodel.proofs.Itself.{does_itself, call_works}
 use Rattle.execmodel.specs.Requests.{finishes}
 use Rattle.execmodel.proofs.Stretches.{Relation, HoldsOfEach, clock_gains, of_starts, of_events}
 use Rattle.execmodel.proofs.Commands.{body_alters}
 use Rattle.execmodel.proofs.Posts.{IsTidy}
 use Rattle.execmodel.proofs.Asking.{finishing, without_reply}
-use Rattle.execmodel.proofs.Works.{Works, by_moves, by_asking, by_taking, call_works}
+use Rattle.execmodel.proofs.Works.{Works, by_moves, by_asking, by_taking}
 use Rattle.execmodel.proofs.Fifo.{touched_follow, moves_follow, asked_follow, taken_follow}
 use Rattle.execmodel.proofs.TidyLaw.{tidies, rescheduled_tidy, booted_tidy, quietly, switches_quiet}
 

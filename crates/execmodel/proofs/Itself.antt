@@ -1,13 +1,18 @@
 -- A call by its word alone: what follows the word if it set system time is left out.
-use Rattle.std.proofs.Common.{ℕ, false, [], ap}
+use Rattle.std.proofs.Common.{[], ◌≡◌, ℕ, false, List, refl, ap}
 use Rattle.taskscript.specs.declared.word.Word.{Word}
 use Rattle.taskscript.specs.declared.word.Word.TheVariants as group
 use Rattle.taskscript.specs.declared.word.requests.RequestWord.{RequestWord}
-use Rattle.execmodel.specs.State.{Call, Timer, State, Outcome, andthen}
+use Rattle.execmodel.specs.State.{Call, Timer, Waiting, State, Outcome, andthen}
+use Rattle.execmodel.specs.Calls.{ByTask}
 use Rattle.execmodel.specs.Keeping.{Keeps, no_scripts, without_states, without_priorities, without_signals, without_nestings, without_caused, clock_alone}
 use Rattle.execmodel.specs.Requests.{does_requests, finishes_set}
 use Rattle.execmodel.specs.Step.{does, does_word}
-use Rattle.execmodel.proofs.Keeping.{plain_words_change_scripts, signal_words_change_signals_and_states, nesting_words_change_nestings, task_words_change_states_priorities_and_objects, list_words_change_the_memory, memory_words_change_the_memory, port_words_change_ports_signals_and_states, semaphore_words_change_states_and_objects, interrupt_words_change_what_is_caused, library_words_change_the_memory, request_words_keep}
+use Rattle.execmodel.proofs.Moves.{Makes}
+use Rattle.execmodel.proofs.Shifts.{Shifted}
+use Rattle.execmodel.proofs.Telling.{Tells}
+use Rattle.execmodel.proofs.Works.{Works, by_moves}
+use Rattle.execmodel.proofs.Words.{Facts, plain_facts, signals_facts, nesting_facts, tasks_facts, lists_facts, memory_facts, ports_facts, semaphores_facts, interrupts_facts, libraries_facts, requests_facts}
 
 abbrev pub word_itself : Word → ℕ → Call → State → Outcome
 word_itself (group.Requests word) t call s = does_requests word t call s
@@ -47,15 +52,65 @@ beside_word word s = record s {
   stopped = false;
 }
 
+-- what is known of any word
+record WordFacts (word : Word) (t : ℕ) (call : Call) (s : State) (o : Outcome) : Type 0 where
+  tells : Tells (ByTask t) call s o
+  works : call.word ≡ word → Works t call s o
+  tasks : call.word ≡ word → Shifted t call s o
+  keeps : beside_word word o.state ≡ beside_word word s
+
+-- of a word whose group leaves the timer as it is
+with_timer : {rest : State → State} (word : Word) (t : ℕ) (call : Call) (s : State) (o : Outcome) → Facts (Makes t call s) rest word t call s o
+    → beside_word word o.state ≡ beside_word word s → o.state.memory.timer.waiting ≡ s.memory.timer.waiting → WordFacts word t call s o
+with_timer word t call s o facts keeps same =
+    record { tells = facts.tells; works = λ is. by_moves (facts.blocks is) same; tasks = facts.tasks; keeps = keeps }
+
+abbrev waiting_of : State → List Waiting
+waiting_of s = s.memory.timer.waiting
+
+word_facts : (word : Word) (t : ℕ) (call : Call) (s : State) → WordFacts word t call s (word_itself word t call s)
+word_facts (group.Plain word) t call s =
+    let facts = plain_facts word t call s in
+    with_timer (group.Plain word) t call s _ facts (ap (beside_word (group.Plain word)) facts.keeps) (ap waiting_of facts.keeps)
+word_facts (group.Signals word) t call s =
+    let facts = signals_facts word t call s in
+    with_timer (group.Signals word) t call s _ facts (ap (beside_word (group.Signals word)) facts.keeps) (ap waiting_of facts.keeps)
+word_facts (group.Nesting word) t call s =
+    let facts = nesting_facts word t call s in
+    with_timer (group.Nesting word) t call s _ facts (ap (beside_word (group.Nesting word)) facts.keeps) (ap waiting_of facts.keeps)
+word_facts (group.Tasks word) t call s =
+    let facts = tasks_facts word t call s in
+    with_timer (group.Tasks word) t call s _ facts (ap (beside_word (group.Tasks word)) facts.keeps) (ap waiting_of facts.keeps)
+word_facts (group.Lists word) t call s =
+    let facts = lists_facts word t call s in
+    with_timer (group.Lists word) t call s _ facts (ap (beside_word (group.Lists word)) facts.keeps) (ap waiting_of facts.keeps)
+word_facts (group.Memory word) t call s =
+    let facts = memory_facts word t call s in
+    with_timer (group.Memory word) t call s _ facts (ap (beside_word (group.Memory word)) facts.keeps) (ap waiting_of facts.keeps)
+word_facts (group.Ports word) t call s =
+    let facts = ports_facts word t call s in
+    with_timer (group.Ports word) t call s _ facts (ap (beside_word (group.Ports word)) facts.keeps) (ap waiting_of facts.keeps)
+word_facts (group.Semaphores word) t call s =
+    let facts = semaphores_facts word t call s in
+    with_timer (group.Semaphores word) t call s _ facts (ap (beside_word (group.Semaphores word)) facts.keeps) (ap waiting_of facts.keeps)
+word_facts (group.Interrupts word) t call s =
+    let facts = interrupts_facts word t call s in
+    with_timer (group.Interrupts word) t call s _ facts (ap (beside_word (group.Interrupts word)) facts.keeps) (ap waiting_of facts.keeps)
+word_facts (group.Libraries word) t call s =
+    let facts = libraries_facts word t call s in
+    with_timer (group.Libraries word) t call s _ facts (ap (beside_word (group.Libraries word)) facts.keeps) (ap waiting_of facts.keeps)
+word_facts (group.Requests word) t call s =
+    let facts = requests_facts word t call s in
+    record { tells = facts.tells; works = λ is. (facts.blocks is).0; tasks = facts.tasks; keeps = ap (beside_word (group.Requests word)) facts.keeps }
+
 pub word_keeps : (word : Word) (t : ℕ) (call : Call) → Keeps (beside_word word) (word_itself word t call)
-word_keeps (group.Plain word) t call s = ap (beside_word (group.Plain word)) (plain_words_change_scripts word t call s)
-word_keeps (group.Signals word) t call s = ap (beside_word (group.Signals word)) (signal_words_change_signals_and_states word t call s)
-word_keeps (group.Nesting word) t call s = ap (beside_word (group.Nesting word)) (nesting_words_change_nestings word t call s)
-word_keeps (group.Tasks word) t call s = ap (beside_word (group.Tasks word)) (task_words_change_states_priorities_and_objects word t call s)
-word_keeps (group.Lists word) t call s = ap (beside_word (group.Lists word)) (list_words_change_the_memory word t call s)
-word_keeps (group.Memory word) t call s = ap (beside_word (group.Memory word)) (memory_words_change_the_memory word t call s)
-word_keeps (group.Ports word) t call s = ap (beside_word (group.Ports word)) (port_words_change_ports_signals_and_states word t call s)
-word_keeps (group.Semaphores word) t call s = ap (beside_word (group.Semaphores word)) (semaphore_words_change_states_and_objects word t call s)
-word_keeps (group.Interrupts word) t call s = ap (beside_word (group.Interrupts word)) (interrupt_words_change_what_is_caused word t call s)
-word_keeps (group.Libraries word) t call s = ap (beside_word (group.Libraries word)) (library_words_change_the_memory word t call s)
-word_keeps (group.Requests word) t call s = ap (beside_word (group.Requests word)) (request_words_keep word t call s)
+word_keeps word t call s = (word_facts word t call s).keeps
+
+pub word_tells : (word : Word) (t : ℕ) (call : Call) (s : State) → Tells (ByTask t) call s (word_itself word t call s)
+word_tells word t call s = (word_facts word t call s).tells
+
+pub call_works : (t : ℕ) (call : Call) (s : State) → Works t call s (does_itself t call s)
+call_works t call s = (word_facts call.word t call s).works refl
+
+pub call_shifts : (t : ℕ) (call : Call) (s : State) → Shifted t call s (does_itself t call s)
+call_shifts t call s = (word_facts call.word t call s).tasks refl

@@ -32,6 +32,7 @@ pub mod Received
 pub mod RequestsLaw
 pub mod Saying
 pub mod Servings
+pub mod Setting
 pub mod Settled
 pub mod Shifts
 pub mod Stopped
@@ -44,6 +45,7 @@ pub mod TidyLaw
 pub mod Versions
 pub mod Waiting
 pub mod WaitingLaw
+pub mod Words
 pub mod Works
 pub mod ShortWords
 pub mod ShortLines

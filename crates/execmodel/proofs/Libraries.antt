@@ -11,7 +11,7 @@ use Rattle.memlist.specs.declared.region.Region.{Region}
 use Rattle.memlist.specs.Memory.{IsWellFormed}
 use Rattle.memlist.proofs.Answered.{nat_eq-same, nat_eq-other, cases_eq, key_other}
 use Rattle.iorequest.specs.declared.request.Request.{Request as TimerRequest}
-use Rattle.execmodel.specs.Requests.{is_request, is_request_at, with_request}
+use Rattle.execmodel.specs.Requests.{is_request, is_request_at, with_request, finishes}
 use Rattle.execmodel.specs.State.{Call, Object, ListHead, Semaphore, Library, Request, Block, Heap, Waiting as Queued, Mark, State, Outcome, quiet, andthen, on_schedule}
 use Rattle.execmodel.specs.Calls.{next_call}
 use Rattle.scheduler.specs.Dispatch.{rescheduled}
@@ -26,16 +26,15 @@ use Rattle.execmodel.specs.Libraries.{is_library, is_library_at, library_number,
 use Rattle.execmodel.specs.Step.{switches, settle, ends, call_step, task_step, softint_or_task_step, acting, acts, step, tick, run}
 use Rattle.execmodel.specs.Laws.{Action, OneStep, OneTick, OneRequest, outcome_of, IsToCall, IsRemoval, IsLastClose, StaysLoaded, OpenLibrariesStay, UnaskedLibrariesStay}
 use Rattle.execmodel.proofs.Heaps.{block_remade, found_rid, rid, filled, true_is_not_false}
-use Rattle.execmodel.proofs.Itself.{does_itself, ends_followed}
+use Rattle.execmodel.proofs.Itself.{does_itself, ends_followed, call_works}
 use Rattle.execmodel.proofs.Formed.{placed_fresh, counted_formed, rid_formed}
 use Rattle.execmodel.proofs.Stretches.{Relation, HoldsOfInterrupts, of_softint, of_set, of_settle, of_request, ticked}
 use Rattle.execmodel.proofs.Commands.{Touches, remains, fills, puts, gets, body_alters}
 use Rattle.execmodel.proofs.Taking.{Takes, nothing, places, recounts, yields}
 use Rattle.execmodel.proofs.Moves.{MayExpunge, MayGo, Moves, touches, takes, frees, relists, unlinks, sets, enters, queues, hands, opens, releases, counts, expunges, drops}
-use Rattle.execmodel.specs.Requests.{finishes}
 use Rattle.execmodel.proofs.Posts.{IsTidy}
 use Rattle.execmodel.proofs.Asking.{Asks, writes, answers, written, without_reply, finishing}
-use Rattle.execmodel.proofs.Works.{Works, by_moves, by_asking, by_taking, call_works}
+use Rattle.execmodel.proofs.Works.{Works, by_moves, by_asking, by_taking}
 use Rattle.execmodel.proofs.TidyLaw.{quietly, switches_quiet, tidy_in_every_state}
 
 -- ---- a library is nothing else

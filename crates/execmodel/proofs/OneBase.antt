@@ -26,7 +26,7 @@ use Rattle.execmodel.specs.Libraries.{is_library, is_library_at, is_numbered, li
 use Rattle.execmodel.specs.Step.{switches, ends, run, starts}
 use Rattle.execmodel.specs.Laws.{LibrariesHaveOneBase}
 use Rattle.execmodel.proofs.Heaps.{block_remade, found_rid, rid, filled, true_is_not_false, object_remade, object_placed_here, object_placed_there}
-use Rattle.execmodel.proofs.Itself.{does_itself}
+use Rattle.execmodel.proofs.Itself.{does_itself, call_works}
 use Rattle.execmodel.proofs.Formed.{counted_formed, rid_formed}
 use Rattle.execmodel.proofs.Stretches.{Relation, HoldsOfEach, of_events, of_starts, clock_gains}
 use Rattle.execmodel.proofs.Commands.{Touches, remains, fills, puts, gets, body_alters, none_some}
@@ -34,7 +34,7 @@ use Rattle.execmodel.proofs.Taking.{IsNew, Takes, nothing, places, recounts, yie
 use Rattle.execmodel.proofs.Moves.{Moves, touches, takes, frees, relists, unlinks, sets, enters, queues, hands, opens, releases, counts, expunges, drops}
 use Rattle.execmodel.proofs.Posts.{IsTidy}
 use Rattle.execmodel.proofs.Asking.{Asks, writes, answers, written, without_reply, finishing}
-use Rattle.execmodel.proofs.Works.{Works, by_moves, by_asking, by_taking, call_works}
+use Rattle.execmodel.proofs.Works.{Works, by_moves, by_asking, by_taking}
 use Rattle.execmodel.proofs.TidyLaw.{quietly, switches_quiet, tidies, rescheduled_tidy, booted_tidy}
 
 -- library i is what was found

@@ -17,12 +17,11 @@ use Rattle.execmodel.specs.Deeds.{performs}
 use Rattle.execmodel.specs.Step.{switches, ends, starts, run}
 use Rattle.execmodel.specs.Laws.{EachByteHasOneOwner, FreeMemRefusesObjects}
 use Rattle.execmodel.proofs.Heaps.{true_is_not_false}
-use Rattle.execmodel.proofs.Itself.{does_itself}
+use Rattle.execmodel.proofs.Itself.{does_itself, call_works}
 use Rattle.execmodel.proofs.Stretches.{Relation, HoldsOfEach, of_starts, of_events}
 use Rattle.execmodel.proofs.Commands.{none_some, body_alters}
 use Rattle.execmodel.specs.Requests.{finishes}
 use Rattle.execmodel.proofs.Asking.{finishing}
-use Rattle.execmodel.proofs.Works.{call_works}
 use Rattle.execmodel.proofs.TidyLaw.{FormedState, works_regions, works_formed, altered_formed, finished_formed, booted_formed, quietly, switches_quiet}
 
 -- the regions stay, and the blocks stay well formed

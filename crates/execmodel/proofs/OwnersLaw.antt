@@ -15,13 +15,13 @@ use Rattle.execmodel.specs.Semaphores.{sem_of, waiters_of}
 use Rattle.execmodel.specs.Step.{switches, settle, ends, call_step, task_step, softint_or_task_step, acting, acts, step, tick, starts, run}
 use Rattle.execmodel.specs.Laws.{Action, OneStep, OneTick, OneRequest, outcome_of, IsLastRelease, OwnersChangeAtTheLastRelease, FreeSemaphoresHaveNoWaiters}
 use Rattle.execmodel.proofs.Heaps.{true_is_not_false}
-use Rattle.execmodel.proofs.Itself.{does_itself, ends_followed}
+use Rattle.execmodel.proofs.Itself.{does_itself, ends_followed, call_works}
 use Rattle.execmodel.proofs.Stretches.{Relation, HoldsOfInterrupts, HoldsOfEach, of_softint, of_set, of_settle, of_request, ticked, of_starts, of_events}
 use Rattle.execmodel.proofs.Commands.{body_alters}
 use Rattle.execmodel.specs.Requests.{finishes}
 use Rattle.execmodel.proofs.Posts.{IsTidy}
 use Rattle.execmodel.proofs.Asking.{finishing}
-use Rattle.execmodel.proofs.Works.{Works, by_moves, by_asking, by_taking, call_works}
+use Rattle.execmodel.proofs.Works.{Works, by_moves, by_asking, by_taking}
 use Rattle.execmodel.proofs.TidyLaw.{quietly, switches_quiet, tidy_in_every_state}
 use Rattle.execmodel.proofs.Owners.{AllIdle, Owns, owner_in, touched_idle, moves_idle, asked_idle, taken_idle, touched_own, moves_own, asked_own, taken_own}
 

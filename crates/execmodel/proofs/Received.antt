@@ -22,13 +22,13 @@ use Rattle.execmodel.specs.Step.{switches, ends, call_step, task_step, softint_o
 use Rattle.execmodel.specs.Laws.{OneStep, OneTick, OneRequest, IsToCall, is_own_taking, WaitersHaveReceivedNone, ReceivedSignalsStay}
 use Rattle.execmodel.proofs.Bits.{signal_joined}
 use Rattle.execmodel.proofs.Heaps.{true_is_not_false}
-use Rattle.execmodel.proofs.Itself.{does_itself, ends_followed}
+use Rattle.execmodel.proofs.Itself.{does_itself, ends_followed, call_shifts}
 use Rattle.execmodel.proofs.Stretches.{Relation, HoldsOfInterrupts, HoldsOfEach, of_softint, of_set, of_settle, of_request, ticked as ticked_stretch, of_starts, of_events}
 use Rattle.execmodel.proofs.TidyLaw.{quietly, switches_quiet}
 use Rattle.execmodel.specs.Requests.{finishes}
 use Rattle.execmodel.proofs.Asking.{finishing}
 use Rattle.execmodel.proofs.Commands.{Reaches, rests, posts, body_alters}
-use Rattle.execmodel.proofs.Shifts.{Shifts, call_shifts, reaches, rearrives, adds, takes, sleeps, asks, wakes, leaves, removes}
+use Rattle.execmodel.proofs.Shifts.{Shifts, reaches, rearrives, adds, takes, sleeps, asks, wakes, leaves, removes}
 use Rattle.execmodel.proofs.Agreement.{running_state, set_there, set_here, in_range, set_state, all_absent, got}
 use Rattle.execmodel.proofs.WaitingLaw.{IsSound, waits, clocked, booted_sound}
 

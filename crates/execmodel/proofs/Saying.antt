@@ -11,9 +11,9 @@ use Rattle.execmodel.specs.Step.{does, ends}
 use Rattle.execmodel.specs.Laws.{OnlySwitchesSaySo, says_switch}
 use Rattle.taskscript.specs.declared.word.Word.{Word}
 use Rattle.execmodel.proofs.BodyActions.{softint_bodily, set_told}
-use Rattle.execmodel.proofs.Itself.{word_itself, followed}
+use Rattle.execmodel.proofs.Itself.{word_itself, followed, word_tells}
 use Rattle.execmodel.proofs.Servings.{none_switched, switched_more, all_served}
-use Rattle.execmodel.proofs.Telling.{IsOwn, own, refusing, speaker, word_tells}
+use Rattle.execmodel.proofs.Telling.{IsOwn, own, refusing, speaker}
 
 -- an outcome without the line of a switch
 abbrev Silent : Outcome → Type 0

@@ -30,12 +30,12 @@ use Rattle.execmodel.specs.Ports.{performed, delivered, put_alert, port_alert, r
 use Rattle.execmodel.specs.Bodies.{does_plain_by, does_signals_by, does_ports_by, does_interrupts_by, does_word_by, does_in_body, body_step}
 use Rattle.execmodel.specs.Requests.{answering_port, acting_at, with_reply, ended, finishes}
 use Rattle.execmodel.specs.Interrupts.{softint_at, server_at}
-use Rattle.execmodel.proofs.Itself.{word_itself, does_itself, word_keeps}
+use Rattle.execmodel.proofs.Itself.{word_itself, does_itself, word_keeps, word_tells}
 use Rattle.execmodel.proofs.Commands.{performed_scripts}
 use Rattle.execmodel.proofs.ShortLines.{IsShort, IsShortText, AreShort, timer_short, call_short, alert_short}
 use Rattle.execmodel.proofs.ShortWords.{word_short}
 use Rattle.execmodel.proofs.ShortCalls.{IsBrief, HasArguments, task_call_has, body_call_has}
-use Rattle.execmodel.proofs.Telling.{AreBriefPrograms, IsOwn, own, refusing, word_tells, word_by_tells}
+use Rattle.execmodel.proofs.Telling.{AreBriefPrograms, IsOwn, own, refusing, word_by_tells}
 
 -- ---- short texts
 

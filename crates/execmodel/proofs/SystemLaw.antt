@@ -1,42 +1,32 @@
 -- System time goes with the clock, but if a request sets it.
-use Rattle.std.proofs.Common.{◌⊎◌, inl, inr, ◌≡◌, ℕ, ◌+◌, Bool, true, false, List, [], Option, None, Some, refl, sym, ap, ◌∙◌, subst, arith}
-use Rattle.std.specs.Prelude.{ℤ, pos, negsuc, ◌-ℤ◌, if◌then◌else◌, nat_eq}
+use Rattle.std.proofs.Common.{[], ◌⊎◌, inl, inr, ◌≡◌, ℕ, ◌+◌, Bool, true, false, Option, None, Some, refl, sym, ap, ◌∙◌, subst, arith}
+use Rattle.std.specs.Prelude.{pos, ◌-ℤ◌, if◌then◌else◌}
 use Rattle.std.proofs.lemmas.Int.{ints}
 use Rattle.execlist.specs.Disciplines.{by_arrival}
 use Rattle.softint.specs.declared.source.Source.TheVariants.{Vertb}
-use Rattle.msgport.specs.declared.action.Action.{Action}
-use Rattle.iorequest.specs.declared.request.ReqState.{ReqState}
-use Rattle.iorequest.specs.declared.request.ReqState.TheVariants.{Idle}
-use Rattle.iorequest.specs.declared.request.Begun.TheVariants.{Finish, Queue, Until, NewTime}
-use Rattle.iorequest.specs.Request.{is_under_way, is_to_wait, is_until, due_of, error_of, sets_time, time_of}
+use Rattle.iorequest.specs.Request.{sets_time, time_of}
 use Rattle.taskscript.specs.declared.word.Word.{Word}
 use Rattle.taskscript.specs.declared.word.Word.TheVariants as group
 use Rattle.taskscript.specs.declared.word.requests.RequestWord.{RequestWord}
 use Rattle.taskscript.specs.declared.word.requests.RequestWord.TheVariants as requests
 use Rattle.timerdev.specs.Timing.{offset}
-use Rattle.execmodel.specs.State.{Call, Timer, Memory, State, Outcome, quiet, andthen, on_schedule, on_memory}
+use Rattle.execmodel.specs.State.{Call, Timer, State, quiet, andthen, on_schedule}
 use Rattle.scheduler.specs.Dispatch.{rescheduled}
-use Rattle.execmodel.specs.Calls.{argument, done, answered, waiting, alerted, next_call, unless}
+use Rattle.execmodel.specs.Calls.{argument, next_call}
 use Rattle.execmodel.specs.Pending.{next_softint}
-use Rattle.execmodel.specs.Ports.{loses, performed as performed_action, port_alert}
-use Rattle.execmodel.specs.Semaphores.{is_tried_again}
-use Rattle.execmodel.specs.Requests.{is_request, request_size, request_of, request_alert, resting_alert, delete_request_alert, send_alert, do_alert, wait_io_alert, set_io_alert, answering_port, acting_at, with_reply, ended, timer_begun, begun_at, replying_port, looks_for, begins_and_looks, aborts, finishes_set, does_requests, does_create_io_request, does_delete_io_request, does_open_device, does_close_device, does_set_io, does_do_io, does_send_io, does_check_io, does_wait_io, does_abort_io, does_io_secs, does_io_micros, does_io_error, does_io_flags}
+use Rattle.execmodel.specs.Requests.{request_of, finishes_set, does_requests}
 use Rattle.execmodel.specs.Step.{switches, settle, ends, call_step, task_step, softint_or_task_step, acting, acts, step, tick, request, run}
 use Rattle.execmodel.specs.Laws.{Action as Act, OneStep, OneTick, OneRequest, outcome_of, IsSetting, SystemTimeGoesWithTheClock}
+use Rattle.execmodel.proofs.Setting.{Leaves, system_of}
+use Rattle.execmodel.proofs.Words.{requests_facts}
 use Rattle.execmodel.proofs.Itself.{word_itself, word_keeps, ends_followed}
 use Rattle.execmodel.proofs.Stretches.{Relation, HoldsOfInterrupts, clock_gains, of_softint, of_set, of_settle, of_request}
-use Rattle.execmodel.proofs.GivingWay.{asking_for_object_keeps}
-use Rattle.execmodel.proofs.Keeping.{either, unless_keeps, makes_keeps, asking_for_object}
-use Rattle.execmodel.proofs.Commands.{body_alters, performed_memory}
-use Rattle.execmodel.proofs.Asking.{finishing, state_of}
+use Rattle.execmodel.proofs.Commands.{body_alters}
+use Rattle.execmodel.proofs.Asking.{finishing}
 use Rattle.execmodel.proofs.ClockLaw.{word_stands}
 use Rattle.execmodel.proofs.TidyLaw.{quietly, switches_quiet}
 
 -- ---- but for ticks, and requests that set it, system time is
-
--- system time, as a part of a state
-abbrev system_of : State → ℕ
-system_of s = s.memory.timer.system
 
 -- the clock and system time are the same
 abbrev Stands : Relation
@@ -59,117 +49,6 @@ stands = record {
 
 -- ---- a call on requests
 
--- a call begins a request that sets system time, and that becomes its time
-record Sets (word : RequestWord) (request : ℕ) (s : State) (system : ℕ) : Type 0 where
-  begins : (word ≡ requests.SendIO) ⊎ (word ≡ requests.DoIO)
-  sets : sets_time (request_of request s.memory.heap) ≡ true
-  becomes : system ≡ time_of (request_of request s.memory.heap)
-
--- system time stays, or is set
-abbrev Leaves : RequestWord → ℕ → State → State → Type 0
-Leaves word request s r = (system_of r ≡ system_of s) ⊎ Sets word request s (system_of r)
-
-either_leaves : (P : State → Type 0) (test : Bool) (o p : Outcome) → P o.state → P p.state → P (if test then o else p).state
-either_leaves P true o p one other = one
-either_leaves P false o p one other = other
-
-unless_leaves : (P : State → Type 0) (alert : Option (List ℕ)) (t : ℕ) (call : Call) (effect : State → Outcome) (s : State)
-    → P (record s { stopped = true }) → P (effect s).state → P (unless alert t call effect s).state
-unfolding alerted
-unless_leaves P None t call effect s stops goes = goes
-unless_leaves P (Some code) t call effect s stops goes = stops
-
-abbrev begun_by : (sets waits until : Bool) (new at due : ℕ) (error : ℤ) → ℕ → Timer → Timer
-begun_by sets waits until new at due error request timer =
-    timer_begun (if sets then NewTime new else (if waits then (if until then Until at else Queue due) else Finish error)) request timer
-
-begun_tested : (sets waits until : Bool) (new at due : ℕ) (error : ℤ) (request : ℕ) (timer : Timer)
-    → ((begun_by sets waits until new at due error request timer).system ≡ timer.system)
-    ⊎ ((sets ≡ true) × ((begun_by sets waits until new at due error request timer).system ≡ new))
-begun_tested true waits until new at due error request timer = inr (refl, refl)
-begun_tested false true true new at due error request timer = inl refl
-begun_tested false true false new at due error request timer = inl refl
-begun_tested false false until new at due error request timer = inl refl
-
-begun_leaves : (word : RequestWord) (request : ℕ) (quick : Bool) (s r : State) → (word ≡ requests.SendIO) ⊎ (word ≡ requests.DoIO)
-    → r.memory.timer ≡ (begun_at quick request s.memory).timer → Leaves word request s r
-unfolding begun_at
-begun_leaves word request quick s r begins same =
-    let q = request_of request s.memory.heap in
-    let system = ap (λ (timer : Timer). timer.system) same in
-    elim (begun_tested (sets_time q) (is_to_wait s.memory.timer.system q) (is_until q) (time_of q) (time_of q)
-    (due_of s.memory.timer.clock q) (error_of q) request s.memory.timer) [
-      | inl stays ↦ inl (system ∙ stays)
-      | inr new ↦ inr (record { begins = begins; sets = new.0; becomes = system ∙ new.1 })
-    ]
-
-looks_same : (how : ReqState) (request t : ℕ) (call : Call) (s : State)
-    → (looks_for how request t call s).state.memory.timer ≡ s.memory.timer
-unfolding waiting answered
-looks_same Idle request t call s = refl
-looks_same _ request t call s = refl
-
-wait_io_same : (t : ℕ) (call : Call) (s : State) → system_of (does_wait_io t call s).state ≡ system_of s
-unfolding does_wait_io
-wait_io_same t call s =
-    unless_keeps system_of (wait_io_alert t (argument 0 call) s.memory.heap) t call _ s refl
-    (ap (λ (timer : Timer). timer.system)
-    (looks_same (request_of (argument 0 call) s.memory.heap).state (argument 0 call) t call (on_schedule (loses t call.awaited) s)))
-
-sends_leaves : (request t : ℕ) (call : Call) (port : Option ℕ) (act : Action) (s : State)
-    → Leaves requests.SendIO request s
-    (with_reply port request (done t call (performed_action act (on_memory (begun_at false request) s)))).state
-unfolding done
-sends_leaves request t call port act s =
-    let next = on_memory (begun_at false request) s in
-    let o = done t call (performed_action act next) in
-    begun_leaves requests.SendIO request false s (with_reply port request o).state (inl refl)
-    (ap (λ (r : State). r.memory.timer) (state_of port request o) ∙ ap (λ (m : Memory). m.timer) (performed_memory act next))
-
-aborts_same : (test : Bool) (request t : ℕ) (call : Call) (s : State) → system_of (aborts test request t call s).state ≡ system_of s
-unfolding answered ended
-aborts_same true request t call s =
-    let found = answering_port request s.memory.heap in
-    let act = acting_at found s.memory.heap in
-    let next = on_memory (ended (negsuc 1) request) s in
-    ap system_of (state_of found request (answered t call 0 (performed_action act next)))
-    ∙ ap (λ (m : Memory). m.timer.system) (performed_memory act next)
-aborts_same false request t call s = refl
-
-requests_leave : (word : RequestWord) (t : ℕ) (call : Call) (s : State)
-    → Leaves word (argument 0 call) s (does_requests word t call s).state
-unfolding does_create_io_request does_delete_io_request does_open_device does_close_device does_set_io does_do_io does_send_io does_check_io does_abort_io does_io_secs does_io_micros does_io_error does_io_flags done answered
-requests_leave requests.CreateIORequest t call s =
-    inl (either system_of _ (nat_eq (argument 0 call) 0) _ _ refl
-    (unless_keeps system_of (port_alert (argument 0 call) s.memory.heap) t call _ s refl
-    (makes_keeps system_of is_request request_size _ t call (asking_for_object is_request request_size s) refl (λ address. refl)
-    ∙ ap (λ (m : Memory). m.timer.system) (asking_for_object_keeps is_request request_size s.memory))))
-requests_leave requests.DeleteIORequest t call s =
-    inl (either system_of _ (nat_eq (argument 0 call) 0) _ _ refl
-    (unless_keeps system_of (delete_request_alert (argument 0 call) s.memory.heap) t call _ s refl refl))
-requests_leave requests.OpenDevice t call s =
-    inl (unless_keeps system_of (resting_alert (argument 2 call) s.memory.heap) t call _ s refl refl)
-requests_leave requests.CloseDevice t call s =
-    inl (unless_keeps system_of (resting_alert (argument 0 call) s.memory.heap) t call _ s refl refl)
-requests_leave requests.SetIO t call s =
-    inl (unless_keeps system_of (set_io_alert (argument 1 call) (argument 0 call) s.memory.heap) t call _ s refl refl)
-requests_leave requests.DoIO t call s =
-    let next = on_memory (begun_at true (argument 0 call)) s in
-    either_leaves (Leaves requests.DoIO (argument 0 call) s) (is_tried_again t s.scripts) _ _ (inl (wait_io_same t call s))
-    (unless_leaves (Leaves requests.DoIO (argument 0 call) s) (do_alert t (argument 0 call) s.memory.heap) t call _ s (inl refl)
-    (begun_leaves requests.DoIO (argument 0 call) true s (begins_and_looks (argument 0 call) t call s).state (inr refl)
-    (looks_same (request_of (argument 0 call) next.memory.heap).state (argument 0 call) t call next)))
-requests_leave requests.SendIO t call s =
-    let port = replying_port false (argument 0 call) s.memory in
-    unless_leaves (Leaves requests.SendIO (argument 0 call) s) (send_alert (argument 0 call) s.memory.heap) t call _ s (inl refl)
-    (sends_leaves (argument 0 call) t call port (acting_at port s.memory.heap) s)
-requests_leave requests.WaitIO t call s = inl (wait_io_same t call s)
-requests_leave requests.AbortIO t call s =
-    inl (unless_keeps system_of (request_alert (argument 0 call) s.memory.heap) t call _ s refl
-    (aborts_same (is_under_way (request_of (argument 0 call) s.memory.heap)) (argument 0 call) t call s))
-requests_leave _ t call s =
-    inl (unless_keeps system_of (request_alert (argument 0 call) s.memory.heap) t call _ s refl refl)
-
 -- ---- any call
 
 -- what a call does to system time
@@ -191,7 +70,7 @@ by_requests word call s r is (inr sets) = inr (record { begins = named word call
 word_leaves : (word : Word) (t : ℕ) (call : Call) (s : State) → call.word ≡ word
     → (system_of (word_itself word t call s).state ≡ system_of s) ⊎ SetsBy call s (system_of (word_itself word t call s).state)
 word_leaves (group.Requests word) t call s is =
-    by_requests word call s (does_requests word t call s).state is (requests_leave word t call s)
+    by_requests word call s (does_requests word t call s).state is ((requests_facts word t call s).blocks is).1
 word_leaves word t call s is = inl (ap system_of (word_keeps word t call s))
 
 -- ---- every action

@@ -15,14 +15,14 @@ use Rattle.execmodel.specs.Bodies.{body_step}
 use Rattle.execmodel.specs.Requests.{finishes}
 use Rattle.execmodel.specs.Step.{announced, switches, ends, starts, run}
 use Rattle.execmodel.proofs.Heaps.{true_is_not_false}
-use Rattle.execmodel.proofs.Itself.{does_itself}
+use Rattle.execmodel.proofs.Itself.{does_itself, call_works}
 use Rattle.execmodel.proofs.Stretches.{Relation, HoldsOfEach, of_starts, of_events}
 use Rattle.execmodel.proofs.Commands.{Alters, body_alters}
 use Rattle.execmodel.proofs.Posts.{AreInOrder, IsTidy, post_at}
 use Rattle.execmodel.proofs.Asking.{Finishing, finishing}
 use Rattle.execmodel.proofs.Formed.{touched_formed, moves_formed, asked_formed, taken_formed}
 use Rattle.execmodel.proofs.Tidy.{touched_order, moves_order, asked_order, taken_order}
-use Rattle.execmodel.proofs.Works.{Works, by_moves, by_asking, by_taking, call_works}
+use Rattle.execmodel.proofs.Works.{Works, by_moves, by_asking, by_taking}
 
 -- a switch leaves no mark, and the memory as it is
 pub announced_quiet : (c : Option Switch) (s : State) → ((announced c s).marks ≡ []) × ((announced c s).state ≡ s)

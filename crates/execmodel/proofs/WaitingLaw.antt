@@ -26,18 +26,18 @@ use Rattle.execlist.specs.Lists.{times}
 use Rattle.execlist.specs.Disciplines.{by_arrival}
 use Rattle.execmodel.specs.Laws.{QueuesAgreeWithTheSchedule, SemaphoresPassInOrder, times_waiting}
 use Rattle.execmodel.proofs.Queues.{Follows, IsOnce, follows_more, follows_once, in_order}
-use Rattle.execmodel.proofs.Itself.{does_itself}
+use Rattle.execmodel.proofs.Itself.{does_itself, call_works, call_shifts}
 use Rattle.execmodel.proofs.Stretches.{Relation, HoldsOfEach, clock_gains, of_starts, of_events}
 use Rattle.execmodel.proofs.Commands.{IsCalm, Reaches, rests, posts, body_alters}
 use Rattle.execmodel.specs.Requests.{finishes}
 use Rattle.execmodel.proofs.Posts.{IsTidy}
 use Rattle.execmodel.proofs.Asking.{finishing, without_reply}
-use Rattle.execmodel.proofs.Works.{Works, by_moves, by_asking, by_taking, call_works}
+use Rattle.execmodel.proofs.Works.{Works, by_moves, by_asking, by_taking}
 use Rattle.execmodel.proofs.TidyLaw.{tidies, rescheduled_tidy, booted_tidy, quietly, switches_quiet}
 use Rattle.execmodel.proofs.OwnersLaw.{called_idle}
 use Rattle.execmodel.proofs.Owners.{AllIdle, touched_idle, asked_idle}
 use Rattle.execmodel.proofs.Passing.{dropped_left, touched_pass, moves_pass, asked_pass, taken_pass}
-use Rattle.execmodel.proofs.Shifts.{Shifts, call_shifts, reaches, rearrives, adds, takes, sleeps, asks, wakes, leaves, removes}
+use Rattle.execmodel.proofs.Shifts.{Shifts, reaches, rearrives, adds, takes, sleeps, asks, wakes, leaves, removes}
 use Rattle.execmodel.proofs.Agreement.{AllAgree, all_absent, absent_agrees, alike_agrees, rearrives_agrees, added_agrees, signalled_agrees, stops_agrees, asks_agrees, wakes_agrees, removed_agrees, rescheduled_agrees, waits_at, running_state}
 use Rattle.execmodel.proofs.Waiting.{waits_at_one, runs_nowhere}
 use Rattle.execmodel.proofs.Versions.{word_settings}

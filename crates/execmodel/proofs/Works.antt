@@ -1,6 +1,6 @@
 -- What a call makes of the blocks and of the requests that wait: it makes one of a few things of the blocks, and the same requests wait; or a request
 -- asks something else, or is replied; or its reply is taken out of its port.
-use Rattle.std.proofs.Common.{◌≡◌, ◌≢◌, ℕ, ◌+◌, ◌<◌, Bool, true, false, List, [], ◌∷◌, ◌++◌, Option, None, Some, refl, sym, ap, ◌∙◌, subst, arith}
+use Rattle.std.proofs.Common.{[], ◌≡◌, ◌≢◌, ℕ, ◌+◌, ◌<◌, Bool, true, false, List, ◌∷◌, ◌++◌, Option, None, Some, refl, sym, ap, ◌∙◌, subst, arith}
 use Rattle.std.specs.Prelude.{ℤ, pos, negsuc, not, cond, ◌&&◌, ◌||◌, ◌==◌, if◌then◌else◌, nat_eq}
 use Rattle.std.specs.List.{list_any}
 use Rattle.std.specs.Option.{option_map}
@@ -16,29 +16,23 @@ use Rattle.iorequest.specs.declared.request.ReqState.TheVariants.{Replied}
 use Rattle.iorequest.specs.declared.request.Begun.{Begun}
 use Rattle.iorequest.specs.declared.request.Begun.TheVariants.{Finish, Queue, Until, NewTime}
 use Rattle.iorequest.specs.Request.{idle_request, is_under_way, is_to_wait, is_until, is_open, asks_time, sets_time, told, begun, finished, done_state, outcome, reply_port}
-use Rattle.taskscript.specs.declared.word.Word.{Word}
-use Rattle.taskscript.specs.declared.word.Word.TheVariants as group
-use Rattle.taskscript.specs.declared.word.requests.RequestWord.{RequestWord}
-use Rattle.taskscript.specs.declared.word.requests.RequestWord.TheVariants as requests
-use Rattle.execmodel.specs.State.{Call, Object, Request, Block, Heap, Due, AtClock, AtSystem, Waiting as Queued, Memory, Mark, out, put, State, Outcome, on_schedule, on_memory}
-use Rattle.execmodel.specs.Calls.{argument, done, answered, waiting, alerted, unless}
+use Rattle.execmodel.specs.State.{Call, Object, Request, Block, Heap, Due, AtClock, AtSystem, Memory, Mark, out, put, State, Outcome, on_schedule, on_memory}
+use Rattle.execmodel.specs.Calls.{done, answered, waiting}
 use Rattle.execmodel.specs.Objects.{object_at, is_kind, place_for_object}
 use Rattle.execmodel.specs.GivingWay.{after_asking_for_object}
 use Rattle.execmodel.specs.Memory.{extents, block_at, placed, makes_object}
-use Rattle.execmodel.specs.Ports.{is_port_at, is_queued, has_message, messages_in, messages_of, messages_of_object, loses, performed, port_alert, wait_alert}
-use Rattle.execmodel.specs.Semaphores.{is_tried_again}
-use Rattle.execmodel.specs.Requests.{is_request, is_request_at, request_size, request_of, request_of_object, with_request, opened_for, closed_device, with_command, is_command, request_alert, resting_alert, delete_request_alert, set_io_alert, can_begin, begin_alert, send_alert, do_alert, state_alert, wait_io_alert, answering_port, where_port, acting_at, appended_at, finished_at, with_reply, ended, heap_begun, timer_begun, outcome_at, begun_at, answering_begun, replying_port, reply_taken, looks_for, begins_and_looks, aborts, does_requests, does_create_io_request, does_delete_io_request, does_open_device, does_close_device, does_set_io, does_do_io, does_send_io, does_check_io, does_wait_io, does_abort_io, does_io_secs, does_io_micros, does_io_error, does_io_flags}
+use Rattle.execmodel.specs.Ports.{is_port_at, is_queued, has_message, messages_in, messages_of, messages_of_object, performed, port_alert, wait_alert}
+use Rattle.execmodel.specs.Requests.{is_request, is_request_at, request_size, request_of, request_of_object, with_request, is_command, resting_alert, delete_request_alert, set_io_alert, can_begin, begin_alert, send_alert, do_alert, state_alert, answering_port, where_port, acting_at, appended_at, finished_at, with_reply, ended, heap_begun, timer_begun, outcome_at, begun_at, answering_begun, replying_port, reply_taken, looks_for, begins_and_looks, aborts}
 use Rattle.execmodel.specs.Agreement.{once_if}
 use Rattle.execmodel.specs.Laws.{times_waiting}
 use Rattle.execmodel.proofs.Heaps.{true_is_not_false}
-use Rattle.execmodel.proofs.Itself.{word_itself, does_itself, word_keeps}
 use Rattle.execmodel.proofs.GivingWay.{asking_for_object_keeps}
 use Rattle.execmodel.proofs.Queues.{IsAway}
 use Rattle.execmodel.proofs.Posts.{Post, APort, post_at, messages_at, is_a_port, may_stand, IsTidy, messages_are, request_is, port_is, request_there}
 use Rattle.execmodel.proofs.Asking.{Asks, writes, IsLoose, IsRewritten, ports_written, request_written, written_again, waits_last, finished_rests, answering, reply_marks, reply_asks, ended_asks, without_reply}
 use Rattle.execmodel.proofs.Fifo.{is_away}
 use Rattle.execmodel.proofs.Commands.{none_some, passed_first, passed_other, is_port_there, performed_memory}
-use Rattle.execmodel.proofs.Moves.{Makes, MayGo, IsUnneeded, frees, stays, both_true, mail_unneeded, object_makes, plain_makes, signals_make, nesting_makes, tasks_make, lists_make, memory_makes, ports_make, semaphores_make, interrupts_make, libraries_make}
+use Rattle.execmodel.proofs.Moves.{Makes, MayGo, IsUnneeded, stays, both_true, mail_unneeded, object_makes}
 
 pub data Works (t : ℕ) (call : Call) (s : State) (o : Outcome) : Type 0 where
   by_moves : Makes t call s o → o.state.memory.timer.waiting ≡ s.memory.timer.waiting → Works t call s o
@@ -47,19 +41,6 @@ pub data Works (t : ℕ) (call : Call) (s : State) (o : Outcome) : Type 0 where
       → o.marks ≡ out port request ∷ [] → o.state.memory.heap ≡ without_reply port request s.memory.heap
       → (IsTidy s → is_port_at port s.memory.heap ≡ true) → Works t call s o
 
--- ---- calls that may be refused
-
-either_works : (t : ℕ) (call : Call) (s : State) (test : Bool) (o p : Outcome) → (test ≡ true → Works t call s o) → (test ≡ false → Works t call s p)
-    → Works t call s (if test then o else p)
-either_works t call s true o p one other = one refl
-either_works t call s false o p one other = other refl
-
-unless_works : (t : ℕ) (call : Call) (s : State) (alert : Option (List ℕ)) (effect : State → Outcome)
-    → (alert ≡ None → Works t call s (effect s)) → Works t call s (unless alert t call effect s)
-unfolding alerted
-unless_works t call s None effect works = works refl
-unless_works t call s (Some code) effect works = by_moves (refl, stays) refl
-
 -- ---- requests made and freed
 
 placed_waiting : (size : ℕ) (object : Object) (place : Option ℕ) (memory : Memory)
@@ -67,7 +48,7 @@ placed_waiting : (size : ℕ) (object : Object) (place : Option ℕ) (memory : M
 placed_waiting size object None memory = refl
 placed_waiting size object (Some address) memory = refl
 
-created_works : (t : ℕ) (call : Call) (port : ℕ) (s : State)
+pub created_works : (t : ℕ) (call : Call) (port : ℕ) (s : State)
     → Works t call s (makes_object t call is_request request_size (Request (idle_request port)) (on_memory (after_asking_for_object is_request request_size) s))
 created_works t call port s =
     let asked = after_asking_for_object is_request request_size s.memory in
@@ -81,14 +62,14 @@ request_goes (Some (Request content)) rests is = rests
 request_goes (Some _) rests is = true_is_not_false (sym is)
 
 -- a request that is not under way is to be there
-is_resting_there : (request : ℕ) (heap : Heap) → resting_alert request heap ≡ None
+pub is_resting_there : (request : ℕ) (heap : Heap) → resting_alert request heap ≡ None
     → (is_request_at request heap ≡ true) × (is_under_way (request_of request heap) ≡ false)
 unfolding resting_alert
 is_resting_there request heap none =
     let there = passed_first (is_request_at request heap) _ _ none in
     (there.0, (passed_other (is_under_way (request_of request heap)) _ _ there.1).0)
 
-is_settable_there : (command request : ℕ) (heap : Heap) → set_io_alert command request heap ≡ None
+pub is_settable_there : (command request : ℕ) (heap : Heap) → set_io_alert command request heap ≡ None
     → (is_request_at request heap ≡ true) × (is_under_way (request_of request heap) ≡ false)
 unfolding set_io_alert
 is_settable_there command request heap none =
@@ -96,7 +77,7 @@ is_settable_there command request heap none =
     let value = passed_first (is_command command) _ _ there.1 in
     (there.0, (passed_other (is_under_way (request_of request heap)) _ _ value.1).0)
 
-goes_there : (request : ℕ) (heap : Heap) → delete_request_alert request heap ≡ None → MayGo (object_at request heap) × IsUnneeded request heap
+pub goes_there : (request : ℕ) (heap : Heap) → delete_request_alert request heap ≡ None → MayGo (object_at request heap) × IsUnneeded request heap
 unfolding delete_request_alert
 goes_there request heap none =
     let there = passed_first (is_request_at request heap) _ _ none in
@@ -108,7 +89,7 @@ goes_there request heap none =
 
 -- ---- a request that is not under way, before and after
 
-resting_rewritten : (request : ℕ) (content : TimerRequest) (s : State) → is_request_at request s.memory.heap ≡ true
+pub resting_rewritten : (request : ℕ) (content : TimerRequest) (s : State) → is_request_at request s.memory.heap ≡ true
     → content.port ≡ (request_of request s.memory.heap).port → is_under_way (request_of request s.memory.heap) ≡ false → is_under_way content ≡ false
     → IsTidy s → IsRewritten request content s.memory.timer.waiting s
 resting_rewritten request content s there port was rests tidy = record {
@@ -123,11 +104,11 @@ resting_rewritten request content s there port was rests tidy = record {
 -- ---- a request begins
 
 -- it is there, not under way, is in no port, and its reply port lives
-record MayBegin (request : ℕ) (heap : Heap) : Type 0 where
-  there : is_request_at request heap ≡ true
-  rests : is_under_way (request_of request heap) ≡ false
-  loose : is_queued request heap ≡ false
-  lives : is_port_at (request_of request heap).port heap ≡ true
+pub record MayBegin (request : ℕ) (heap : Heap) : Type 0 where
+  pub there : is_request_at request heap ≡ true
+  pub rests : is_under_way (request_of request heap) ≡ false
+  pub loose : is_queued request heap ≡ false
+  pub lives : is_port_at (request_of request heap).port heap ≡ true
 
 not_true : (b : Bool) → not b ≡ true → b ≡ false
 not_true true e = sym e
@@ -147,7 +128,7 @@ may_begin of_port request heap none port =
       lives = port loose.1;
     }
 
-may_send : (request : ℕ) (heap : Heap) → send_alert request heap ≡ None → MayBegin request heap
+pub may_send : (request : ℕ) (heap : Heap) → send_alert request heap ≡ None → MayBegin request heap
 unfolding send_alert
 may_send request heap none =
     may_begin (port_alert (request_of request heap).port heap) request heap none (is_port_there (request_of request heap).port heap)
@@ -156,7 +137,7 @@ is_awaitable_there : (t port : ℕ) (heap : Heap) → wait_alert t port heap ≡
 unfolding wait_alert
 is_awaitable_there t port heap none = (passed_first (is_port_at port heap) _ _ none).0
 
-may_do : (t request : ℕ) (heap : Heap) → do_alert t request heap ≡ None → MayBegin request heap
+pub may_do : (t request : ℕ) (heap : Heap) → do_alert t request heap ≡ None → MayBegin request heap
 unfolding do_alert
 may_do t request heap none =
     may_begin (wait_alert t (request_of request heap).port heap) request heap none (is_awaitable_there t (request_of request heap).port heap)
@@ -328,7 +309,7 @@ acted_regions : (act : Action) (s : State) (memory : Memory) → memory.regions 
     → (performed act (record s { memory = memory })).memory.regions ≡ s.memory.regions
 acted_regions act s memory same = ap (λ (m : Memory). m.regions) (performed_memory act (record s { memory = memory })) ∙ same
 
-sends_works : (t : ℕ) (call : Call) (request : ℕ) (s : State) → MayBegin request s.memory.heap
+pub sends_works : (t : ℕ) (call : Call) (request : ℕ) (s : State) → MayBegin request s.memory.heap
     → Works t call s (with_reply (replying_port false request s.memory) request
     (done t call (performed (acting_at (replying_port false request s.memory) s.memory.heap) (on_memory (begun_at false request) s))))
 unfolding done replying_port begun_at
@@ -339,7 +320,7 @@ sends_works t call request s may =
     (acted_regions act s (begun_at false request s.memory) refl)
     (acted_asks act (reply_marks port request) s (begun_at false request s.memory) (begin_asks false request s may (outcome_at request s.memory)))
 
-aborts_works : (test : Bool) (t : ℕ) (call : Call) (request : ℕ) (s : State) → is_under_way (request_of request s.memory.heap) ≡ test
+pub aborts_works : (test : Bool) (t : ℕ) (call : Call) (request : ℕ) (s : State) → is_under_way (request_of request s.memory.heap) ≡ test
     → Works t call s (aborts test request t call s)
 unfolding answered
 aborts_works true t call request s e =
@@ -422,7 +403,7 @@ replied_there : (test : Bool) (code : List ℕ) → (if test then None else Some
 replied_there true code e = refl
 replied_there false code e = none_some e
 
-waits_works : (how : ReqState) (t : ℕ) (call : Call) (request : ℕ) (f : Schedule → Schedule) (s : State)
+pub waits_works : (how : ReqState) (t : ℕ) (call : Call) (request : ℕ) (f : Schedule → Schedule) (s : State)
     → (request_of request s.memory.heap).state ≡ how → is_request_at request s.memory.heap ≡ true → state_alert how t request s.memory.heap ≡ None
     → Works t call s (looks_for how request t call (on_schedule f s))
 unfolding waiting answered reply_taken
@@ -431,13 +412,6 @@ waits_works Replied t call request f s e there none =
     (queued_lives request s there (replied_there (is_queued request s.memory.heap) _ none))
 waits_works _ t call request f s e there none = by_moves (refl, stays) refl
 
-wait_io_works : (t : ℕ) (call : Call) (s : State) → Works t call s (does_wait_io t call s)
-unfolding does_wait_io wait_io_alert
-wait_io_works t call s =
-    unless_works t call s (wait_io_alert t (argument 0 call) s.memory.heap) _
-    (λ none. let there = passed_first (is_request_at (argument 0 call) s.memory.heap) _ _ none in
-    waits_works (request_of (argument 0 call) s.memory.heap).state t call (argument 0 call) (loses t call.awaited) s refl there.0 there.1)
-
 looks_works : (how : ReqState) (t : ℕ) (call : Call) (request : ℕ) (s : State) (memory : Memory) → is_replied how ≡ false
     → memory.regions ≡ s.memory.regions → Asks s [] memory.heap memory.timer.waiting
     → Works t call s (looks_for how request t call (record s { memory = memory }))
@@ -445,7 +419,7 @@ unfolding waiting answered is_replied
 looks_works Replied t call request s memory quiet regions asks = true_is_not_false quiet
 looks_works _ t call request s memory quiet regions asks = by_asking regions asks
 
-begins_works : (t : ℕ) (call : Call) (request : ℕ) (s : State) → MayBegin request s.memory.heap
+pub begins_works : (t : ℕ) (call : Call) (request : ℕ) (s : State) → MayBegin request s.memory.heap
     → Works t call s (begins_and_looks request t call s)
 unfolding begun_at
 begins_works t call request s may =
@@ -454,63 +428,3 @@ begins_works t call request s may =
     looks_works (request_of request next.heap).state t call request s next quiet.none_replied refl
     (subst (λ found. Asks s (reply_marks found request) next.heap next.timer.waiting) quiet.answers_none
     (begin_asks true request s may (outcome_at request s.memory)))
-
--- ---- the words of requests
-
-requests_work : (word : RequestWord) (t : ℕ) (call : Call) (s : State) → Works t call s (does_requests word t call s)
-unfolding does_create_io_request does_delete_io_request does_open_device does_close_device does_set_io does_do_io does_send_io does_check_io does_abort_io does_io_secs does_io_micros does_io_error does_io_flags opened_for closed_device with_command done answered
-requests_work requests.CreateIORequest t call s =
-    either_works t call s (nat_eq (argument 0 call) 0) _ _ (λ is. by_moves (refl, stays) refl)
-    (λ is. unless_works t call s (port_alert (argument 0 call) s.memory.heap) _ (λ none. created_works t call (argument 0 call) s))
-requests_work requests.DeleteIORequest t call s =
-    either_works t call s (nat_eq (argument 0 call) 0) _ _ (λ is. by_moves (refl, stays) refl)
-    (λ is. unless_works t call s (delete_request_alert (argument 0 call) s.memory.heap) _
-    (λ none. let goes = goes_there (argument 0 call) s.memory.heap none in
-    by_moves (refl, frees (argument 0 call) goes.0 goes.1) refl))
-requests_work requests.OpenDevice t call s =
-    unless_works t call s (resting_alert (argument 2 call) s.memory.heap) _
-    (λ none. let there = is_resting_there (argument 2 call) s.memory.heap none in
-    by_asking refl (writes (argument 2 call) _ _ (resting_rewritten (argument 2 call) _ s there.0 refl there.1 there.1)))
-requests_work requests.CloseDevice t call s =
-    unless_works t call s (resting_alert (argument 0 call) s.memory.heap) _
-    (λ none. let there = is_resting_there (argument 0 call) s.memory.heap none in
-    by_asking refl (writes (argument 0 call) _ _ (resting_rewritten (argument 0 call) _ s there.0 refl there.1 there.1)))
-requests_work requests.SetIO t call s =
-    unless_works t call s (set_io_alert (argument 1 call) (argument 0 call) s.memory.heap) _
-    (λ none. let there = is_settable_there (argument 1 call) (argument 0 call) s.memory.heap none in
-    by_asking refl (writes (argument 0 call) _ _ (resting_rewritten (argument 0 call) _ s there.0 refl there.1 there.1)))
-requests_work requests.DoIO t call s =
-    either_works t call s (is_tried_again t s.scripts) _ _ (λ is. wait_io_works t call s)
-    (λ is. unless_works t call s (do_alert t (argument 0 call) s.memory.heap) _
-    (λ none. begins_works t call (argument 0 call) s (may_do t (argument 0 call) s.memory.heap none)))
-requests_work requests.SendIO t call s =
-    unless_works t call s (send_alert (argument 0 call) s.memory.heap) _
-    (λ none. sends_works t call (argument 0 call) s (may_send (argument 0 call) s.memory.heap none))
-requests_work requests.WaitIO t call s = wait_io_works t call s
-requests_work requests.AbortIO t call s =
-    unless_works t call s (request_alert (argument 0 call) s.memory.heap) _
-    (λ none. aborts_works (is_under_way (request_of (argument 0 call) s.memory.heap)) t call (argument 0 call) s refl)
-requests_work _ t call s =
-    unless_works t call s (request_alert (argument 0 call) s.memory.heap) _ (λ none. by_moves (refl, stays) refl)
-
--- ---- any word
-
--- a word of the other groups leaves the timer as it is
-abbrev waiting_of : State → List Queued
-waiting_of s = s.memory.timer.waiting
-
-word_works : (word : Word) (t : ℕ) (call : Call) (s : State) → call.word ≡ word → Works t call s (word_itself word t call s)
-word_works (group.Plain word) t call s is = by_moves (plain_makes word t call s) (ap waiting_of (word_keeps (group.Plain word) t call s))
-word_works (group.Signals word) t call s is = by_moves (signals_make word t call s) (ap waiting_of (word_keeps (group.Signals word) t call s))
-word_works (group.Nesting word) t call s is = by_moves (nesting_makes word t call s) (ap waiting_of (word_keeps (group.Nesting word) t call s))
-word_works (group.Tasks word) t call s is = by_moves (tasks_make word t call s) (ap waiting_of (word_keeps (group.Tasks word) t call s))
-word_works (group.Lists word) t call s is = by_moves (lists_make word t call s) (ap waiting_of (word_keeps (group.Lists word) t call s))
-word_works (group.Memory word) t call s is = by_moves (memory_makes word t call s) (ap waiting_of (word_keeps (group.Memory word) t call s))
-word_works (group.Ports word) t call s is = by_moves (ports_make word t call s) (ap waiting_of (word_keeps (group.Ports word) t call s))
-word_works (group.Semaphores word) t call s is = by_moves (semaphores_make word t call s is) (ap waiting_of (word_keeps (group.Semaphores word) t call s))
-word_works (group.Interrupts word) t call s is = by_moves (interrupts_make word t call s) (ap waiting_of (word_keeps (group.Interrupts word) t call s))
-word_works (group.Libraries word) t call s is = by_moves (libraries_make word t call s is) (ap waiting_of (word_keeps (group.Libraries word) t call s))
-word_works (group.Requests word) t call s is = requests_work word t call s
-
-pub call_works : (t : ℕ) (call : Call) (s : State) → Works t call s (does_itself t call s)
-call_works t call s = word_works call.word t call s refl

@@ -69,7 +69,7 @@ without_blocks_system_and_waiting memory = record memory { heap = []; timer = cl
 abbrev pub without_caused : Pending → Pending
 without_caused pending = record pending { caused = [] }
 
--- ---- what the words of a group leave: a state in which all that they may change is blanked out
+-- ---- what the words of a group leave: a state in which all that they may change is blanked out, and what the tasks execute
 
 abbrev pub beside_plain : ℕ → State → State
 beside_plain t s = record s { scripts = without_progress_of t s.scripts }
@@ -136,6 +136,10 @@ beside_tasks s = record s {
   stopped = false;
 }
 
+-- the same, but of what the tasks execute only the shared variables, and the progress of task t, are blanked out
+abbrev pub and_progress_of : ℕ → (State → State) → State → State
+and_progress_of t rest s = record (rest s) { scripts = without_progress_of t s.scripts }
+
 -- ---- the laws
 
 -- an action leaves a part of the state as it is
@@ -146,35 +150,35 @@ abbrev pub PlainWordsChangeScripts : Type 0
 PlainWordsChangeScripts = (word : PlainWord) (t : ℕ) (call : Call) → Keeps (beside_plain t) (does_plain word t call)
 
 abbrev pub SignalWordsChangeSignalsAndStates : Type 0
-SignalWordsChangeSignalsAndStates = (word : SignalWord) (t : ℕ) (call : Call) → Keeps beside_signals (does_signals word t call)
+SignalWordsChangeSignalsAndStates = (word : SignalWord) (t : ℕ) (call : Call) → Keeps (and_progress_of t beside_signals) (does_signals word t call)
 
 abbrev pub NestingWordsChangeNestings : Type 0
-NestingWordsChangeNestings = (word : NestingWord) (t : ℕ) (call : Call) → Keeps beside_nestings (does_nesting word t call)
+NestingWordsChangeNestings = (word : NestingWord) (t : ℕ) (call : Call) → Keeps (and_progress_of t beside_nestings) (does_nesting word t call)
 
 abbrev pub TaskWordsChangeStatesPrioritiesAndObjects : Type 0
-TaskWordsChangeStatesPrioritiesAndObjects = (word : TaskWord) (t : ℕ) (call : Call) → Keeps beside_tasks (does_tasks word t call)
+TaskWordsChangeStatesPrioritiesAndObjects = (word : TaskWord) (t : ℕ) (call : Call) → Keeps (and_progress_of t beside_tasks) (does_tasks word t call)
 
 abbrev pub ListWordsChangeTheMemory : Type 0
-ListWordsChangeTheMemory = (word : ListWord) (t : ℕ) (call : Call) → Keeps beside_memory (does_lists word t call)
+ListWordsChangeTheMemory = (word : ListWord) (t : ℕ) (call : Call) → Keeps (and_progress_of t beside_memory) (does_lists word t call)
 
 abbrev pub MemoryWordsChangeTheMemory : Type 0
-MemoryWordsChangeTheMemory = (word : MemoryWord) (t : ℕ) (call : Call) → Keeps beside_memory (does_memory word t call)
+MemoryWordsChangeTheMemory = (word : MemoryWord) (t : ℕ) (call : Call) → Keeps (and_progress_of t beside_memory) (does_memory word t call)
 
 abbrev pub PortWordsChangePortsSignalsAndStates : Type 0
-PortWordsChangePortsSignalsAndStates = (word : PortWord) (t : ℕ) (call : Call) → Keeps beside_ports (does_ports word t call)
+PortWordsChangePortsSignalsAndStates = (word : PortWord) (t : ℕ) (call : Call) → Keeps (and_progress_of t beside_ports) (does_ports word t call)
 
 abbrev pub SemaphoreWordsChangeStatesAndObjects : Type 0
 SemaphoreWordsChangeStatesAndObjects =
-    (word : SemaphoreWord) (t : ℕ) (call : Call) → Keeps beside_semaphores (does_semaphores word t call)
+    (word : SemaphoreWord) (t : ℕ) (call : Call) → Keeps (and_progress_of t beside_semaphores) (does_semaphores word t call)
 
 abbrev pub InterruptWordsChangeWhatIsCaused : Type 0
 InterruptWordsChangeWhatIsCaused =
-    (word : InterruptWord) (t : ℕ) (call : Call) → Keeps beside_interrupts (does_interrupts word t call)
+    (word : InterruptWord) (t : ℕ) (call : Call) → Keeps (and_progress_of t beside_interrupts) (does_interrupts word t call)
 
 abbrev pub LibraryWordsChangeTheMemory : Type 0
-LibraryWordsChangeTheMemory = (word : LibraryWord) (t : ℕ) (call : Call) → Keeps beside_memory (does_libraries word t call)
+LibraryWordsChangeTheMemory = (word : LibraryWord) (t : ℕ) (call : Call) → Keeps (and_progress_of t beside_memory) (does_libraries word t call)
 
 -- what follows the word itself, if it set system time, is of it
 abbrev pub RequestWordsChangeRequestsPortsSignalsAndStates : Type 0
 RequestWordsChangeRequestsPortsSignalsAndStates =
-    (word : RequestWord) (t : ℕ) (call : Call) → Keeps beside_requests (andthen (does_requests word t call) finishes_set)
+    (word : RequestWord) (t : ℕ) (call : Call) → Keeps (and_progress_of t beside_requests) (andthen (does_requests word t call) finishes_set)

@@ -15,14 +15,14 @@ pub fn an_alert_ends_all()
         → andthen first (unless_stopped next) s ≡ first s }
 {}
 
-/// The words of a group change their part of the state, and leave all else as it is: plain words the shared variables, and of the
-/// programs the caller's progress alone (its place, its variables and the call that it waits in). Words of signals change signals and
-/// which tasks are ready, running or waiting; words of nesting the nestings; words of lists, memory and libraries the blocks of memory and the
-/// objects in them; words of ports these, which ports are public, signals, which tasks are ready, running or waiting, and which software
-/// interrupts are caused; words of semaphores the objects and which tasks are ready, running or waiting, words of tasks these and the
-/// priorities, and words of interrupts which software interrupts are caused; words of requests the objects, which requests wait for the timer,
-/// system time, signals, which tasks are ready, running or waiting, and which software interrupts are caused, but neither the clock nor
-/// which ports are public. Each word may change the scripts, and an alert stops the machine.
+/// The words of a group change their part of the state, and leave all else as it is. Of what the tasks execute each word changes the shared
+/// variables and the caller's progress alone (its place, its variables and the call that it waits in), and plain words change nothing else. Words
+/// of signals change signals and which tasks are ready, running or waiting; words of nesting the nestings; words of lists, memory and libraries
+/// the blocks of memory and the objects in them; words of ports these, which ports are public, signals, which tasks are ready, running or waiting,
+/// and which software interrupts are caused; words of semaphores the objects and which tasks are ready, running or waiting, words of tasks these
+/// and the priorities, and words of interrupts which software interrupts are caused; words of requests the objects, which requests wait for the
+/// timer, system time, signals, which tasks are ready, running or waiting, and which software interrupts are caused, but neither the clock nor
+/// which ports are public. An alert stops the machine.
 pub fn each_group_keeps_to_its_part()
     ensures plain { PlainWordsChangeScripts }
     ensures signals { SignalWordsChangeSignalsAndStates }

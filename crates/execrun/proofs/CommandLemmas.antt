@@ -1,7 +1,7 @@
--- What two calls of `arg` make of a command.
-use Rattle.std.proofs.Common.{◌≡◌, ◌∙◌, zero, suc, List, [], ◌∷◌, true, false, Option, refl, sym, ap, ap₂, subst, inl, inr, arith, slice_index, codes, is_some}
+-- What two calls of `arg` make of a command, here and in the programs that take the same two paths.
+use Rattle.std.proofs.Common.{◌≡◌, ◌<◌, ◌∙◌, Bool, ℕ, zero, suc, List, [], ◌∷◌, true, false, Option, refl, sym, ap, ap₂, subst, inl, inr, arith, slice_index, codes, is_some}
 use Rattle.std.specs.List.{All}
-use Rattle.clap.specs.Words.{IsPlainArg, Text, app_of, args_of, first_of, first_value, found_of, groups_of, is_simple, is_simple_and_free, matches_of, rule_of, with_rule, AddsArg, HasMatchesOf}
+use Rattle.clap.specs.Words.{IsPlainArg, Text, app_of, args_of, first_of, first_value, found_of, App, IsParsedFrom, groups_of, is_simple, is_simple_and_free, matches_of, rule_of, with_rule, AddsArg, HasMatchesOf}
 use Rattle.clap.specs.Built.{FitsChain, HasDistinctIds, TakesValue}
 use Rattle.clap.specs.declared.builder.arg.Arg.{Arg}
 use Rattle.clap.specs.declared.builder.command.Command.{Command}
@@ -10,44 +10,44 @@ use Rattle.clap.specs.declared.parser.matches.ArgMatches.{ArgMatches}
 use Rattle.clap.proofs.CallerLemmas.{required_in_chain}
 use Rattle.clap.proofs.OnLiterals.{clap_on_literals}
 use Rattle.clap.proofs.WalkLemmas.{first_value-rows}
-use Rattle.execrun.specs.CommandLine.{TakesTwoPaths, nameless_app, path_rule, two_paths}
+use Rattle.execrun.specs.CommandLine.{nameless_app, path_rule, paths_app, two_paths}
 
--- an argument of this name that has to be given, and takes one value
-pub record IsPath (name : Text) (a : Arg) : Type 0 where
+-- the argument of that name, which has to be given if it is required
+pub record IsPath (name : Text) (required : Bool) (a : Arg) : Type 0 where
   pub id : a.id.now ≡ name
-  pub rule : rule_of a ≡ path_rule name
+  pub rule : rule_of a ≡ path_rule name required
   pub plain : IsPlainArg a × (a.global ≡ false)
-  pub value : TakesValue a
+  pub value : required ≡ true → TakesValue a
 
--- a command with no argument yet, whose words begin with no name of the program
-pub record IsBare (c : Command) : Type 0 where
-  pub app : app_of c ≡ nameless_app
+abbrev pub IsMachine : Arg → Type 0
+IsMachine = IsPath (codes "MACHINE") true
+
+abbrev pub IsEvents : Bool → Arg → Type 0
+IsEvents = IsPath (codes "EVENTS")
+
+-- the command of a program with no argument yet, whose words begin with no name of it
+pub record IsBare (program : Text) (c : Command) : Type 0 where
+  pub app : app_of c ≡ nameless_app program
   pub args : args_of c ≡ []
   pub groups : groups_of c ≡ []
   pub globals : (out-Command c).has_globals ≡ false
   pub negates : (out-Command c).subcommand_negates_reqs ≡ false
 
-fits_machine : (a : Arg) → IsPath (codes "MACHINE") a → FitsChain a
-fits_machine a p =
-    let first : (t : Text) → a.id.now ≡ t → slice_index t 0 ≡ 77 = λ t e. rw (← e, p.id) refl in (
-      p.plain.0,
-      p.plain.1,
-      (λ e. let bad : 0 ≡ 77 = first [] e in absurd (omega arith)),
-      (λ auto. elim auto [
-        | inl h ↦ let bad : 104 ≡ 77 = first _ h in absurd (omega arith)
-        | inr h ↦ let bad : 118 ≡ 77 = first _ h in absurd (omega arith)
-      ]),
-    )
+-- a command of a program that takes both paths, the second if it has to be given
+pub record TakesBoth (program : Text) (required : Bool) (c : Command) : Type 0 where
+  pub app : app_of c ≡ paths_app program required
+  pub machine : (m : ArgMatches) → IsParsedFrom c m → is_some (first_value (found_of m) (codes "MACHINE")) ≡ true
+  pub events : required ≡ true → (m : ArgMatches) → IsParsedFrom c m → is_some (first_value (found_of m) (codes "EVENTS")) ≡ true
 
-fits_events : (a : Arg) → IsPath (codes "EVENTS") a → FitsChain a
-fits_events a p =
-    let first : (t : Text) → a.id.now ≡ t → slice_index t 0 ≡ 69 = λ t e. rw (← e, p.id) refl in (
+fits : (name : Text) (required : Bool) (a : Arg) (n : ℕ) → IsPath name required a → slice_index name 0 ≡ n → 0 < n → n < 104 → FitsChain a
+fits name required a n p is least most =
+    let first : (t : Text) → a.id.now ≡ t → slice_index t 0 ≡ n = λ t e. rw (← e, p.id) is in (
       p.plain.0,
       p.plain.1,
-      (λ e. let bad : 0 ≡ 69 = first [] e in absurd (omega arith)),
+      (λ e. let bad : 0 ≡ n = first [] e in absurd (omega arith)),
       (λ auto. elim auto [
-        | inl h ↦ let bad : 104 ≡ 69 = first _ h in absurd (omega arith)
-        | inr h ↦ let bad : 118 ≡ 69 = first _ h in absurd (omega arith)
+        | inl h ↦ let bad : 104 ≡ n = first _ h in absurd (omega arith)
+        | inr h ↦ let bad : 118 ≡ n = first _ h in absurd (omega arith)
       ]),
     )
 
@@ -56,7 +56,7 @@ all_fit a b fa fb zero d lt = fa
 all_fit a b fa fb (suc zero) d lt = fb
 all_fit a b fa fb (suc (suc k)) d lt = absurd (omega arith)
 
-distinct : (a b : Arg) → IsPath (codes "MACHINE") a → IsPath (codes "EVENTS") b → HasDistinctIds (a ∷ b ∷ [])
+distinct : {required : Bool} (a b : Arg) → IsMachine a → IsEvents required b → HasDistinctIds (a ∷ b ∷ [])
 distinct a b p q zero zero d e lt lt' same = refl
 distinct a b p q (suc zero) (suc zero) d e lt lt' same = refl
 distinct a b p q zero (suc zero) d e lt lt' same =
@@ -68,20 +68,22 @@ distinct a b p q (suc zero) zero d e lt lt' same =
 distinct a b p q (suc (suc j)) k d e lt lt' same = absurd (omega arith)
 distinct a b p q j (suc (suc k)) d e lt lt' same = absurd (omega arith)
 
-pub takes_two_paths : (start mid cmd : Command) (a b : Arg) → IsBare start → IsPath (codes "MACHINE") a → IsPath (codes "EVENTS") b
-    → AddsArg start a mid → AddsArg mid b cmd → TakesTwoPaths cmd
-takes_two_paths start mid cmd a b bare p q first second = record {
-  app = second.shape q.plain.1 ∙ ap₂ with_rule (first.shape p.plain.1 ∙ ap₂ with_rule bare.app p.rule) q.rule;
-  machine = λ m parsed. subst (λ (id : Text). is_some (first_value (found_of m) id) ≡ true) p.id
-      (required_in_chain start cmd (a ∷ b ∷ []) 0 a m (mid, first, (cmd, second, refl)) bare.args bare.groups bare.globals bare.negates
-      (all_fit a b (fits_machine a p) (fits_events b q)) (distinct a b p q) (omega arith) p.value parsed);
-  events = λ m parsed. subst (λ (id : Text). is_some (first_value (found_of m) id) ≡ true) q.id
-      (required_in_chain start cmd (a ∷ b ∷ []) 1 b m (mid, first, (cmd, second, refl)) bare.args bare.groups bare.globals bare.negates
-      (all_fit a b (fits_machine a p) (fits_events b q)) (distinct a b p q) (omega arith) q.value parsed);
-}
+pub takes_both : (program : Text) (required : Bool) (start mid cmd : Command) (a b : Arg) → IsBare program start → IsMachine a → IsEvents required b
+    → AddsArg start a mid → AddsArg mid b cmd → TakesBoth program required cmd
+takes_both program required start mid cmd a b bare p q first second =
+    let all = all_fit a b (fits _ _ a 77 p refl (omega arith) (omega arith)) (fits _ _ b 69 q refl (omega arith) (omega arith)) in
+    record {
+      app = second.shape q.plain.1 ∙ ap₂ with_rule (first.shape p.plain.1 ∙ ap₂ with_rule bare.app p.rule) q.rule;
+      machine = λ m parsed. subst (λ (id : Text). is_some (first_value (found_of m) id) ≡ true) p.id
+          (required_in_chain start cmd (a ∷ b ∷ []) 0 a m (mid, first, (cmd, second, refl)) bare.args bare.groups bare.globals bare.negates
+          all (distinct a b p q) (omega arith) (p.value refl) parsed);
+      events = λ given m parsed. subst (λ (id : Text). is_some (first_value (found_of m) id) ≡ true) q.id
+          (required_in_chain start cmd (a ∷ b ∷ []) 1 b m (mid, first, (cmd, second, refl)) bare.args bare.groups bare.globals bare.negates
+          all (distinct a b p q) (omega arith) (q.value given) parsed);
+    }
 
 -- clap's own account of a parse holds of this command
-is_simple_here : is_simple two_paths ≡ true
+pub is_simple_here : is_simple two_paths ≡ true
 unfolding clap_on_literals
 is_simple_here = refl
 
@@ -90,8 +92,8 @@ unfolding clap_on_literals
 is_simple_and_free_here = refl
 
 -- the value of a name is the one that the words give it
-pub given_value : (cmd : Command) (m : ArgMatches) (words : List Text) (name : Text) (value : Option Text) → app_of cmd ≡ two_paths
-    → HasMatchesOf (app_of cmd) words m → value ≡ first_value (found_of m) name → first_of name (matches_of two_paths words) ≡ value
-given_value cmd m words name value app matches same =
-    sym (ap (λ a. first_of name (matches_of a words)) app)
-    ∙ (sym (ap (first_of name) (matches (ap is_simple app ∙ is_simple_here)).0) ∙ (sym (first_value-rows (found_of m) name) ∙ sym same))
+pub given_value : (app : App) → is_simple app ≡ true → (cmd : Command) (m : ArgMatches) (words : List Text) (name : Text) (value : Option Text) → app_of cmd ≡ app
+    → HasMatchesOf (app_of cmd) words m → value ≡ first_value (found_of m) name → first_of name (matches_of app words) ≡ value
+given_value app simple cmd m words name value is matches same =
+    sym (ap (λ a. first_of name (matches_of a words)) is)
+    ∙ (sym (ap (first_of name) (matches (ap is_simple is ∙ simple)).0) ∙ (sym (first_value-rows (found_of m) name) ∙ sym same))

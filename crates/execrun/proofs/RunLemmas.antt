@@ -32,7 +32,7 @@ lacks_memory kinds error none (inl memory) = memory
 lacks_memory [] error none (inr among) = absurd among
 lacks_memory (k ∷ ks) error none (inr among) = cc
 
-pub runs_out_of_memory : {W : Type 0} (text_at : TextAt) (words : List Text) (held : W → Held) (old new : W) (error : Error) (ending : Ending) → AreRight words
+pub runs_out_of_memory : {W : Type 0} (text_at : TextAt) (words : List Text) (held : W → Held) (old new : W) (error : Error) (ending : Ending) → AreRight two_paths words
     → HasKind (clap.fault_of two_paths words) error → (kind_of error ≡ OutOfMemory → ending ≡ Failed NoMemory)
     → (kind_of error ≡ OutOfMemory → new ≡ old) → RunsWords text_at words (held old) (held new) ending
 runs_out_of_memory text_at words held old new error ending right failed ends kept =

@@ -1,5 +1,5 @@
 //! The command line: two paths.
-ghost use Rattle.std.specs.Prelude.{◌≡◌, ◌⊎◌, IfErr, IfOk, OnOk, false};
+ghost use Rattle.std.specs.Prelude.{◌≡◌, ◌⊎◌, IfErr, IfOk, OnOk, false, true};
 ghost use Rattle.std.specs.Io.KnownBytes.{Appends};
 ghost use Rattle.clap.specs.Words.{FailsBy, IsPlainArg, fault_of, kind_of, rule_of};
 ghost use Rattle.clap.specs.Built.{TakesValue};
@@ -26,7 +26,7 @@ pub struct Paths<'a> {
 /// A path that has to be given.
 fn path<'a>(alloc: Global, name: &'a str, help: &'a str) -> Arg<'a>
     ensures id { result.id ≡ name.entry }
-    ensures rule { rule_of result ≡ path_rule name.entry.now }
+    ensures rule { rule_of result ≡ path_rule name.entry.now true }
     ensures plain { IsPlainArg result × (result.global ≡ false) }
     ensures value { TakesValue result }
 {

@@ -16,5 +16,6 @@ pub use command_line::Paths;
 pub use ending::{Ending, Status, report, say};
 pub use execsim::FILE_LIMIT;
 pub use fault::Fault;
+pub use files::read_text;
 pub use running::{run, run_on_texts};
 pub use texts::{SystemTexts, Texts};

@@ -35,36 +35,6 @@ fn write_at(cells: &mut [u8; PAGE], at: usize, bytes: &[u8])
     cells[at..at + bytes.len()].copy_from_slice(bytes);
 }
 
-/// Writes bytes over the cells from a place on, by the first ones and by the last ones, of that width.
-#[inline(always)]
-fn write_ends(cells: &mut [u8; PAGE], at: usize, bytes: &[u8], width: usize)
-    requires room { at + length bytes.now ≤ PAGE }
-    requires wide { width ≤ length bytes.now }
-    requires narrow { length bytes.now ≤ width + width }
-    ensures { take (at + length bytes.now) cells.new ≡ take at cells.old ++ bytes.now }
-{
-    let rest = bytes.len() - width;
-    write_at(cells, at, &bytes[..width]);
-    write_at(cells, at + rest, &bytes[rest..]);
-}
-
-/// Writes bytes over the cells from a place on. Most are a line of 16 to 64 bytes, which is written in two moves of one width, that may overlap, so
-/// that nothing is called.
-#[inline(always)]
-fn write_line(cells: &mut [u8; PAGE], at: usize, bytes: &[u8])
-    requires { at + length bytes.now ≤ PAGE }
-    ensures { take (at + length bytes.now) cells.new ≡ take at cells.old ++ bytes.now }
-{
-    let len = bytes.len();
-    if len < 16 || len > 64 {
-        write_at(cells, at, bytes);
-    } else if len <= 32 {
-        write_ends(cells, at, bytes, 16);
-    } else {
-        write_ends(cells, at, bytes, 32);
-    }
-}
-
 impl Page {
     /// An empty page.
     fn new() -> Self
@@ -93,7 +63,7 @@ impl Page {
         if bytes.len() > PAGE - len {
             return false;
         }
-        write_line(&mut self.cells, len, bytes);
+        write_at(&mut self.cells, len, bytes);
         self.len = len + bytes.len();
         true
     }

@@ -3,7 +3,7 @@ ghost use Rattle.std.specs.Prelude.{◌≡◌, ◌≢◌, ◌≤◌, ◌⊎◌};
 ghost use Rattle.std.specs.Io.KnownBytes.{Keeps};
 ghost use Rattle.clap.specs.Walk.{texts as words_of};
 ghost use Rattle.clap.specs.Words.{kind_of};
-ghost use Rattle.execrun.specs.CommandLine.{AreRefused, AreRight, AskForHelp};
+ghost use Rattle.execrun.specs.CommandLine.{AreRefused, AreRight, AskForHelp, two_paths};
 ghost use Rattle.execrun.specs.Ending.{status_of};
 ghost use Rattle.execrun.specs.Texts.{nothing_told};
 ghost use Rattle.execrun.specs.Running.{EndsRun, Grows, IsOneOf, ReadsNothing, RunsFiles, RunsWords, WritesTrace, WritesWhole, answer_of};
@@ -107,11 +107,11 @@ fn ending_of<'a, T: Texts, W: Write>(
     words: &'a [&'a str],
     out: &mut W,
 ) -> Ending<'a>
-    ensures right { AreRight (words_of words.now) → status_of result ≢ Status.CommandLineRefused }
-    ensures refused { AreRefused (words_of words.now)
+    ensures right { AreRight two_paths (words_of words.now) → status_of result ≢ Status.CommandLineRefused }
+    ensures refused { AreRefused two_paths (words_of words.now)
         → (status_of result ≡ Status.CommandLineRefused) ⊎ (result ≡ Ending.Failed Fault.NoMemory) }
-    ensures runs { AreRight (words_of words.now) → RunsWords (T.text_at texts.now) (words_of words.now) (W.contents out.old) (W.contents out.new) result }
-    ensures help { AskForHelp (words_of words.now)
+    ensures runs { AreRight two_paths (words_of words.now) → RunsWords (T.text_at texts.now) (words_of words.now) (W.contents out.old) (W.contents out.new) result }
+    ensures help { AskForHelp two_paths (words_of words.now)
         → ((result ≡ Ending.Done) × Grows (W.contents out.old) (W.contents out.new)) ⊎ (status_of result ≡ Status.Failed) }
     ensures untouched { status_of result ≡ Status.CommandLineRefused → out.new ≡ out.old }
 {
@@ -133,14 +133,14 @@ pub fn run_on_texts<T: Texts, W: Write, E: Write>(
     err: &mut E,
 ) -> u8
     ensures status { result ≤ 4 }
-    ensures right { AreRight (words_of words.now) → result ≢ 2 }
+    ensures right { AreRight two_paths (words_of words.now) → result ≢ 2 }
     // A command line is also refused when out of memory, with 4.
-    ensures refused { AreRefused (words_of words.now) → (result ≡ 2) ⊎ (result ≡ 4) }
-    ensures runs { AreRight (words_of words.now) → EndsRun (T.text_at texts.now) (words_of words.now) (W.contents out.old) (W.contents out.new) result }
-    ensures ran { AreRight (words_of words.now) → result ≡ 0 → WritesWhole (T.text_at texts.now) (words_of words.now) (W.contents out.old) (W.contents out.new) End.Ran }
-    ensures alerted { AreRight (words_of words.now) → result ≡ 3 → WritesWhole (T.text_at texts.now) (words_of words.now) (W.contents out.old) (W.contents out.new) End.Alerted }
-    ensures refused_text { AreRight (words_of words.now) → result ≡ 1 → Keeps (W.contents out.old) (W.contents out.new) }
-    ensures help { AskForHelp (words_of words.now) → ((result ≡ 0) × Grows (W.contents out.old) (W.contents out.new)) ⊎ (result ≡ 4) }
+    ensures refused { AreRefused two_paths (words_of words.now) → (result ≡ 2) ⊎ (result ≡ 4) }
+    ensures runs { AreRight two_paths (words_of words.now) → EndsRun (T.text_at texts.now) (words_of words.now) (W.contents out.old) (W.contents out.new) result }
+    ensures ran { AreRight two_paths (words_of words.now) → result ≡ 0 → WritesWhole (T.text_at texts.now) (words_of words.now) (W.contents out.old) (W.contents out.new) End.Ran }
+    ensures alerted { AreRight two_paths (words_of words.now) → result ≡ 3 → WritesWhole (T.text_at texts.now) (words_of words.now) (W.contents out.old) (W.contents out.new) End.Alerted }
+    ensures refused_text { AreRight two_paths (words_of words.now) → result ≡ 1 → Keeps (W.contents out.old) (W.contents out.new) }
+    ensures help { AskForHelp two_paths (words_of words.now) → ((result ≡ 0) × Grows (W.contents out.old) (W.contents out.new)) ⊎ (result ≡ 4) }
     ensures silent { (result ≡ 0) ⊎ (result ≡ 3) → err.new ≡ err.old }
     ensures untouched { result ≡ 2 → out.new ≡ out.old }
 {
@@ -159,14 +159,14 @@ pub fn run<R: Files, W: Write, E: Write>(
     err: &mut E,
 ) -> u8
     ensures status { result ≤ 4 }
-    ensures right { AreRight (words_of words.now) → result ≢ 2 }
+    ensures right { AreRight two_paths (words_of words.now) → result ≢ 2 }
     // A command line is also refused when out of memory, with 4.
-    ensures refused { AreRefused (words_of words.now) → (result ≡ 2) ⊎ (result ≡ 4) }
-    ensures runs { AreRight (words_of words.now) → EndsRun nothing_told (words_of words.now) (W.contents out.old) (W.contents out.new) result }
-    ensures ran { AreRight (words_of words.now) → result ≡ 0 → WritesWhole nothing_told (words_of words.now) (W.contents out.old) (W.contents out.new) End.Ran }
-    ensures alerted { AreRight (words_of words.now) → result ≡ 3 → WritesWhole nothing_told (words_of words.now) (W.contents out.old) (W.contents out.new) End.Alerted }
-    ensures refused_text { AreRight (words_of words.now) → result ≡ 1 → Keeps (W.contents out.old) (W.contents out.new) }
-    ensures help { AskForHelp (words_of words.now) → ((result ≡ 0) × Grows (W.contents out.old) (W.contents out.new)) ⊎ (result ≡ 4) }
+    ensures refused { AreRefused two_paths (words_of words.now) → (result ≡ 2) ⊎ (result ≡ 4) }
+    ensures runs { AreRight two_paths (words_of words.now) → EndsRun nothing_told (words_of words.now) (W.contents out.old) (W.contents out.new) result }
+    ensures ran { AreRight two_paths (words_of words.now) → result ≡ 0 → WritesWhole nothing_told (words_of words.now) (W.contents out.old) (W.contents out.new) End.Ran }
+    ensures alerted { AreRight two_paths (words_of words.now) → result ≡ 3 → WritesWhole nothing_told (words_of words.now) (W.contents out.old) (W.contents out.new) End.Alerted }
+    ensures refused_text { AreRight two_paths (words_of words.now) → result ≡ 1 → Keeps (W.contents out.old) (W.contents out.new) }
+    ensures help { AskForHelp two_paths (words_of words.now) → ((result ≡ 0) × Grows (W.contents out.old) (W.contents out.new)) ⊎ (result ≡ 4) }
     ensures silent { (result ≡ 0) ⊎ (result ≡ 3) → err.new ≡ err.old }
     ensures untouched { result ≡ 2 → out.new ≡ out.old }
 {

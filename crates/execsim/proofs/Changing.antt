@@ -20,7 +20,7 @@ use Rattle.execmodel.specs.State.{Call, Scripts, State, program_of}
 use Rattle.execmodel.specs.Calls.{argument, call_of, done, evaluated, goes_on, next_call, number_in, silent, stored}
 use Rattle.execmodel.specs.Plain.{does_set, does_add, does_sub, does_and, does_or, jumps, does_jump, does_jump_zero, does_jump_not_zero, does_print}
 use Rattle.execmodel.specs.Step.{call_step, does, does_word, task_step}
-use Rattle.execsim.specs.Changes.{PutsPrint, changes}
+use Rattle.execsim.specs.Changes.{DoesBy, PutsPrint, changes}
 use Rattle.execsim.specs.Agreement.{Seen, Follows, line_seen}
 use Rattle.execsim.specs.declared.change.Change.{Change}
 use Rattle.execsim.proofs.Calling.{map-map_as, next-command}
@@ -153,3 +153,16 @@ unfolding does does_print
 printed_as {m} t next puts is = task_step_as t (Some puts.call) puts.is
     (follows_as {g = done t puts.call} (λ s e. ap (λ w. does_word w t puts.call s) puts.prints)
     (follows_done t puts.call (is ∙ ap (λ (k : ℕ). record m { scripts = goes_on t k m.scripts }) (sym puts.behind)) puts.line))
+
+-- ---- either
+
+-- what is done next is a plain word that prints nothing, or another word
+pub does_by_change : (m : Seen) (tape : Tape) (t : ℕ) (change : Option Change)
+    → IfSome change (λ change. (s : State) → call_step t (next_call t m.scripts) s ≡ changes t change s)
+    → IfSome change (λ change. DoesBy t change m tape tape)
+does_by_change m tape t None is = _
+does_by_change m tape t (Some change) is = record { follows = λ n e. changed_as t change is (follows_changes t change tape refl e) }
+
+-- what is done next is a Print whose line is put
+pub does_by_print : {m : Seen} {a b : Tape} (t next : ℕ) → PutsPrint t next m a b → DoesBy t (record { target = None; value = 0; next = next }) m a b
+does_by_print t next puts = record { follows = λ n e. printed_as t next puts e }

@@ -21,8 +21,7 @@ use Rattle.execmodel.specs.Keeping.{clock_alone}
 use Rattle.execmodel.specs.Pending.{source_named}
 use Rattle.execmodel.specs.Step.{ends, switches, announced, steps, request, tick, ticks, starts, event, events}
 use Rattle.timerdev.specs.Timing.{ticked}
-use Rattle.execmodel.proofs.Itself.{does_itself, word_itself}
-use Rattle.execmodel.proofs.Keeping as words
+use Rattle.execmodel.proofs.Itself.{does_itself, word_itself, word_keeps}
 use Rattle.execmodel.proofs.Stretches.{HoldsOfEach, HoldsOfInterrupts, of_request, of_starts, of_steps}
 use Rattle.execsim.specs.Agreement.{Seen, Agrees, FollowsWhileGood}
 use Rattle.execsim.specs.Reached.{IsReached, after_start}
@@ -40,17 +39,8 @@ Stands s marks r = clock_alone r.memory.timer ≡ clock_alone s.memory.timer
 -- a word of the running task moves no clock by itself
 word_stands : (is : Word) (t : ℕ) (call : Call) (s : State)
     → clock_alone (word_itself is t call s).state.memory.timer ≡ clock_alone s.memory.timer
-word_stands (word.Plain is) t call s = ap (λ (x : State). clock_alone x.memory.timer) (words.plain_words_change_scripts is t call s)
-word_stands (word.Signals is) t call s = ap (λ (x : State). clock_alone x.memory.timer) (words.signal_words_change_signals_and_states is t call s)
-word_stands (word.Nesting is) t call s = ap (λ (x : State). clock_alone x.memory.timer) (words.nesting_words_change_nestings is t call s)
-word_stands (word.Tasks is) t call s = ap (λ (x : State). clock_alone x.memory.timer) (words.task_words_change_states_priorities_and_objects is t call s)
-word_stands (word.Lists is) t call s = ap (λ (x : State). clock_alone x.memory.timer) (words.list_words_change_the_memory is t call s)
-word_stands (word.Memory is) t call s = ap (λ (x : State). clock_alone x.memory.timer) (words.memory_words_change_the_memory is t call s)
-word_stands (word.Ports is) t call s = ap (λ (x : State). clock_alone x.memory.timer) (words.port_words_change_ports_signals_and_states is t call s)
-word_stands (word.Semaphores is) t call s = ap (λ (x : State). clock_alone x.memory.timer) (words.semaphore_words_change_states_and_objects is t call s)
-word_stands (word.Interrupts is) t call s = ap (λ (x : State). clock_alone x.memory.timer) (words.interrupt_words_change_what_is_caused is t call s)
-word_stands (word.Libraries is) t call s = ap (λ (x : State). clock_alone x.memory.timer) (words.library_words_change_the_memory is t call s)
-word_stands (word.Requests is) t call s = ap (λ (x : State). clock_alone x.memory.timer) (words.request_words_keep is t call s)
+word_stands (word.Requests is) t call s = ap (λ (x : State). clock_alone x.memory.timer) (word_keeps (word.Requests is) t call s)
+word_stands is t call s = ap (λ (x : State). clock_alone x.memory.timer) (word_keeps is t call s)
 
 called_stands : (t : ℕ) (call : Call) (s : State) → clock_alone (does_itself t call s).state.memory.timer ≡ clock_alone s.memory.timer
 called_stands t call s = word_stands call.word t call s

@@ -165,10 +165,6 @@ pub then_step : {m n o : Seen} {a b c : Tape} (k : ℕ) → Follows (steps k) m 
 then_step k before last = follows_as {g = andthen (steps k) step}
     (λ s e. steps_then k 1 s ∙ same_end (steps k) s) (follows_then before last)
 
--- some steps after some
-pub follows_steps : {m n o : Seen} {a b c : Tape} (i k : ℕ) → Follows (steps i) m n a b → Follows (steps k) n o b c → Follows (steps (i + k)) m o a c
-follows_steps i k before last = follows_as {g = andthen (steps i) (steps k)} (λ s e. steps_then i k s) (follows_then before last)
-
 pub no_step : (m : Seen) (tape : Tape) → Follows (steps 0) m m tape tape
 unfolding steps
 no_step m tape = follows_nothing m tape

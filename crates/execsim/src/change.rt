@@ -7,7 +7,7 @@ ghost use Rattle.execmodel.specs.State.{State};
 ghost use Rattle.execmodel.specs.Calls.{argument, call_of, evaluated, goes_on, next_call, number_in, stored};
 ghost use Rattle.execmodel.specs.Step.{call_step, does, task_step};
 ghost use Rattle.execsim.specs.Callers.{HasTask};
-ghost use Rattle.execsim.specs.Changes.{ChangesScripts, PutsPrint, changes};
+ghost use Rattle.execsim.specs.Changes.{ChangesScripts, DoesBy, changes};
 ghost use Rattle.execsim.specs.Agreement.{Follows, line_seen};
 ghost use Rattle.taskscript.specs.Commands.{argument_view, command_view};
 
@@ -178,11 +178,30 @@ impl<S: ListSpace> Kernel<S> {
         put_short_call(name, "Print", shown, &command.name, CallOutcome::Done, out);
     }
 
-    /// Puts the line of what task t does next, if that is Print and the sink is good. The answer is the place at which the task is to go on.
+    /// Puts the line of a Print of task t, if the sink is good. The answer is whether it is.
     #[inline(always)]
-    fn put_print<W: Sink>(&self, t: TaskId, out: &mut W) -> Option<usize>
+    fn put_print<W: Sink>(&self, t: TaskId, command: &Command, out: &mut W) -> bool
+        requires known { HasTask t self.now }
+        requires prints { command.now.word ≡ Plain PlainWord.Print }
+        ensures puts { IsTrue result → (next : ℕ) → Puts (W.tape out.old) (W.tape out.new)
+            (printed_line (line_seen t (call_of t next (command_view command.now) self.now.scripts) Done self.now)) }
+        ensures nothing { result ≡ false → W.tape out.new ≡ W.tape out.old }
+    {
+        match written(out) {
+            Err(_) => false,
+            Ok(()) => {
+                self.say_print(t, command, out);
+                true
+            }
+        }
+    }
+
+    /// What task t changes by what it does next, if that is a plain word. The line of a Print is put before; if the sink is not good, the
+    /// answer is none.
+    #[inline(always)]
+    fn put_plain<W: Sink>(&self, t: TaskId, out: &mut W) -> Option<Change>
         requires { HasTask t self.now }
-        ensures puts { IfSome result (λ next. PutsPrint t next self.now (W.tape out.old) (W.tape out.new)) }
+        ensures does { IfSome result (λ change. DoesBy t change self.now (W.tape out.old) (W.tape out.new)) }
         ensures nothing { result ≡ None → W.tape out.new ≡ W.tape out.old }
     {
         let program = self.program(t);
@@ -191,13 +210,18 @@ impl<S: ListSpace> Kernel<S> {
             None => match program.command() {
                 None => None,
                 Some(command) => match command.word {
-                    Word::Plain(PlainWord::Print) => match written(out) {
-                        Err(_) => None,
-                        Ok(()) => {
-                            self.say_print(t, command, out);
-                            Some(program.next())
+                    Word::Plain(PlainWord::Print) => {
+                        if self.put_print(t, command, out) {
+                            Some(Change {
+                                target: None,
+                                value: 0,
+                                next: program.next(),
+                            })
+                        } else {
+                            None
                         }
-                    },
+                    }
+                    Word::Plain(word) => self.change_of(t, word, command, program.next()),
                     _ => None,
                 },
             },
@@ -221,18 +245,18 @@ impl<S: ListSpace> Kernel<S> {
         }
     }
 
-    /// Task t does what it does next, if that is Print and the sink is good. The answer is whether it did.
+    /// Task t does what it does next, if that is a plain word, and if the sink is good in case it prints. The answer is whether it did.
     #[inline(always)]
-    pub(crate) fn print_word<W: Sink>(&mut self, t: TaskId, out: &mut W) -> bool
+    pub(crate) fn plain_word<W: Sink>(&mut self, t: TaskId, out: &mut W) -> bool
         requires { HasTask t self.old }
         ensures follows { IsTrue result → Follows (task_step (Some t)) self.old self.new (W.tape out.old) (W.tape out.new) }
         ensures changes { IsTrue result → ChangesScripts self.old self.new }
         ensures same { result ≡ false → self.new ≡ self.old }
         ensures nothing { result ≡ false → W.tape out.new ≡ W.tape out.old }
     {
-        match self.put_print(t, out) {
-            Some(next) => {
-                self.go_on(t, next);
+        match self.put_plain(t, out) {
+            Some(change) => {
+                self.change(t, change);
                 true
             }
             None => false,

@@ -45,18 +45,12 @@ impl<S: ListSpace> Kernel<S> {
         ensures within { result ≤ most }
         ensures follows { Follows (steps result) self.old self.new (W.tape out.old) (W.tape out.new) }
     {
-        let mut done = 0;
-        while done < most {
-            done += self.silent_words(t, most - done);
-            if done == most {
+        for done in 0..most {
+            if !self.plain_word(t, out) {
                 return done;
             }
-            if !self.print_word(t, out) {
-                return done;
-            }
-            done += 1;
         }
-        done
+        most
     }
 
     /// Steps of a settled machine that ask nothing of Exec, at most that many: those of an idle machine, or plain words. The answer is how many.

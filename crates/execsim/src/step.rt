@@ -221,19 +221,6 @@ impl<S: ListSpace> Kernel<S> {
         }
     }
 
-    /// Task t, which runs, does one command, or ends. A plain word that prints nothing is done at once, and no call is made of it.
-    fn run_command<W: Sink>(&mut self, t: TaskId, out: &mut W)
-        requires known { HasTask t self.old }
-        requires runs { Runs t self.old }
-        requires agree { IsInOrder self.old }
-        ensures { Follows (task_step (Some t)) self.old self.new (W.tape out.old) (W.tape out.new) }
-    {
-        match self.next_change(t) {
-            Some(change) => self.change(t, change),
-            None => self.make_call(t, out),
-        }
-    }
-
     /// The running task does one command; if none runs, the step is used up.
     fn run_task<W: Sink>(&mut self, out: &mut W)
         requires { IsInOrder self.old }
@@ -241,7 +228,7 @@ impl<S: ListSpace> Kernel<S> {
     {
         match self.running() {
             None => {}
-            Some(t) => self.run_command(t, out),
+            Some(t) => self.make_call(t, out),
         }
     }
 

@@ -50,10 +50,11 @@ fn write_ends(cells: &mut [u8; ROOM], at: usize, text: &[u8], width: usize)
     write_at(cells, at + rest, &text[rest..]);
 }
 
-/// Writes a text over the cells from a place on. Most are short: a name, or a word.
+/// Writes a text of at most 32 bytes over the cells from a place on: a name, or a word.
 #[inline(always)]
-fn write_text(cells: &mut [u8; ROOM], at: usize, text: &[u8])
-    requires { at + length text.now ≤ ROOM }
+fn write_short(cells: &mut [u8; ROOM], at: usize, text: &[u8])
+    requires room { at + length text.now ≤ ROOM }
+    requires short { length text.now ≤ 32 }
     ensures { take (at + length text.now) cells.new ≡ take at cells.old ++ text.now }
 {
     let len = text.len();
@@ -63,11 +64,24 @@ fn write_text(cells: &mut [u8; ROOM], at: usize, text: &[u8])
         } else if len <= 16 {
             write_ends(cells, at, text, 8);
         } else {
-            write_at(cells, at, text);
+            write_ends(cells, at, text, 16);
         }
     } else if len >= 2 {
         write_ends(cells, at, text, 2);
     } else if len == 1 {
+        write_at(cells, at, text);
+    }
+}
+
+/// Writes a text over the cells from a place on. Most are short.
+#[inline(always)]
+fn write_text(cells: &mut [u8; ROOM], at: usize, text: &[u8])
+    requires { at + length text.now ≤ ROOM }
+    ensures { take (at + length text.now) cells.new ≡ take at cells.old ++ text.now }
+{
+    if text.len() <= 32 {
+        write_short(cells, at, text);
+    } else {
         write_at(cells, at, text);
     }
 }
@@ -97,6 +111,35 @@ impl Draft {
         ensures { self.new.items ≡ [] }
     {
         self.len = 0;
+    }
+
+    /// How many bytes are built.
+    #[inline(always)]
+    pub(crate) fn len(&self) -> usize
+        ensures { result ≡ length self.now.items }
+    {
+        self.len
+    }
+
+    /// Adds a part whose length is fixed, and which has room.
+    #[inline(always)]
+    pub(crate) fn part(&mut self, part: &[u8])
+        requires { length self.old.items + length part.now ≤ 160 }
+        ensures { self.new.items ≡ self.old.items ++ part.now }
+    {
+        write_at(&mut self.cells, self.len, part);
+        self.len += part.len();
+    }
+
+    /// Adds a text of at most 32 bytes, which has room.
+    #[inline(always)]
+    pub(crate) fn text(&mut self, text: &[u8])
+        requires room { length self.old.items + length text.now ≤ 160 }
+        requires short { length text.now ≤ 32 }
+        ensures { self.new.items ≡ self.old.items ++ text.now }
+    {
+        write_short(&mut self.cells, self.len, text);
+        self.len += text.len();
     }
 
     /// Adds a part whose length is fixed, or nothing if it has no room.

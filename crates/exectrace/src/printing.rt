@@ -2,7 +2,7 @@
 //!
 //! Each `put` writes to a good sink, and does nothing on one that is not good: the sink's own state remembers that a
 //! write failed, so one call can follow another with no test between, and `written` reports at the end.
-ghost use Rattle.std.specs.Prelude.{◌≡◌, ◌<◌, ◌≤◌, ◌/◌, ◌%◌, length, map, codes, ◌++◌};
+ghost use Rattle.std.specs.Prelude.{◌≡◌, ◌<◌, ◌≤◌, ◌/◌, ◌%◌, [], IsTrue, length, map, codes, ◌++◌};
 ghost use Rattle.std.specs.List.{flat_map};
 ghost use Rattle.exectrace.specs.Sink.{Adds, Puts, Writes};
 ghost use Rattle.exectrace.specs.Trace.{printed_line, value_text, hex_digit, quoted_count, Switch, Idle, Call, Serve, Timer, Server, Softint, Alert, Value, Quoted, argument_text, outcome_text};
@@ -119,9 +119,10 @@ fn hand_over<W: Sink>(line: &Draft, out: &mut W)
     put(line.as_slice(), out);
 }
 
-/// Puts a text between two others, of fixed length.
-#[inline(always)]
-fn put_between<W: Sink>(before: &[u8], text: &[u8], after: &[u8], out: &mut W)
+/// Puts a text between two others, all of which may have no room in one piece.
+#[cold]
+#[inline(never)]
+fn put_long_between<W: Sink>(before: &[u8], text: &[u8], after: &[u8], out: &mut W)
     ensures { Puts (W.tape out.old) (W.tape out.new) (before.now ++ text.now ++ after.now) }
 {
     let mut line = Draft::new();
@@ -129,6 +130,34 @@ fn put_between<W: Sink>(before: &[u8], text: &[u8], after: &[u8], out: &mut W)
     add_bytes(&mut line, text, out);
     add(&mut line, after, out);
     hand_over(&line, out);
+}
+
+/// Builds a line of three texts, if they are short. The answer is whether they are.
+#[inline(always)]
+fn try_between(line: &mut Draft, before: &[u8], text: &[u8], after: &[u8]) -> bool
+    requires { line.old.items ≡ [] }
+    ensures { IsTrue result → line.new.items ≡ before.now ++ text.now ++ after.now }
+{
+    if before.len() > 32 || text.len() > 32 || after.len() > 32 {
+        return false;
+    }
+    line.part(before);
+    line.text(text);
+    line.part(after);
+    true
+}
+
+/// Puts a text between two others, of fixed length.
+#[inline(always)]
+fn put_between<W: Sink>(before: &[u8], text: &[u8], after: &[u8], out: &mut W)
+    ensures { Puts (W.tape out.old) (W.tape out.new) (before.now ++ text.now ++ after.now) }
+{
+    let mut line = Draft::new();
+    if try_between(&mut line, before, text, after) {
+        hand_over(&line, out);
+    } else {
+        put_long_between(before, text, after, out);
+    }
 }
 
 /// Adds a space and the word.
@@ -245,6 +274,122 @@ fn add_end<W: Sink>(line: &mut Draft, outcome: CallOutcome, out: &mut W)
     }
 }
 
+// ---- a line that has room, as mostly
+
+/// Begins a line by a name, a space and a word, if it has room. The answer is whether it has; then there is room for an end too.
+#[inline(always)]
+fn try_head(line: &mut Draft, name: &Name, word: &str) -> bool
+    requires empty { line.old.items ≡ [] }
+    ensures added { IsTrue result → line.new.items ≡ name.now.bytes ++ codes " " ++ word.now }
+    ensures room { IsTrue result → length line.new.items ≤ 146 }
+{
+    if word.len() > 32 {
+        return false;
+    }
+    line.text(name.as_str().as_bytes());
+    line.part(b" ");
+    line.text(word.as_bytes());
+    true
+}
+
+/// Adds a space and the name between double quotes, if there is room for it and for an end. The answer is whether there is.
+#[inline(always)]
+fn try_quoted(line: &mut Draft, name: &Name) -> bool
+    requires { length line.old.items ≤ 146 }
+    ensures added { IsTrue result → line.new.items ≡ line.old.items ++ argument_text (Quoted name.now.bytes) }
+    ensures room { IsTrue result → length line.new.items ≤ 146 }
+{
+    if line.len() > 112 {
+        return false;
+    }
+    line.part(b" \"");
+    line.text(name.as_str().as_bytes());
+    line.part(b"\"");
+    true
+}
+
+/// Adds a space and the word, if there is room for it and for an end. The answer is whether there is.
+#[inline(always)]
+fn try_value(line: &mut Draft, n: u32) -> bool
+    requires { length line.old.items ≤ 146 }
+    ensures added { IsTrue result → line.new.items ≡ line.old.items ++ argument_text (Value n) }
+    ensures room { IsTrue result → length line.new.items ≤ 146 }
+{
+    if line.len() > 136 {
+        return false;
+    }
+    line.part(&spaced_digits(n));
+    true
+}
+
+/// Adds a space and the argument, which is that name if it is quoted, if there is room for it and for an end. The answer is whether there is.
+#[inline(always)]
+fn try_short(line: &mut Draft, argument: &ShortArg, quoted: &Name) -> bool
+    requires { length line.old.items ≤ 146 }
+    ensures added { IsTrue result → line.new.items ≡ line.old.items ++ argument_text (short_argument quoted.now.bytes argument.now) }
+    ensures room { IsTrue result → length line.new.items ≤ 146 }
+{
+    match argument {
+        ShortArg::Value(n) => try_value(line, *n),
+        ShortArg::Quoted => try_quoted(line, quoted),
+    }
+}
+
+/// Adds the arguments, if there is room for them and for an end. The answer is whether there is.
+#[inline(always)]
+fn try_arguments(line: &mut Draft, arguments: &[ShortArg], quoted: &Name) -> bool
+    requires { length line.old.items ≤ 146 }
+    ensures added { IsTrue result → line.new.items ≡ line.old.items
+        ++ flat_map argument_text (map (short_argument quoted.now.bytes) arguments.now) }
+    ensures room { IsTrue result → length line.new.items ≤ 146 }
+{
+    for argument in arguments {
+        if !try_short(line, argument, quoted) {
+            return false;
+        }
+    }
+    true
+}
+
+/// Adds how a call ended, and the line feed, which have room.
+#[inline(always)]
+fn end_line(line: &mut Draft, outcome: CallOutcome)
+    requires { length line.old.items ≤ 146 }
+    ensures { line.new.items ≡ line.old.items ++ outcome_text (shown_outcome outcome) ++ codes "\n" }
+{
+    match outcome {
+        CallOutcome::Done => line.part(b"\n"),
+        CallOutcome::Answers(n) => line.part(&answer_end(n)),
+        CallOutcome::Waits => line.part(b" waits\n"),
+    }
+}
+
+/// Builds the line of a call, if it has room. The answer is whether it has.
+#[inline(always)]
+fn try_call(
+    line: &mut Draft,
+    name: &Name,
+    word: &str,
+    arguments: &[ShortArg],
+    quoted: &Name,
+    outcome: CallOutcome,
+) -> bool
+    requires { line.old.items ≡ [] }
+    ensures { IsTrue result → line.new.items
+        ≡ printed_line (Call name.now.bytes word.now (map (short_argument quoted.now.bytes) arguments.now) (shown_outcome outcome)) }
+{
+    if !try_head(line, name, word) {
+        return false;
+    }
+    if !try_arguments(line, arguments, quoted) {
+        return false;
+    }
+    end_line(line, outcome);
+    true
+}
+
+// ---- the lines
+
 /// Puts `switch NAME`: the task of this name begins to run.
 #[inline(never)]
 pub fn put_switch<W: Sink>(name: &Name, out: &mut W)
@@ -283,9 +428,10 @@ pub fn put_call<W: Sink>(
     hand_over(&line, out);
 }
 
-/// Puts the line of a call as `put_call` does, if each quoted argument is that name.
+/// Puts the line of a call whose parts may have no room in one piece.
+#[cold]
 #[inline(never)]
-pub fn put_short_call<W: Sink>(
+fn put_long_call<W: Sink>(
     name: &Name,
     word: &str,
     arguments: &[ShortArg],
@@ -303,6 +449,27 @@ pub fn put_short_call<W: Sink>(
     add_short_arguments(&mut line, arguments, quoted, out);
     add_end(&mut line, outcome, out);
     hand_over(&line, out);
+}
+
+/// Puts the line of a call as `put_call` does, if each quoted argument is that name. It is built where it is called: much of it is often fixed there.
+#[inline(always)]
+pub fn put_short_call<W: Sink>(
+    name: &Name,
+    word: &str,
+    arguments: &[ShortArg],
+    quoted: &Name,
+    outcome: CallOutcome,
+    out: &mut W,
+)
+    ensures { Puts (W.tape out.old) (W.tape out.new)
+        (printed_line (Call name.now.bytes word.now (map (short_argument quoted.now.bytes) arguments.now) (shown_outcome outcome))) }
+{
+    let mut line = Draft::new();
+    if try_call(&mut line, name, word, arguments, quoted, outcome) {
+        hand_over(&line, out);
+    } else {
+        put_long_call(name, word, arguments, quoted, outcome, out);
+    }
 }
 
 /// Puts `serve SOURCE`: the latch of this interrupt source is served.

@@ -1,11 +1,10 @@
 //! What the options choose of a run, or why the run does not have it.
 
 use crate::command_line::Paths;
-use crate::events::last_number;
 use crate::failure::Failure;
 use crate::options::Options;
-use crate::reading::Run;
 use execlog::{Body, Book, Filter, Who};
+use logforms::{Run, last_number};
 use std::alloc::{AllocError, Global};
 
 /// A part of a run.

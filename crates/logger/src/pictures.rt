@@ -2,12 +2,11 @@
 
 use crate::choice::number_or;
 use crate::command_line::Paths;
-use crate::events::last_number;
 use crate::failure::Failure;
 use crate::options::{Options, View};
-use crate::reading::Run;
 use execpicture::{Stretch, write_chrome, write_svg};
 use exectrace::WriteSink;
+use logforms::{Run, last_number};
 use std::alloc::Global;
 use std::io::Write;
 

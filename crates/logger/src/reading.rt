@@ -1,24 +1,12 @@
 //! The texts of a run, read and looked at.
 
-use crate::bookmaking::book_of;
 use crate::command_line::Paths;
 use crate::failure::Failure;
-use execlog::Book;
 use execrun::Texts;
 use execsim::{ReadFault, read_limited};
+use logforms::{Run, book_of};
 use std::alloc::Global;
-use taskscript::{Events, Listed, read_events, read_listed};
-
-/// The texts of a run.
-#[derive(Drop)]
-pub struct Run {
-    /// The machine, the lines of its commands and the names of its variables.
-    pub listed: Listed,
-    /// The events.
-    pub events: Events,
-    /// What is written where in the machine file.
-    pub book: Book,
-}
+use taskscript::{read_events, read_listed};
 
 /// The bytes of the text at a path.
 fn read_text<'a, T: Texts>(

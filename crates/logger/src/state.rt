@@ -3,22 +3,13 @@ ghost use Rattle.std.specs.Prelude.{◌≤◌, sum_by};
 ghost use Rattle.taskscript.specs.Events.{ticks as ticks_of};
 ghost use Rattle.execlog.specs.Log.{turns};
 
-mod holders;
-mod machine;
-mod memory;
-mod objects;
-mod tasks;
-
 use crate::failure::Failure;
-use crate::making::run_events;
-use crate::page::Page;
-use crate::reading::Run;
-use crate::values::push_number;
 use execlist::link::LinkSpace;
 use execlist::space::ListSpace;
 use execlog::{Actor, Before, Form, Moment};
 use execsim::Machine;
 use exectrace::WriteSink;
+use logforms::{Run, page_of, run_events};
 use std::alloc::{AllocError, Global};
 use std::io;
 use std::io::Write;
@@ -68,33 +59,6 @@ impl Form for Silent {
     ) -> Result<(), AllocError> {
         Ok(())
     }
-}
-
-/// Adds the title of a page.
-fn push_title(page: &mut Page, path: &str, number: u64, last: u64) {
-    page.push_str(path);
-    page.push_str(" after step ");
-    push_number(page, number);
-    page.push_str(" of ");
-    push_number(page, last);
-    page.push_str("\n\n");
-}
-
-/// The page of what a machine shows.
-fn page_of<S: ListSpace>(
-    alloc: Global,
-    run: &Run,
-    path: &str,
-    machine: &Machine<S>,
-    number: u64,
-    last: u64,
-) -> Result<String, AllocError> {
-    let mut page = Page::new(alloc);
-    push_title(&mut page, path, number, last);
-    machine::push_machine(&mut page, machine, run);
-    tasks::push_tasks(&mut page, machine, run);
-    memory::push_memory(&mut page, machine, run);
-    page.finish()
 }
 
 /// The page of what a machine shows after the step of a number, which is the last of these events, and whether an alert has stopped it.

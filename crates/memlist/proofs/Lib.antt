@@ -5,6 +5,7 @@ pub mod Edits
 pub mod Slots
 pub mod Chains
 pub mod Writing
+pub mod Counts
 pub mod Resets
 pub mod Walking
 pub mod Headers

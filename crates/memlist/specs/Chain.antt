@@ -1,7 +1,7 @@
 -- Free memory as a chain of chunks inside its own words: the first two words of a chunk are the address of the next chunk,
 -- or 0 at the end, and its size in bytes.
 use Rattle.std.specs.Prelude.{◌≡◌, ℕ, zero, suc, ◌+◌, ◌-◌, ◌*◌, ◌/◌, ◌%◌, ◌<◌, ◌≤◌, Bool, false, nat_eq, if◌then◌else◌, List, [], ◌∷◌, ◌++◌, length, get_or, set, Option, None, Some}
-use Rattle.std.specs.List.{AllByRecursion}
+use Rattle.std.specs.List.{AllByRecursion, sum_by}
 use Rattle.memlist.specs.declared.gap.Gap.{Gap}
 use Rattle.memlist.specs.Fit.{lowest_gap}
 
@@ -87,6 +87,10 @@ pub record IsChained (base : ℕ) (words : List ℕ) (head : ℕ) (gaps : List G
   pub apart : AreApart base gaps (base + 4 * length words)
   pub first : head ≡ first_or 0 gaps
   pub linked : IsLinked base words gaps 0
+
+-- that many bytes are in all of the gaps
+abbrev pub IsCount : ℕ → List Gap → Type 0
+IsCount free gaps = free ≡ sum_by (λ (gap : Gap). gap.size) gaps
 
 -- gaps of which those up to an address are looked at: that is where the last of them begins, or 0
 pub record IsWalked (gaps : List Gap) (before : ℕ) : Type 0 where

@@ -15,17 +15,18 @@ use crate::region::{MEM_BLOCKSIZE, REACH};
 use std::alloc::{AllocError, Global};
 use std::marker::Model;
 
-/// The words of a region, and if the first chunk among them begins, or 0 if nothing is free.
+/// The words of a region, where the first chunk among them begins, or 0 if nothing is free, and how many bytes the chunks have, as `mh_Free` does.
 #[derive(Drop)]
 pub struct FreeSpace {
     base: u32,
     words: Vec<u32>,
     head: u32,
+    free: u32,
 }
 
 impl Model for FreeSpace {
     ghost use Rattle.std.specs.Prelude.{◌+◌, ◌*◌, length};
-    ghost use Rattle.memlist.specs.Chain.{IsChained, Space, chain};
+    ghost use Rattle.memlist.specs.Chain.{IsChained, IsCount, Space, chain};
 
     ghost Value = { Space };
 
@@ -35,7 +36,8 @@ impl Model for FreeSpace {
       gaps = chain (length s.words.items) s.base s.words.items s.head;
     } };
 
-    ghost invariant = { λ s. IsChained s.base s.words.items s.head (chain (length s.words.items) s.base s.words.items s.head) };
+    ghost invariant = { λ s. IsChained s.base s.words.items s.head (chain (length s.words.items) s.base s.words.items s.head)
+        × IsCount s.free (chain (length s.words.items) s.base s.words.items s.head) };
 }
 
 impl FreeSpace {
@@ -54,6 +56,7 @@ impl FreeSpace {
             base,
             words,
             head: base,
+            free: size,
         })
     }
 
@@ -66,6 +69,7 @@ impl FreeSpace {
     {
         write(&mut self.words, 0, Chunk { next: 0, size });
         self.head = self.base;
+        self.free = size;
     }
 
     /// The words, the first of which represents the lowest address.
@@ -182,6 +186,7 @@ impl FreeSpace {
         let next = self.next(gap.address);
         let rest = cut(&mut self.words, self.base, gap, size, next);
         link(&mut self.head, &mut self.words, self.base, before, rest);
+        self.free -= size;
         gap.address
     }
 
@@ -239,15 +244,18 @@ impl FreeSpace {
         ensures { (around : Around self.old.gaps address size) → self.new ≡ record self.old { gaps = around.below ++ (record { address = around.start; size = around.end - around.start } ∷ around.above) } }
     {
         let upper = self.upper(before, address + size, size);
+        let free = self.free + size;
         if self.ends_at(before, address) {
             let chunk = Chunk {
                 next: upper.next,
                 size: address - before + upper.size,
             };
             write(&mut self.words, word_place(self.base, before), chunk);
+            self.free = free;
         } else {
             write(&mut self.words, word_place(self.base, address), upper);
             link(&mut self.head, &mut self.words, self.base, before, address);
+            self.free = free;
         }
     }
 
@@ -257,13 +265,7 @@ impl FreeSpace {
     pub fn total(&self) -> u32
         ensures { result ≡ sum_by (λ gap. gap.size) self.now.gaps }
     {
-        let mut before = 0;
-        let mut total = 0;
-        while let Some(gap) = self.after(before) {
-            total += gap.size;
-            before = gap.address;
-        }
-        total
+        self.free
     }
 
     /// The size of the greatest gap, or 0 if there is none.

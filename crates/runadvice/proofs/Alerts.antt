@@ -1,11 +1,11 @@
 -- The alert that a machine shows at the end of a run is the one that ends the run.
-use Rattle.std.proofs.Common.{◌≡◌, ◌-◌, ◌+◌, ℕ, Bool, true, false, List, ◌++◌, length, take, drop, eqb, refl, ap, sym, ◌∙◌, subst, append_assoc, Bor}
-use Rattle.std.specs.Prelude.{Option, None, Some, Result, Ok, Err, IfOk, IfSome, MatchOption, ⊤, option_map, if◌then◌else◌, map, nat_lt, codes}
+use Rattle.std.proofs.Common.{◌≡◌, ◌-◌, ◌+◌, ℕ, Bool, true, false, List, ◌++◌, length, take, drop, eqb, refl, ap, sym, ◌∙◌, append_assoc, Bor}
+use Rattle.std.specs.Prelude.{Option, None, Some, Result, Ok, Err, IfOk, IfSome, MatchOption, option_map, if◌then◌else◌, map, nat_lt, codes}
 use Rattle.std.specs.List.{slice_get}
 use Rattle.std.specs.Cmp.Lexicographic.{pointwise}
 use Rattle.std.specs.Option.{option_and_then}
 use Rattle.std.proofs.lemmas.Bool.Decides.{Decides-eqb}
-use Rattle.std.proofs.lemmas.Option.{slice_get-map}
+use Rattle.std.proofs.lemmas.Option.{none-some, same_Some, slice_get-map}
 use Rattle.std.proofs.lemmas.Slice.Eq.{strip_suffix_is}
 use Rattle.exectrace.specs.Trace.{printed, printed_line}
 use Rattle.exectrace.specs.Trace as trace
@@ -27,23 +27,9 @@ ends_through whole text end one other = record {
   parts = one.parts ∙ ap (λ (x : List ℕ). one.front ++ x) other.parts ∙ sym (append_assoc one.front other.front end);
 }
 
-abbrev some_or : {A : Type 0} → Option A → A → A
-some_or None other = other
-some_or (Some x) other = x
-
-abbrev is_there : Option ℕ → Type 0
-is_there None = ⊥
-is_there (Some x) = ⊤
-
-none_some : {x : ℕ} → None ≡ Some x → ⊥
-none_some e = subst is_there (sym e) tt
-
-some_injective : {A : Type 0} {x y : A} → Some x ≡ Some y → x ≡ y
-some_injective {x = x} e = ap (λ o. some_or o x) e
-
 place_shown : (b : Bool) (x p : ℕ) → (if b then Some x else None) ≡ Some p → x ≡ p
-place_shown true x p e = some_injective e
-place_shown false x p e = elim (none_some e) [ ]
+place_shown true x p e = same_Some x p e
+place_shown false x p e = elim (none-some p e) [ ]
 
 mapped : {A B : Type 0} (f : A → B) (b : Bool) (x : A) → option_map f (if b then Some x else None) ≡ (if b then Some (f x) else None)
 mapped f true x = refl

@@ -1,7 +1,6 @@
 -- How a machine goes on over some events and then over others, up to the end of a run.
-use Rattle.std.proofs.Common.{◌≡◌, ℕ, zero, suc, ◌+◌, ◌<◌, List, [], ◌∷◌, ◌++◌, length, take, drop, get_or, refl, ap, sym, inl, inr, ◌∙◌, subst, append-nil, append_assoc, arith}
+use Rattle.std.proofs.Common.{◌≡◌, ℕ, ◌+◌, ◌<◌, List, [], ◌∷◌, ◌++◌, length, take, drop, get_or, refl, ap, sym, inl, inr, ◌∙◌, subst, append-nil, append_assoc, arith}
 use Rattle.std.specs.Prelude.{Result, Ok, Err, OnOk, ◌⊎◌, sum_by}
-use Rattle.std.specs.List.{flat_map}
 use Rattle.std.proofs.lemmas.Grind.{flat_map-append}
 use Rattle.std.proofs.lemmas.List.{take_more}
 use Rattle.std.proofs.lemmas.List.Sums.{sum_by-drop_more}
@@ -11,7 +10,7 @@ use Rattle.taskscript.specs.Events.{ticks as ticks_of}
 use Rattle.taskscript.specs.File.{MachineData}
 use Rattle.taskscript.specs.declared.event.Event.{Event}
 use Rattle.taskscript.specs.declared.event.Event.TheVariants.{Run, Tick}
-use Rattle.execmodel.specs.State.{State, Outcome, quiet, andthen, booted}
+use Rattle.execmodel.specs.State.{State, Outcome, andthen, booted}
 use Rattle.execmodel.specs.Step.{starts, steps, ticks, event, events, run}
 use Rattle.execmodel.proofs.Moments.{events_more, run_cut, tick_cut}
 use Rattle.execsim.specs.Agreement.{Seen, Agrees}

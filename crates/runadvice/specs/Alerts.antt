@@ -1,5 +1,5 @@
 -- The alert that ends a run: its line, whose call it refused, and where that command is written.
-use Rattle.std.specs.Prelude.{◌≡◌, ℕ, List, Option, Some, Result, Ok, option_map}
+use Rattle.std.specs.Prelude.{◌≡◌, ℕ, List, Option, Some, Ok, option_map}
 use Rattle.std.specs.List.{slice_get}
 use Rattle.std.specs.Option.{option_and_then}
 use Rattle.exectrace.specs.Trace.{printed, printed_line}
@@ -10,8 +10,6 @@ use Rattle.taskscript.specs.File.{MachineData, TaskData, SoftintData, ServerData
 use Rattle.taskscript.specs.Listings.{BodyListingData, ListingData, listing_in}
 use Rattle.taskscript.specs.Words.{word_text}
 use Rattle.taskscript.specs.declared.event.Event.{Event}
-use Rattle.taskscript.specs.declared.fault.EventFault.{EventFault}
-use Rattle.taskscript.specs.declared.fault.FileFault.{FileFault}
 use Rattle.taskscript.specs.declared.place.Owner.{Owner}
 use Rattle.taskscript.specs.declared.place.Owner.TheVariants.{Task, Softint, Server}
 use Rattle.execmodel.specs.State.{Outcome, program_of}

@@ -11,7 +11,7 @@ use crate::bodies::{command_at, last_begun};
 use crate::page::{Spot, name_of};
 use crate::room::Room;
 use crate::scene::Linked;
-use crate::value::value_of;
+use crate::value::{numbers_of, value_of};
 use std::str::from_utf8;
 use taskscript::{Command, MachineFile, Owner};
 
@@ -35,10 +35,7 @@ pub struct Refused<'a> {
 impl Refused<'_> {
     /// The number of the task, if the call is one of a task.
     pub fn task(&self) -> Option<usize> {
-        match self.spot.owner {
-            Owner::Task => Some(self.spot.item),
-            Owner::Softint | Owner::Server => None,
-        }
+        self.spot.task()
     }
 
     /// The value of an argument; 0 if it has none.
@@ -47,33 +44,15 @@ impl Refused<'_> {
     }
 }
 
-/// The values of the arguments of a command.
+/// The values of the arguments of a command that is refused; those that its call kept, if its task has waited in it.
 fn values_of(machine: &Linked, task: Option<usize>, command: &Command) -> [u32; 4] {
-    [
-        value_of(machine, task, command, 0).unwrap_or(0),
-        value_of(machine, task, command, 1).unwrap_or(0),
-        value_of(machine, task, command, 2).unwrap_or(0),
-        value_of(machine, task, command, 3).unwrap_or(0),
-    ]
-}
-
-/// The values of the arguments of a call of what is there.
-fn values_at(machine: &Linked, spot: Spot, command: &Command) -> [u32; 4] {
-    match spot.owner {
-        Owner::Task => values_of_task(machine, spot.item, command),
-        Owner::Softint | Owner::Server => values_of(machine, None, command),
-    }
-}
-
-/// The values of the arguments of the call that a task makes: those that it kept, if it has waited.
-fn values_of_task(machine: &Linked, task: usize, command: &Command) -> [u32; 4] {
-    match machine.call(task) {
-        None => values_of(machine, Some(task), command),
-        Some(call) => [
-            call.number(0),
-            call.number(1),
-            call.number(2),
-            call.number(3),
+    match task.and_then(|task| machine.call(task)) {
+        Some(call) => numbers_of(call),
+        None => [
+            value_of(machine, task, command, 0).unwrap_or(0),
+            value_of(machine, task, command, 1).unwrap_or(0),
+            value_of(machine, task, command, 2).unwrap_or(0),
+            value_of(machine, task, command, 3).unwrap_or(0),
         ],
     }
 }
@@ -134,7 +113,7 @@ fn refused_at<'a>(
         code,
         spot,
         command,
-        values: values_at(machine, spot, command),
+        values: values_of(machine, spot.task(), command),
     })
 }
 
@@ -155,11 +134,7 @@ fn of_body<'a>(machine: &Linked, file: &'a MachineFile, text: &[u8]) -> Option<R
         return None
     };
     let body = last_begun(file, lines)?;
-    let spot = Spot {
-        owner: body.owner,
-        item: body.item,
-        place: body.alerted_place(),
-    };
+    let spot = body.spot(body.alerted_place());
     match spot.owner {
         Owner::Task => None,
         Owner::Softint | Owner::Server => refused_at(machine, file, text, spot),

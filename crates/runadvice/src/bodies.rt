@@ -5,7 +5,7 @@ ghost use Rattle.std.specs.Option.{option_map};
 ghost use Rattle.taskscript.specs.Commands.{command_view};
 ghost use Rattle.runadvice.specs.Alerts.{code_in, command_in};
 
-use crate::page::Spot;
+use crate::page::{Spot, name_of};
 use crate::step::prints;
 use taskscript::{Command, MachineFile, Owner};
 
@@ -21,6 +21,25 @@ pub struct Begun<'a> {
 }
 
 impl<'a> Begun<'a> {
+    /// What has a body, before any line.
+    pub fn new(file: &'a MachineFile, owner: Owner, item: usize) -> Option<Begun<'a>> {
+        Some(Begun {
+            owner,
+            item,
+            code: code_of(file, owner, item)?,
+            lines: 0,
+        })
+    }
+
+    /// The command at a place of its code.
+    pub fn spot(self, place: usize) -> Spot {
+        Spot {
+            owner: self.owner,
+            item: self.item,
+            place,
+        }
+    }
+
     /// The same, after one line more.
     fn with_line(self) -> Begun<'a> {
         Begun {
@@ -32,6 +51,15 @@ impl<'a> Begun<'a> {
     /// The place of the command whose alert was the last line.
     pub fn alerted_place(self) -> usize {
         printing_place(self.code, self.lines.saturating_sub(1))
+    }
+}
+
+/// How many have a body of that kind.
+pub fn count_of(file: &MachineFile, owner: Owner) -> usize {
+    match owner {
+        Owner::Task => file.tasks().len(),
+        Owner::Server => file.servers().len(),
+        Owner::Softint => file.softints().len(),
     }
 }
 
@@ -78,27 +106,14 @@ fn printing_place(code: &[Command], lines: usize) -> usize {
 /// The body that begins with a line of the trace, if one does.
 pub fn begun_by<'a>(file: &'a MachineFile, line: &str) -> Option<Begun<'a>> {
     let (kind, name) = line.split_once(" ")?;
-    let (owner, item) = if kind == "server" {
-        let item = file
-            .servers()
-            .iter()
-            .position(|one| name == one.name.as_str())?;
-        (Owner::Server, item)
-    } else if kind == "softint" {
-        let item = file
-            .softints()
-            .iter()
-            .position(|one| name == one.name.as_str())?;
-        (Owner::Softint, item)
-    } else {
-        return None;
+    let owner = match kind {
+        "server" => Owner::Server,
+        "softint" => Owner::Softint,
+        _ => return None,
     };
-    Some(Begun {
-        owner,
-        item,
-        code: code_of(file, owner, item)?,
-        lines: 0,
-    })
+    let item = (0..count_of(file, owner)).position(|item| name_of(file, owner, item)
+        == Some(name))?;
+    Begun::new(file, owner, item)
 }
 
 /// The body that runs after a line, if the one before it was `last`.

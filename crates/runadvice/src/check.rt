@@ -1,10 +1,10 @@
 //! What the run of two texts comes to.
-ghost use Rattle.std.specs.Prelude.{◌≡◌, [], false, None, IfOk, IfSome, OnOk};
+ghost use Rattle.std.specs.Prelude.{◌≡◌, [], false, None, IfOk, IfSome};
 ghost use Rattle.exectrace.specs.Trace.{printed};
 ghost use Rattle.exectrace.specs.declared.sinks.SinkState.{SinkState};
 ghost use Rattle.taskscript.specs.Events.{script_of};
 ghost use Rattle.taskscript.specs.File.{file_of};
-ghost use Rattle.execmodel.specs.Step.{run};
+ghost use Rattle.execmodel.specs.Step.{run as run_of};
 ghost use Rattle.execsim.specs.Agreement.{Agrees};
 ghost use Rattle.execsim.specs.Time.{HasTimeFor};
 ghost use Rattle.runadvice.specs.Alerts.{EndsRun, EndsRunOf, Stops};
@@ -14,12 +14,11 @@ ghost use Rattle.runadvice.specs.Going.{EndsWith};
 use crate::alert::refused_call;
 use crate::course::Course;
 use crate::ending::add_alert;
-use crate::following::follow;
-use crate::lap::{Lap, lap_of};
+use crate::following::{Run, follow};
+use crate::lap::lap_of;
 use crate::page::{Page, Spot};
 use crate::room::Room;
 use crate::running::Running;
-use crate::scene::{Linked, Scene};
 use execlist::link::LinkSpace;
 use execsim::Machine;
 use std::alloc::{AllocError, Global};
@@ -27,7 +26,6 @@ use std::str::from_utf8;
 use taskscript::{
     EventFault, Events, FileFault, Listed, MachineFile, Word, read_events, read_listed,
 };
-use toml::Table;
 
 /// The alert that ended a run.
 #[derive(Clone, Copy, Debug)]
@@ -53,90 +51,54 @@ pub struct Report {
     pub alert: Option<Alert>,
 }
 
-/// Runs the machine of a file over some events to their end. What each step did is noted, and the room holds what the last part of the run printed.
-fn machine_at_end(
+/// The run of the machine of a file over some events, to their end.
+fn run_to_end<'a>(
     alloc: Global,
-    file: &MachineFile,
+    file: &'a MachineFile,
     events: &Events,
-    course: &mut Course<'_>,
-    room: &mut Room,
-) -> Result<Machine<LinkSpace>, AllocError>
-    requires good { room.old.state ≡ SinkState.Good }
-    requires empty { room.old.bytes.items ≡ [] }
-    ensures agrees { IfOk result (λ machine. Agrees machine.seen (run file.now events.now).state) }
-    ensures tells { OnOk result (EndsWith (printed (run file.now events.now).lines) room.new.bytes.items) }
-    ensures going { IfOk result (λ machine. machine.failed ≡ false) }
-    ensures time { IfOk result (λ machine. HasTimeFor 0 machine.seen) }
-    ensures good { OnOk result (room.new.state ≡ SinkState.Good) }
+) -> Result<Run<'a>, AllocError>
+    ensures agrees { IfOk result (λ run. Agrees run.machine.seen (run_of file.now events.now).state) }
+    ensures tells { IfOk result (λ run. EndsWith (printed (run_of file.now events.now).lines) run.room.bytes.items) }
+    ensures going { IfOk result (λ run. run.machine.failed ≡ false) }
+    ensures time { IfOk result (λ run. HasTimeFor 0 run.machine.seen) }
+    ensures good { IfOk result (λ run. run.room.state ≡ SinkState.Good) }
 {
-    let mut machine: Machine<LinkSpace> = Machine::boot(alloc, file)?;
-    follow(&mut machine, events.list(), course, room)?;
-    Ok(machine)
-}
-
-/// Adds what there is to say of a machine that no alert has stopped, up to the task that runs there, which is answered.
-fn add_stop<'a>(
-    page: &mut Page<'a>,
-    machine: &Linked,
-    course: &Course<'_>,
-) -> Result<Option<Running>, AllocError> {
-    let alloc = page.alloc;
-    let scene = Scene {
-        alloc,
+    let course = Course::new(alloc, file)?;
+    let room = Room::new(alloc);
+    let machine = Machine::boot(alloc, file)?;
+    let mut run = Run {
         machine,
         course,
+        room,
     };
-    scene.add_waits(page)?;
-    scene.running_at_end()
-}
-
-/// Adds what there is to say of the task that runs, and of the steps that bring the machine back to what it shows, if some do.
-fn add_lap<'a>(
-    page: &mut Page<'a>,
-    machine: &Linked,
-    course: &Course<'_>,
-    running: &Running,
-    lap: Option<Lap>,
-) -> Result<(), AllocError> {
-    let alloc = page.alloc;
-    let scene = Scene {
-        alloc,
-        machine,
-        course,
-    };
-    scene.add_running(page, running, lap)
+    follow(&mut run, events.list())?;
+    Ok(run)
 }
 
 /// Adds what there is to say of the task that runs. The machine goes on for some steps more.
 fn add_running<'a>(
     page: &mut Page<'a>,
-    machine: &mut Linked,
-    course: &Course<'_>,
-    room: &mut Room,
+    run: &mut Run<'_>,
     running: &Running,
 ) -> Result<(), AllocError>
-    requires going { machine.old.failed ≡ false }
-    requires good { room.old.state ≡ SinkState.Good }
-    requires time { HasTimeFor 0 machine.old.seen }
+    requires going { run.old.machine.failed ≡ false }
+    requires good { run.old.room.state ≡ SinkState.Good }
+    requires time { HasTimeFor 0 run.old.machine.seen }
 {
-    let lap = lap_of(page.alloc, machine, course, room)?;
-    add_lap(page, machine, course, running, lap)
+    let lap = lap_of(page.alloc, run)?;
+    run.scene(page.alloc).add_running(page, running, lap)
 }
 
 /// Adds what there is to say of a machine that no alert has stopped. If a task runs, the machine goes on for some steps more.
-fn add_end<'a>(
-    page: &mut Page<'a>,
-    machine: &mut Linked,
-    course: &Course<'_>,
-    room: &mut Room,
-) -> Result<(), AllocError>
-    requires going { machine.old.failed ≡ false }
-    requires good { room.old.state ≡ SinkState.Good }
-    requires time { HasTimeFor 0 machine.old.seen }
+fn add_end<'a>(page: &mut Page<'a>, run: &mut Run<'_>) -> Result<(), AllocError>
+    requires going { run.old.machine.failed ≡ false }
+    requires good { run.old.room.state ≡ SinkState.Good }
+    requires time { HasTimeFor 0 run.old.machine.seen }
 {
-    match add_stop(page, machine, course)? {
+    run.scene(page.alloc).add_waits(page)?;
+    match run.scene(page.alloc).running_at_end()? {
         None => Ok(()),
-        Some(running) => add_running(page, machine, course, room, &running),
+        Some(running) => add_running(page, run, &running),
     }
 }
 
@@ -148,10 +110,10 @@ fn is_stopped(machine: &Machine<LinkSpace>) -> bool
 }
 
 /// The alert whose line is the last that the machine has printed.
-fn ended_by(machine: &Linked, listed: &Listed, room: &Room) -> Option<Alert>
-    ensures { IfSome result (Stops listed.now.machine listed.now.listing machine.now.seen room.now.bytes.items) }
+fn ended_by(run: &Run<'_>, listed: &Listed) -> Option<Alert>
+    ensures { IfSome result (Stops listed.now.machine listed.now.listing run.now.machine.seen run.now.room.bytes.items) }
 {
-    let refused = refused_call(machine, &listed.machine, room)?;
+    let refused = refused_call(&run.machine, &listed.machine, &run.room)?;
     Some(Alert {
         code: refused.code,
         spot: refused.spot,
@@ -160,116 +122,52 @@ fn ended_by(machine: &Linked, listed: &Listed, room: &Room) -> Option<Alert>
     })
 }
 
-/// Adds what there is to say of the alert that has stopped a machine.
-fn add_refused<'a>(
-    page: &mut Page<'a>,
-    machine: &Linked,
-    course: &Course<'_>,
-    room: &Room,
-) -> Result<(), AllocError> {
-    match refused_call(machine, course.file, room) {
-        None => Ok(()),
-        Some(refused) => add_alert(page, machine, course, &refused),
-    }
-}
-
 /// Adds what there is to say of a machine at the end of its run.
-fn add_found<'a>(
-    page: &mut Page<'a>,
-    machine: &mut Linked,
-    course: &Course<'_>,
-    room: &mut Room,
-) -> Result<(), AllocError>
-    requires going { machine.old.failed ≡ false }
-    requires good { room.old.state ≡ SinkState.Good }
-    requires time { HasTimeFor 0 machine.old.seen }
+fn add_found<'a>(page: &mut Page<'a>, run: &mut Run<'_>) -> Result<(), AllocError>
+    requires going { run.old.machine.failed ≡ false }
+    requires good { run.old.room.state ≡ SinkState.Good }
+    requires time { HasTimeFor 0 run.old.machine.seen }
 {
-    if is_stopped(machine) {
-        add_refused(page, machine, course, room)
-    } else {
-        add_end(page, machine, course, room)
+    if !is_stopped(&run.machine) {
+        return add_end(page, run);
+    }
+    match refused_call(&run.machine, run.course.file, &run.room) {
+        None => Ok(()),
+        Some(refused) => add_alert(page, run, &refused),
     }
 }
 
-/// How a run has ended: whether an alert ended it, and that alert.
-#[derive(Clone, Copy)]
-struct Ending {
-    is_alerted: bool,
-    alert: Option<Alert>,
-}
-
-/// How a run has ended whose machine is at its end. What there is to say of it is added.
-fn end_of<'a>(
-    page: &mut Page<'a>,
-    listed: &Listed,
-    machine: &mut Linked,
-    course: &Course<'_>,
-    room: &mut Room,
-) -> Result<Ending, AllocError>
-    requires going { machine.old.failed ≡ false }
-    requires good { room.old.state ≡ SinkState.Good }
-    requires time { HasTimeFor 0 machine.old.seen }
-    ensures alerted { IfOk result (λ ending. ending.is_alerted ≡ machine.old.seen.stopped) }
-    ensures alert { IfOk result (λ ending. IfSome ending.alert (Stops listed.now.machine listed.now.listing machine.old.seen room.old.bytes.items)) }
+/// What there is to say of a run that is at its end.
+fn report_at_end(page: Page<'_>, listed: &Listed, run: &mut Run<'_>) -> Result<Report, AllocError>
+    requires going { run.old.machine.failed ≡ false }
+    requires good { run.old.room.state ≡ SinkState.Good }
+    requires time { HasTimeFor 0 run.old.machine.seen }
+    ensures alerted { IfOk result (λ report. report.is_alerted ≡ run.old.machine.seen.stopped) }
+    ensures alert { IfOk result (λ report. IfSome report.alert (Stops listed.now.machine listed.now.listing run.old.machine.seen run.old.room.bytes.items)) }
 {
-    let is_alerted = is_stopped(machine);
-    let alert = ended_by(machine, listed, room);
-    add_found(page, machine, course, room)?;
-    Ok(Ending { is_alerted, alert })
-}
-
-/// How the run of a machine over some events ends. What there is to say of it is added.
-fn ending_of<'a>(
-    page: &mut Page<'a>,
-    listed: &Listed,
-    events: &Events,
-    course: &mut Course<'_>,
-    room: &mut Room,
-) -> Result<Ending, AllocError>
-    requires good { room.old.state ≡ SinkState.Good }
-    requires empty { room.old.bytes.items ≡ [] }
-    ensures alerted { IfOk result (λ ending. ending.is_alerted ≡ (run listed.now.machine events.now).state.stopped) }
-    ensures alert { IfOk result (λ ending. IfSome ending.alert (EndsRun listed.now.machine listed.now.listing (run listed.now.machine events.now))) }
-{
-    let mut machine = machine_at_end(page.alloc, &listed.machine, events, course, room)?;
-    end_of(page, listed, &mut machine, course, room)
-}
-
-/// The report that is made of what was found.
-fn report_with(page: Page<'_>, ending: Ending) -> Report
-    ensures alerted { result.is_alerted ≡ ending.is_alerted }
-    ensures alert { result.alert ≡ ending.alert }
-{
+    let is_alerted = is_stopped(&run.machine);
+    let alert = ended_by(run, listed);
+    let mut page = page;
+    add_found(&mut page, run)?;
+    if !run.course.is_whole {
+        return Err(AllocError);
+    }
     let Page { text, warns, .. } = page;
-    Report {
+    Ok(Report {
         text,
         warns,
-        is_alerted: ending.is_alerted,
-        alert: ending.alert,
-    }
+        is_alerted,
+        alert,
+    })
 }
 
 /// What there is to say of the run of a machine over some events.
-fn report_on(
-    alloc: Global,
-    path: &str,
-    text: &str,
-    table: &Table,
-    listed: &Listed,
-    events: &Events,
-) -> Result<Report, AllocError>
-    ensures alerted { IfOk result (λ report. report.is_alerted ≡ (run listed.now.machine events.now).state.stopped) }
-    ensures alert { IfOk result (λ report. IfSome report.alert (EndsRun listed.now.machine listed.now.listing (run listed.now.machine events.now))) }
+fn report_on(page: Page<'_>, listed: &Listed, events: &Events) -> Result<Report, AllocError>
+    ensures alerted { IfOk result (λ report. report.is_alerted ≡ (run_of listed.now.machine events.now).state.stopped) }
+    ensures alert { IfOk result (λ report. IfSome report.alert (EndsRun listed.now.machine listed.now.listing (run_of listed.now.machine events.now))) }
 {
-    let mut page = Page::new(alloc, path, text, table, listed)?;
-    let mut course = Course::new(alloc, &listed.machine)?;
-    let mut room = Room::new(alloc);
-    let ending = ending_of(&mut page, listed, events, &mut course, &mut room)?;
-    if course.is_whole {
-        Ok(report_with(page, ending))
-    } else {
-        Err(AllocError)
-    }
+    let mut run = run_to_end(page.alloc, &listed.machine, events)?;
+    report_at_end(page, listed, &mut run)
 }
 
 /// The report if there is no run.
@@ -315,7 +213,8 @@ pub fn check_run(
         Err(_) => Err(AllocError),
         Ok(table) => {
             let text = from_utf8(machine).unwrap_or("");
-            report_on(alloc, path, text, &table, &listed, &events)
+            let page = Page::new(alloc, path, text, &table, &listed)?;
+            report_on(page, &listed, &events)
         }
     }
 }

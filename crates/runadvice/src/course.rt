@@ -1,22 +1,19 @@
 //! What is noted of each step of a run: when each command was done last, when the bodies of interrupts were run last, and what was freed.
 ghost use Rattle.std.specs.Prelude.{◌≡◌, ◌<◌, ◌≤◌, ◌⊎◌, []};
 
-use crate::bodies::{Begun, after_line, begun_by, command_at};
+use crate::bodies::{Begun, after_line, begun_by, command_at, count_of};
 use crate::next::{Next, Part};
 use crate::page::Spot;
-use crate::past::{BodyPast, Latest, TaskPast, is_reached, rank_of};
+use crate::past::{Past, TaskPast, Time, is_reached, rank_of};
 use crate::room::Room;
 use crate::scene::Linked;
-use crate::step::{Setting, Site, Turn, When, prints};
+use crate::step::{Site, Turn, When, prints};
 use crate::value::value_of;
 use execsim::Flow;
 use std::alloc::{AllocError, Global};
 use std::collections::HashMap;
 use std::str::from_utf8;
-use taskscript::{
-    Command, Event, LibraryWord, ListWord, MachineFile, MemoryWord, Owner, PortWord, RequestWord,
-    SemaphoreWord, Source, Variable, Word,
-};
+use taskscript::{Command, Event, MachineFile, Owner, Source, Variable, Word};
 
 /// How many of the last steps are looked at.
 pub const RECENT: u64 = 1000;
@@ -33,24 +30,24 @@ pub struct Course<'a> {
     pub file: &'a MachineFile,
     pub tasks: Vec<TaskPast>,
     /// When each software interrupt was run last.
-    softints: Vec<BodyPast>,
+    softints: Vec<Option<Time>>,
     /// When the servers of each source were run last.
-    sources: [BodyPast; 3],
+    sources: [Option<Time>; 3],
     /// Which sources have asked and were not served yet.
     asking: [bool; 3],
     /// How many bodies of interrupts were run, at most.
     bodies: u64,
     /// What the bodies of interrupts have set in the event in which an alert stopped the machine: each shared variable.
-    late: Vec<Option<Setting>>,
+    late: Vec<Option<Site>>,
     /// What has freed the object or the block at an address.
-    pub freed: HashMap<u32, (Site, Word)>,
+    pub freed: HashMap<u32, Site>,
     /// How many steps and ticks were done.
     pub steps: u64,
     pub ticks: u64,
     /// The last step that ended a task or did nothing.
     fresh: u64,
     /// The last step that did no command of a task.
-    other: u64,
+    pub other: u64,
     /// The event in which an alert stopped the machine.
     pub stopped_in: Option<Event>,
     /// Whether nothing was lost when memory was refused.
@@ -76,23 +73,11 @@ fn place_of(source: Source) -> usize
     }
 }
 
-/// Which sources of a machine ask to be served.
-fn asking_in(machine: &Linked) -> [bool; 3] {
-    let latches = machine.view().latches;
-    [latches.exter, latches.vertb, latches.ports]
-}
-
 /// Whether a word ends the object or the block that its first argument names.
 fn frees(word: Word) -> bool {
-    match word {
-        Word::Lists(word) => matches!(word, ListWord::FreeList | ListWord::FreeNode),
-        Word::Memory(word) => matches!(word, MemoryWord::FreeMem),
-        Word::Ports(word) => matches!(word, PortWord::DeleteMsgPort | PortWord::FreeMsg),
-        Word::Semaphores(word) => matches!(word, SemaphoreWord::FreeSem),
-        Word::Libraries(word) => {
-            matches!(word, LibraryWord::CloseLibrary | LibraryWord::RemLibrary)
-        }
-        Word::Requests(word) => matches!(word, RequestWord::DeleteIORequest),
+    match word.text() {
+        "FreeList" | "FreeNode" | "FreeMem" | "FreeMsg" | "FreeSem" => true,
+        "DeleteMsgPort" | "DeleteIORequest" | "CloseLibrary" | "RemLibrary" => true,
         _ => false,
     }
 }
@@ -103,8 +88,8 @@ impl<'a> Course<'a> {
         Ok(Course {
             file,
             tasks: no_past(alloc, file)?,
-            softints: vec![in alloc; BodyPast::NONE; file.softints().len()]?,
-            sources: [BodyPast::NONE; 3],
+            softints: vec![in alloc; None; file.softints().len()]?,
+            sources: [None; 3],
             asking: [false; 3],
             bodies: 0,
             late: vec![in alloc; None; VARIABLES]?,
@@ -120,7 +105,7 @@ impl<'a> Course<'a> {
 
     /// The command of a task at a place of its code.
     pub fn command(&self, turn: Turn) -> Option<&'a Command> {
-        command_at(self.file, Spot::of_task(turn.task, turn.place))
+        command_at(self.file, turn.spot())
     }
 
     /// Whether a source has asked and was not served yet.
@@ -141,17 +126,11 @@ impl<'a> Course<'a> {
             (Some(task), Some(past)) => {
                 let steps = self.steps;
                 if most > LONG && past.is_endless(&task.code, turn.place, steps, RECENT) {
-                    return Part {
-                        steps: most - LONG,
-                        next: Next::Noted,
-                    };
+                    return Part::new(most - LONG, Next::Noted);
                 }
                 past.part(&task.code, turn, most, steps)
             }
-            _ => Part {
-                steps: 1,
-                next: Next::Task(turn),
-            },
+            _ => Part::new(1, Next::Task(turn)),
         }
     }
 
@@ -166,30 +145,25 @@ impl<'a> Course<'a> {
             return Part { steps: most, next };
         }
         match next {
-            Next::Task(turn) if self.any_asks() => {
-                let steps = self.part_of_task(turn, 1).steps;
-                Part { steps, next }
-            }
+            Next::Task(turn) if self.any_asks() => Part::new(
+                self.part_of_task(turn, 1).steps,
+                next,
+            ),
             Next::Task(turn) => self.part_of_task(turn, most),
             Next::Softint(_) => Part { steps: 1, next },
             _ => Part { steps: most, next },
         }
     }
 
-    /// The command of a task that the last step did.
-    fn site(&self, turn: Turn) -> Site {
-        Site {
-            spot: Spot::of_task(turn.task, turn.place),
-            when: When::Step(self.steps),
-        }
-    }
-
     /// Notes what a command has freed.
     fn note_freed(&mut self, machine: &Linked, turn: Turn, command: &Command) {
         if frees(command.word) {
-            let site = self.site(turn);
+            let site = Site {
+                spot: turn.spot(),
+                when: When::Step(self.steps),
+            };
             if let Some(address) = value_of(machine, Some(turn.task), command, 0) {
-                if self.freed.insert(address, (site, command.word)).is_err() {
+                if self.freed.insert(address, site).is_err() {
                     self.is_whole = false;
                 }
             }
@@ -219,14 +193,10 @@ impl<'a> Course<'a> {
     }
 
     /// Notes that some bodies of interrupts were run together, at most that many, and answers that.
-    fn next_bodies(&mut self, when: When, most: usize) -> BodyPast {
-        let past = BodyPast {
-            steps: self.steps,
-            turn: self.bodies.saturating_add(1),
-            when,
-        };
+    fn next_bodies(&mut self, when: When, most: usize) -> Option<Time> {
+        let (steps, turn) = (self.steps, self.bodies.saturating_add(1));
         self.bodies = self.bodies.saturating_add(most as u64);
-        past
+        Some(Time { steps, turn, when })
     }
 
     /// Notes a step, or some that did nothing.
@@ -253,12 +223,12 @@ impl<'a> Course<'a> {
         if !self.any_asks() {
             return;
         }
-        let asking = asking_in(machine);
+        let latches = machine.view().latches;
+        let asking = [latches.exter, latches.vertb, latches.ports];
         self.asking = asking;
         for k in 0..3 {
             if asked[k] && !asking[k] {
-                let past = self.next_bodies(when, self.file.servers().len());
-                self.sources[k] = past;
+                self.sources[k] = self.next_bodies(when, self.file.servers().len());
             }
         }
     }
@@ -267,17 +237,9 @@ impl<'a> Course<'a> {
     fn note_late(&mut self, body: Begun<'a>, when: When, end: usize) {
         for (place, command) in body.code.iter().enumerate().take(end) {
             if let Some(Variable::Shared(number)) = command.target {
-                let spot = Spot {
-                    owner: body.owner,
-                    item: body.item,
-                    place,
-                };
-                let site = Site { spot, when };
+                let spot = body.spot(place);
                 if let Some(late) = self.late.get_mut(number as usize) {
-                    *late = Some(Setting {
-                        site,
-                        word: command.word,
-                    });
+                    *late = Some(Site { spot, when });
                 }
             }
         }
@@ -367,14 +329,11 @@ impl<'a> Course<'a> {
         }
     }
 
-    /// Whether a task has done its command at a place once.
-    pub fn has_done(&self, turn: Turn) -> bool {
+    /// What is noted of a command of a task.
+    pub fn past(&self, turn: Turn) -> Past {
         match self.tasks.get(turn.task) {
-            None => false,
-            Some(past) => match past.commands.get(turn.place) {
-                None => false,
-                Some(past) => past.done > 0,
-            },
+            None => Past::NONE,
+            Some(past) => past.at(turn.place),
         }
     }
 
@@ -400,52 +359,68 @@ impl<'a> Course<'a> {
         Ok(turns)
     }
 
-    /// The last step in which a command of a task was done, or in which it went on to wait; 0 if there is none.
-    pub fn last_visit(&self, turn: Turn) -> u64 {
-        match self.tasks.get(turn.task) {
-            None => 0,
-            Some(past) => past.visited(turn.place),
-        }
-    }
-
-    /// The last step that did no command of a task; 0 if there is none.
-    pub fn last_other(&self) -> u64 {
-        self.other
-    }
-
-    /// What the bodies of interrupts have set a shared variable to last, if that is later.
-    fn offer_bodies(&self, latest: &mut Latest, variable: Variable) {
-        for (item, softint) in self.file.softints().iter().enumerate() {
-            let past = self.softints.get(item).copied().unwrap_or(BodyPast::NONE);
-            latest.offer_body(Owner::Softint, item, &softint.code, past, variable);
-        }
-        for (item, server) in self.file.servers().iter().enumerate() {
-            let past = self.sources[place_of(server.source)];
-            if past.turn > 0 && is_reached(self.file, item) {
-                let turn = past.turn.saturating_add(rank_of(self.file, item));
-                let past = BodyPast { turn, ..past };
-                latest.offer_body(Owner::Server, item, &server.code, past, variable);
+    /// When a command was done last, if it was.
+    fn time_of(&self, spot: Spot) -> Option<Time> {
+        match spot.owner {
+            Owner::Task => {
+                let done = self.tasks.get(spot.item)?.at(spot.place).done;
+                (done > 0).then_some(Time {
+                    steps: done,
+                    turn: 0,
+                    when: When::Step(done),
+                })
+            }
+            Owner::Softint => *self.softints.get(spot.item)?,
+            Owner::Server => {
+                let server = self.file.servers().get(spot.item)?;
+                let time = self.sources[place_of(server.source)]?;
+                let turn = time.turn.saturating_add(rank_of(self.file, spot.item));
+                is_reached(self.file, spot.item).then_some(Time { turn, ..time })
             }
         }
     }
 
-    /// What has set a variable last, as a task sees it.
-    pub fn setting_of(&self, task: Option<usize>, variable: Variable) -> Option<Setting> {
-        let mut latest = Latest::new();
-        let is_shared = matches!(variable, Variable::Shared(_));
+    /// The last of the commands of a body that set a variable, or `last` if that is later.
+    fn later(
+        &self,
+        last: Option<(Time, Spot)>,
+        body: Begun<'_>,
+        variable: Variable,
+    ) -> Option<(Time, Spot)> {
+        let mut last = last;
+        for (place, command) in body.code.iter().enumerate() {
+            if command.target == Some(variable) {
+                let spot = body.spot(place);
+                if let Some(time) = self.time_of(spot) {
+                    if time.is_last(last.map(|one| one.0)) {
+                        last = Some((time, spot));
+                    }
+                }
+            }
+        }
+        last
+    }
+
+    /// The command that has set a variable last, as a task sees it.
+    pub fn setting_of(&self, task: Option<usize>, variable: Variable) -> Option<Site> {
         if let Variable::Shared(number) = variable {
             if let Some(late) = self.late.get(number as usize).copied().unwrap_or(None) {
                 return Some(late);
             }
-            self.offer_bodies(&mut latest, variable);
         }
-        for (item, record) in self.file.tasks().iter().enumerate() {
-            if is_shared || task == Some(item) {
-                if let Some(past) = self.tasks.get(item) {
-                    latest.offer_task(item, &record.code, past, variable);
+        let is_shared = matches!(variable, Variable::Shared(_));
+        let mut last = None;
+        for owner in [Owner::Softint, Owner::Server, Owner::Task] {
+            for item in 0..count_of(self.file, owner) {
+                if is_shared || owner == Owner::Task && task == Some(item) {
+                    if let Some(body) = Begun::new(self.file, owner, item) {
+                        last = self.later(last, body, variable);
+                    }
                 }
             }
         }
-        latest.setting
+        let (time, spot) = last?;
+        let when = time.when;
+        Some(Site { spot, when })
     }
 }

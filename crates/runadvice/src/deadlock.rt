@@ -1,5 +1,6 @@
 //! Tasks that wait for each other's semaphores in a circle.
-use crate::page::{Page, Spot};
+use crate::argument::joined;
+use crate::page::Page;
 use crate::scene::Scene;
 use crate::wait::{Waiter, awaited_text, owner_awaited};
 use std::alloc::AllocError;
@@ -24,17 +25,12 @@ impl Scene<'_, '_> {
     fn names_of(&self, circle: &[usize]) -> Result<String, AllocError> {
         let mut tasks = Vec::from_slice(self.alloc, circle)?;
         tasks.sort()?;
-        let mut names = String::new(self.alloc);
-        let last = tasks.len().saturating_sub(1);
-        for (i, task) in tasks.iter().enumerate() {
-            if i > 0 {
-                names.push_str(if i == last { " and " } else { ", " })?;
-            }
-            names.push_str("\"")?;
-            names.push_str(self.name(*task))?;
-            names.push_str("\"")?;
+        let mut names = Vec::new(self.alloc);
+        for task in tasks.iter() {
+            let name = self.name(*task);
+            names.push(format!(in self.alloc; "\"{name}\"")?)?;
         }
-        Ok(names)
+        joined(self.alloc, &names, " and ")
     }
 
     /// Adds that a task of a circle waits for the next one.
@@ -51,10 +47,10 @@ impl Scene<'_, '_> {
         } else {
             format!(in alloc; "warning: deadlock: tasks {names} wait for each other")?
         };
-        let owner = self.name(owner_awaited(self.machine, waiter.task).unwrap_or(0));
+        let owner = self.name(owner_awaited(self.machine, waiter.turn.task).unwrap_or(0));
         let awaited = awaited_text(alloc, waiter.awaited)?;
         let reason = format!(in alloc; "waits for {awaited}, which task \"{owner}\" owns")?;
-        let spot = Spot::of_task(waiter.task, waiter.place);
+        let spot = waiter.turn.spot();
         page.warn(spot, header.as_str(), reason.as_str())
     }
 }

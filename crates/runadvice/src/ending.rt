@@ -1,11 +1,11 @@
 //! What is said of the alert that has stopped a machine.
 use crate::alert::Refused;
-use crate::argument::{hex, shown};
+use crate::argument::shown;
 use crate::course::Course;
+use crate::following::Run;
 use crate::handles::Asking;
-use crate::page::{Mark, Page, argument_text};
+use crate::page::{Page, argument_text};
 use crate::rules::Fault;
-use crate::scene::Linked;
 use crate::value::variable_at;
 use std::alloc::{AllocError, Global};
 use taskscript::{Event, SignalWord, Word};
@@ -45,7 +45,7 @@ impl Asking<'_, '_> {
             return format!(in alloc; "{name} {why}");
         };
         let shown = if has_bits(self.refused) {
-            hex(alloc, value)?
+            format!(in alloc; "${value:08X}")?
         } else {
             shown(alloc, value)?
         };
@@ -61,28 +61,23 @@ impl Asking<'_, '_> {
 /// Adds what there is to say of a refused call.
 pub fn add_alert<'a>(
     page: &mut Page<'a>,
-    machine: &Linked,
-    course: &Course<'_>,
+    run: &Run<'_>,
     refused: &Refused<'_>,
 ) -> Result<(), AllocError> {
     let alloc = page.alloc;
     let asking = Asking {
         alloc,
-        machine,
-        course,
+        machine: &run.machine,
+        course: &run.course,
         listing: page.listing,
         refused,
     };
     let spot = refused.spot;
     let fault = asking.fault()?;
-    let mark = match fault.argument {
-        None => Mark::Word,
-        Some(number) => Mark::Argument(number),
-    };
     let reason = asking.sentence(page.line(spot), &fault)?;
-    let time = when(alloc, course)?;
+    let time = when(alloc, &run.course)?;
     let (code, time) = (refused.code, time.as_str());
     let header = format!(in alloc; "alert {code} {time}")?;
     page.warns = true;
-    page.add(spot, mark, header.as_str(), reason.as_str())
+    page.add(spot, fault.argument, header.as_str(), reason.as_str())
 }

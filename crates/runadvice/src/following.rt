@@ -7,7 +7,7 @@ ghost use Rattle.taskscript.specs.Events.{ticks as ticks_of};
 ghost use Rattle.taskscript.specs.File.{MachineData};
 ghost use Rattle.taskscript.specs.declared.event.Event.{Event};
 ghost use Rattle.execmodel.specs.State.{booted};
-ghost use Rattle.execmodel.specs.Step.{run, starts};
+ghost use Rattle.execmodel.specs.Step.{run as run_of, starts};
 ghost use Rattle.execsim.specs.Agreement.{Agrees};
 ghost use Rattle.execsim.specs.Time.{HasTimeFor};
 ghost use Rattle.runadvice.specs.Going.{EndsWith, Goes};
@@ -15,30 +15,45 @@ ghost use Rattle.runadvice.specs.Going.{EndsWith, Goes};
 use crate::course::Course;
 use crate::next::{Next, next_of};
 use crate::room::Room;
-use crate::scene::Linked;
-use std::alloc::AllocError;
+use crate::scene::{Linked, Scene};
+use std::alloc::{AllocError, Global};
 use taskscript::Event;
 
-/// Does some steps, a tick or a request, and notes it. What it prints is in the room; after an alert the room is as the alert left it.
-fn advance(
-    machine: &mut Linked,
-    one: Event,
-    next: Next,
-    course: &mut Course<'_>,
-    room: &mut Room,
-) -> Result<(), AllocError>
-    requires going { machine.old.failed ≡ false }
-    requires good { room.old.state ≡ SinkState.Good }
-    requires time { HasTimeFor (ticks_of one) machine.old.seen }
-    ensures goes { OnOk result (Goes (one ∷ []) machine.old.seen machine.new.seen room.old.bytes.items room.new.bytes.items) }
-    ensures going { OnOk result (machine.new.failed ≡ false) }
-    ensures good { OnOk result (room.new.state ≡ SinkState.Good) }
-    ensures time { OnOk result ((ticks : ℕ) → HasTimeFor (ticks_of one + ticks) machine.old.seen → HasTimeFor ticks machine.new.seen) }
+/// A run, as far as it is made.
+#[derive(Drop)]
+pub struct Run<'a> {
+    pub machine: Linked,
+    /// What is noted of its steps.
+    pub course: Course<'a>,
+    /// What the last part of it printed; after an alert, as the alert left it.
+    pub room: Room,
+}
+
+impl<'a> Run<'a> {
+    /// What is asked when something is said of the machine as it is now.
+    pub fn scene<'b>(&'b self, alloc: Global) -> Scene<'a, 'b> {
+        Scene {
+            alloc,
+            machine: &self.machine,
+            course: &self.course,
+        }
+    }
+}
+
+/// Does some steps, a tick or a request, and notes it.
+fn advance(run: &mut Run<'_>, one: Event, next: Next) -> Result<(), AllocError>
+    requires going { run.old.machine.failed ≡ false }
+    requires good { run.old.room.state ≡ SinkState.Good }
+    requires time { HasTimeFor (ticks_of one) run.old.machine.seen }
+    ensures goes { OnOk result (Goes (one ∷ []) run.old.machine.seen run.new.machine.seen run.old.room.bytes.items run.new.room.bytes.items) }
+    ensures going { OnOk result (run.new.machine.failed ≡ false) }
+    ensures good { OnOk result (run.new.room.state ≡ SinkState.Good) }
+    ensures time { OnOk result ((ticks : ℕ) → HasTimeFor (ticks_of one + ticks) run.old.machine.seen → HasTimeFor ticks run.new.machine.seen) }
 {
-    course.clear(room);
-    match machine.event(one, room) {
+    run.course.clear(&mut run.room);
+    match run.machine.event(one, &mut run.room) {
         Ok(flow) => {
-            course.note(machine, one, next, flow, room);
+            run.course.note(&run.machine, one, next, flow, &run.room);
             Ok(())
         }
         Err(_) => Err(AllocError),
@@ -46,89 +61,69 @@ fn advance(
 }
 
 /// Does that many steps.
-fn advance_steps(
-    machine: &mut Linked,
-    count: u32,
-    course: &mut Course<'_>,
-    room: &mut Room,
-) -> Result<(), AllocError>
-    requires going { machine.old.failed ≡ false }
-    requires good { room.old.state ≡ SinkState.Good }
-    requires time { HasTimeFor 0 machine.old.seen }
-    ensures goes { OnOk result (Goes (Event.Run count ∷ []) machine.old.seen machine.new.seen room.old.bytes.items room.new.bytes.items) }
-    ensures going { OnOk result (machine.new.failed ≡ false) }
-    ensures good { OnOk result (room.new.state ≡ SinkState.Good) }
-    ensures time { OnOk result ((ticks : ℕ) → HasTimeFor ticks machine.old.seen → HasTimeFor ticks machine.new.seen) }
+fn advance_steps(run: &mut Run<'_>, count: u32) -> Result<(), AllocError>
+    requires going { run.old.machine.failed ≡ false }
+    requires good { run.old.room.state ≡ SinkState.Good }
+    requires time { HasTimeFor 0 run.old.machine.seen }
+    ensures goes { OnOk result (Goes (Event.Run count ∷ []) run.old.machine.seen run.new.machine.seen run.old.room.bytes.items run.new.room.bytes.items) }
+    ensures going { OnOk result (run.new.machine.failed ≡ false) }
+    ensures good { OnOk result (run.new.room.state ≡ SinkState.Good) }
+    ensures time { OnOk result ((ticks : ℕ) → HasTimeFor ticks run.old.machine.seen → HasTimeFor ticks run.new.machine.seen) }
 {
     let mut done = 0;
     while done < count {
-        let part = course.part(next_of(machine), count - done);
-        advance(machine, Event::Run(part.steps), part.next, course, room)?;
+        let part = run.course.part(next_of(&run.machine), count - done);
+        advance(run, Event::Run(part.steps), part.next)?;
         done += part.steps;
     }
     Ok(())
 }
 
 /// Does that many ticks, one at a time.
-fn advance_ticks(
-    machine: &mut Linked,
-    count: u32,
-    course: &mut Course<'_>,
-    room: &mut Room,
-) -> Result<(), AllocError>
-    requires going { machine.old.failed ≡ false }
-    requires good { room.old.state ≡ SinkState.Good }
-    requires time { HasTimeFor count machine.old.seen }
-    ensures goes { OnOk result (Goes (Event.Tick count ∷ []) machine.old.seen machine.new.seen room.old.bytes.items room.new.bytes.items) }
-    ensures going { OnOk result (machine.new.failed ≡ false) }
-    ensures good { OnOk result (room.new.state ≡ SinkState.Good) }
-    ensures time { OnOk result ((ticks : ℕ) → HasTimeFor (count + ticks) machine.old.seen → HasTimeFor ticks machine.new.seen) }
+fn advance_ticks(run: &mut Run<'_>, count: u32) -> Result<(), AllocError>
+    requires going { run.old.machine.failed ≡ false }
+    requires good { run.old.room.state ≡ SinkState.Good }
+    requires time { HasTimeFor count run.old.machine.seen }
+    ensures goes { OnOk result (Goes (Event.Tick count ∷ []) run.old.machine.seen run.new.machine.seen run.old.room.bytes.items run.new.room.bytes.items) }
+    ensures going { OnOk result (run.new.machine.failed ≡ false) }
+    ensures good { OnOk result (run.new.room.state ≡ SinkState.Good) }
+    ensures time { OnOk result ((ticks : ℕ) → HasTimeFor (count + ticks) run.old.machine.seen → HasTimeFor ticks run.new.machine.seen) }
 {
     for _tick in 0..count {
-        advance(machine, Event::Tick(1), Next::Nothing, course, room)?;
+        advance(run, Event::Tick(1), Next::Nothing)?;
     }
     Ok(())
 }
 
 /// Does one event.
-fn advance_event(
-    machine: &mut Linked,
-    one: Event,
-    course: &mut Course<'_>,
-    room: &mut Room,
-) -> Result<(), AllocError>
-    requires going { machine.old.failed ≡ false }
-    requires good { room.old.state ≡ SinkState.Good }
-    requires time { HasTimeFor (ticks_of one) machine.old.seen }
-    ensures goes { OnOk result (Goes (one ∷ []) machine.old.seen machine.new.seen room.old.bytes.items room.new.bytes.items) }
-    ensures going { OnOk result (machine.new.failed ≡ false) }
-    ensures good { OnOk result (room.new.state ≡ SinkState.Good) }
-    ensures time { OnOk result ((ticks : ℕ) → HasTimeFor (ticks_of one + ticks) machine.old.seen → HasTimeFor ticks machine.new.seen) }
+fn advance_event(run: &mut Run<'_>, one: Event) -> Result<(), AllocError>
+    requires going { run.old.machine.failed ≡ false }
+    requires good { run.old.room.state ≡ SinkState.Good }
+    requires time { HasTimeFor (ticks_of one) run.old.machine.seen }
+    ensures goes { OnOk result (Goes (one ∷ []) run.old.machine.seen run.new.machine.seen run.old.room.bytes.items run.new.room.bytes.items) }
+    ensures going { OnOk result (run.new.machine.failed ≡ false) }
+    ensures good { OnOk result (run.new.room.state ≡ SinkState.Good) }
+    ensures time { OnOk result ((ticks : ℕ) → HasTimeFor (ticks_of one + ticks) run.old.machine.seen → HasTimeFor ticks run.new.machine.seen) }
 {
     match one {
-        Event::Run(count) => advance_steps(machine, count, course, room),
-        Event::Tick(count) => advance_ticks(machine, count, course, room),
-        Event::Irq(_) => advance(machine, one, Next::Nothing, course, room),
+        Event::Run(count) => advance_steps(run, count),
+        Event::Tick(count) => advance_ticks(run, count),
+        Event::Irq(_) => advance(run, one, Next::Nothing),
     }
 }
 
 /// Does some events.
-fn advance_all(
-    machine: &mut Linked,
-    list: &[Event],
-    course: &mut Course<'_>,
-    room: &mut Room,
-) -> Result<(), AllocError>
-    requires going { machine.old.failed ≡ false }
-    requires good { room.old.state ≡ SinkState.Good }
-    requires time { HasTimeFor (sum_by ticks_of list.now) machine.old.seen }
-    ensures goes { OnOk result (Goes list.now machine.old.seen machine.new.seen room.old.bytes.items room.new.bytes.items) }
-    ensures going { OnOk result (machine.new.failed ≡ false) }
-    ensures good { OnOk result (room.new.state ≡ SinkState.Good) }
-    ensures time { OnOk result (HasTimeFor 0 machine.new.seen) }
+fn advance_all(run: &mut Run<'_>, list: &[Event]) -> Result<(), AllocError>
+    requires going { run.old.machine.failed ≡ false }
+    requires good { run.old.room.state ≡ SinkState.Good }
+    requires time { HasTimeFor (sum_by ticks_of list.now) run.old.machine.seen }
+    ensures goes { OnOk result (Goes list.now run.old.machine.seen run.new.machine.seen run.old.room.bytes.items run.new.room.bytes.items) }
+    ensures going { OnOk result (run.new.machine.failed ≡ false) }
+    ensures good { OnOk result (run.new.room.state ≡ SinkState.Good) }
+    ensures time { OnOk result (HasTimeFor 0 run.new.machine.seen) }
 {
     for one in list {
-        advance_event(machine, *one, course, room)?;
+        advance_event(run, *one)?;
     }
     Ok(())
 }
@@ -150,24 +145,19 @@ fn begin(machine: &mut Linked, room: &mut Room) -> Result<(), AllocError>
     }
 }
 
-/// Starts a machine that was made and not started yet, and does some events. What each step did is noted, and the room holds what the last
-/// part of the run printed.
-pub fn follow(
-    machine: &mut Linked,
-    list: &[Event],
-    course: &mut Course<'_>,
-    room: &mut Room,
-) -> Result<(), AllocError>
-    requires going { machine.old.failed ≡ false }
-    requires good { room.old.state ≡ SinkState.Good }
-    requires empty { room.old.bytes.items ≡ [] }
-    requires time { HasTimeFor (sum_by ticks_of list.now) machine.old.seen }
-    ensures agrees { OnOk result ((m : MachineData) → Agrees machine.old.seen (booted m) → Agrees machine.new.seen (run m list.now).state) }
-    ensures tells { OnOk result ((m : MachineData) → Agrees machine.old.seen (booted m) → EndsWith (printed (run m list.now).lines) room.new.bytes.items) }
-    ensures going { OnOk result (machine.new.failed ≡ false) }
-    ensures good { OnOk result (room.new.state ≡ SinkState.Good) }
-    ensures time { OnOk result (HasTimeFor 0 machine.new.seen) }
+/// Starts a machine that was made and not started yet, and does some events.
+pub fn follow(run: &mut Run<'_>, list: &[Event]) -> Result<(), AllocError>
+    requires going { run.old.machine.failed ≡ false }
+    requires good { run.old.room.state ≡ SinkState.Good }
+    requires empty { run.old.room.bytes.items ≡ [] }
+    requires time { HasTimeFor (sum_by ticks_of list.now) run.old.machine.seen }
+    ensures agrees { OnOk result ((m : MachineData) → Agrees run.old.machine.seen (booted m) → Agrees run.new.machine.seen (run_of m list.now).state) }
+    ensures tells { OnOk result ((m : MachineData) → Agrees run.old.machine.seen (booted m)
+        → EndsWith (printed (run_of m list.now).lines) run.new.room.bytes.items) }
+    ensures going { OnOk result (run.new.machine.failed ≡ false) }
+    ensures good { OnOk result (run.new.room.state ≡ SinkState.Good) }
+    ensures time { OnOk result (HasTimeFor 0 run.new.machine.seen) }
 {
-    begin(machine, room)?;
-    advance_all(machine, list, course, room)
+    begin(&mut run.machine, &mut run.room)?;
+    advance_all(run, list)
 }

@@ -1,6 +1,6 @@
 //! The alert HANDLE: which argument of a call names nothing of the kind that the call wants.
 use crate::alert::Refused;
-use crate::argument::{hex, kind_of, object_at};
+use crate::argument::{kind_of, object_at};
 use crate::course::Course;
 use crate::memory::block_around;
 use crate::rules::Fault;
@@ -18,93 +18,63 @@ enum Wanted {
     Task,
     /// A task that was added and has not ended.
     LiveTask,
-    /// The same, or 0 for the caller.
-    LiveTaskOrCaller,
-    List,
-    Node,
-    NodeOrNone,
-    ListOrNode,
-    Port,
-    PortOrNone,
-    Message,
-    Semaphore,
-    Library,
-    LibraryOrNone,
-    Request,
-    RequestOrNone,
+    /// The object that begins at an address, by its kind in words.
+    Object(&'static str),
 }
+
+/// The kinds of objects that are wanted and are not said as those that are found.
+const LIST_OR_NODE: &str = "a list or a node";
+
+const LIBRARY: &str = "the base of a loaded library";
 
 /// What the arguments of a word have to name, from left to right.
 fn wanted_by(word: &str) -> [Wanted; 3] {
     let none = Wanted::Nothing;
+    let (list, node) = (Wanted::Object("a list"), Wanted::Object("a node"));
+    let (port, message) = (Wanted::Object("a port"), Wanted::Object("a message"));
+    let (semaphore, request) = (
+        Wanted::Object("a semaphore"),
+        Wanted::Object("a timer request"),
+    );
     match word {
         "Signal" | "AddTask" => [Wanted::Task, none, none],
-        "SetTaskPri" => [Wanted::LiveTask, none, none],
-        "RemTask" => [Wanted::LiveTaskOrCaller, none, none],
-        "FreeList" | "RemHead" | "RemTail" | "First" | "Last" => [Wanted::List, none, none],
-        "FreeNode" | "Remove" | "Succ" | "Pred" => [Wanted::Node, none, none],
-        "AddHead" | "AddTail" | "Enqueue" => [Wanted::List, Wanted::Node, none],
-        "Insert" => [Wanted::List, Wanted::Node, Wanted::NodeOrNone],
-        "FindName" => [Wanted::ListOrNode, none, none],
-        "DeleteMsgPort" | "NewMsg" | "CreateIORequest" => [Wanted::PortOrNone, none, none],
-        "AddPort" | "RemPort" | "PortSignal" | "PortCause" | "PortIgnore" | "GetMsg" | "WaitPort" =>
-            [Wanted::Port, none, none],
-        "PutMsg" => [Wanted::Port, Wanted::Message, none],
-        "FreeMsg" | "MsgWord" | "SetMsgWord" | "MsgType" | "ReplyMsg" => {
-            [Wanted::Message, none, none]
-        }
-        "FreeSem" | "ObtainSemaphore" | "AttemptSemaphore" | "ReleaseSemaphore" => {
-            [Wanted::Semaphore, none, none]
-        }
-        "CloseLibrary" => [Wanted::LibraryOrNone, none, none],
-        "RemLibrary" | "LibOpenCnt" => [Wanted::Library, none, none],
-        "DeleteIORequest" => [Wanted::RequestOrNone, none, none],
-        "OpenDevice" => [none, none, Wanted::Request],
-        _ => [Wanted::Request, none, none],
+        "SetTaskPri" | "RemTask" => [Wanted::LiveTask, none, none],
+        "FreeList" | "RemHead" | "RemTail" | "First" | "Last" => [list, none, none],
+        "FreeNode" | "Remove" | "Succ" | "Pred" => [node, none, none],
+        "AddHead" | "AddTail" | "Enqueue" => [list, node, none],
+        "Insert" => [list, node, node],
+        "FindName" => [Wanted::Object(LIST_OR_NODE), none, none],
+        "DeleteMsgPort" | "NewMsg" | "CreateIORequest" | "AddPort" | "RemPort" => [
+            port, none, none,
+        ],
+        "PortSignal" | "PortCause" | "PortIgnore" | "GetMsg" | "WaitPort" => [port, none, none],
+        "PutMsg" => [port, message, none],
+        "FreeMsg" | "MsgWord" | "SetMsgWord" | "MsgType" | "ReplyMsg" => [message, none, none],
+        "FreeSem" | "ReleaseSemaphore" => [semaphore, none, none],
+        "ObtainSemaphore" | "AttemptSemaphore" => [semaphore, none, none],
+        "CloseLibrary" | "RemLibrary" | "LibOpenCnt" => [Wanted::Object(LIBRARY), none, none],
+        "OpenDevice" => [none, none, request],
+        _ => [request, none, none],
     }
 }
 
-/// What is wanted, in words.
-fn wanted_text(wanted: Wanted) -> &'static str {
-    match wanted {
-        Wanted::Nothing => "a value",
-        Wanted::Task | Wanted::LiveTask | Wanted::LiveTaskOrCaller => "a task",
-        Wanted::List => "a list",
-        Wanted::Node | Wanted::NodeOrNone => "a node",
-        Wanted::ListOrNode => "a list or a node",
-        Wanted::Port | Wanted::PortOrNone => "a port",
-        Wanted::Message => "a message",
-        Wanted::Semaphore => "a semaphore",
-        Wanted::Library | Wanted::LibraryOrNone => "the base of a loaded library",
-        Wanted::Request | Wanted::RequestOrNone => "a timer request",
+/// Whether an argument of a word may be 0: none, or for RemTask the caller.
+fn may_be_none(word: &str, number: usize) -> bool {
+    match word {
+        "Insert" => number == 2,
+        "CreateIORequest" | "DeleteIORequest" | "DeleteMsgPort" | "NewMsg" => true,
+        "CloseLibrary" | "RemTask" => true,
+        _ => false,
     }
 }
 
 /// Whether an object is of the kind that is wanted.
-fn is_of(wanted: Wanted, object: ObjectView) -> bool {
-    match wanted {
-        Wanted::List => matches!(object, ObjectView::List),
-        Wanted::Node | Wanted::NodeOrNone => matches!(object, ObjectView::Node(_)),
-        Wanted::ListOrNode => matches!(object, ObjectView::List | ObjectView::Node(_)),
-        Wanted::Port | Wanted::PortOrNone => matches!(object, ObjectView::Port(_)),
-        Wanted::Message => matches!(object, ObjectView::Message(_)),
-        Wanted::Semaphore => matches!(object, ObjectView::Semaphore(_)),
-        Wanted::Library | Wanted::LibraryOrNone => matches!(object, ObjectView::Library(_)),
-        Wanted::Request | Wanted::RequestOrNone => matches!(object, ObjectView::Request(_)),
-        _ => true,
+fn is_of(wanted: &str, object: ObjectView) -> bool {
+    match object {
+        ObjectView::Library(_) => wanted == LIBRARY,
+        ObjectView::List | ObjectView::Node(_) if wanted == LIST_OR_NODE => true,
+        _ => wanted == kind_of(object),
     }
-}
-
-/// Whether 0 may be given for what is wanted.
-fn may_be_none(wanted: Wanted) -> bool {
-    matches!(
-        wanted,
-        Wanted::NodeOrNone
-            | Wanted::PortOrNone
-            | Wanted::LibraryOrNone
-            | Wanted::RequestOrNone
-            | Wanted::LiveTaskOrCaller
-    )
 }
 
 /// What is asked when something is said of a refused call.
@@ -118,8 +88,8 @@ pub struct Asking<'a, 'b> {
 }
 
 impl Asking<'_, '_> {
-    /// Why a number is not that of a task that is wanted.
-    fn task_fault(&self, wanted: Wanted, value: u32) -> Result<Option<String>, AllocError> {
+    /// Why a number is not that of a task, or not of a live one if that is wanted.
+    fn task_fault(&self, is_live: bool, value: u32) -> Result<Option<String>, AllocError> {
         let alloc = self.alloc;
         let count = self.machine.view().tasks;
         let number = (value as usize).saturating_sub(1);
@@ -132,7 +102,7 @@ impl Asking<'_, '_> {
             return Ok(Some(format!(in alloc; "is not the number of a task; {range}")?));
         }
         let state = match self.machine.task(number) {
-            Some(task) if wanted != Wanted::Task => task.state,
+            Some(task) if is_live => task.state,
             _ => return Ok(None),
         };
         let end = match state {
@@ -144,46 +114,47 @@ impl Asking<'_, '_> {
         Ok(Some(format!(in alloc; "is the number of task \"{name}\", which {end}")?))
     }
 
+    /// Why nothing begins at an address, as the end of a sentence: which block it is in, and what has freed what was there.
+    pub fn unfound_text(&self, address: u32) -> Result<String, AllocError> {
+        let inside = self.inside_text(address)?;
+        let freed = self.freed_text(address)?;
+        format!(in self.alloc; "{inside}{freed}")
+    }
+
     /// Which block an address is in, if it is in one and does not begin it, as the end of a sentence.
-    pub fn inside_text(&self, address: u32) -> Result<String, AllocError> {
+    fn inside_text(&self, address: u32) -> Result<String, AllocError> {
         match block_around(self.alloc, self.machine, address)? {
             None => Ok(String::new(self.alloc)),
             Some(block) => {
                 let kind = kind_of(block.view.object);
-                let begin = hex(self.alloc, block.address)?;
-                format!(in self.alloc; ": it is inside {kind}, which begins at {begin}")
+                let begin = block.address;
+                format!(in self.alloc; ": it is inside {kind}, which begins at ${begin:08X}")
             }
         }
     }
 
-    /// Why an address is not that of an object that is wanted.
-    fn object_fault(&self, wanted: Wanted, value: u32) -> Result<Option<String>, AllocError> {
-        let name = wanted_text(wanted);
+    /// Why an address is not that of an object of the kind that is wanted.
+    fn object_fault(&self, wanted: &str, value: u32) -> Result<Option<String>, AllocError> {
         match object_at(self.machine, value) {
             None => {
-                let freed = self.freed_text(value)?;
-                let inside = self.inside_text(value)?;
-                Ok(Some(format!(in self.alloc; "is not {name}{inside}{freed}")?))
+                let unfound = self.unfound_text(value)?;
+                Ok(Some(format!(in self.alloc; "is not {wanted}{unfound}")?))
             }
             Some(object) if is_of(wanted, object) => Ok(None),
             Some(object) => {
                 let kind = kind_of(object);
-                Ok(Some(format!(in self.alloc; "is {kind}, not {name}")?))
+                Ok(Some(format!(in self.alloc; "is {kind}, not {wanted}")?))
             }
         }
     }
 
     /// Why an argument does not name what is wanted, if it does not.
     fn fault_of(&self, wanted: Wanted, value: u32) -> Result<Option<String>, AllocError> {
-        if value == 0 && may_be_none(wanted) {
-            return Ok(None);
-        }
         match wanted {
             Wanted::Nothing => Ok(None),
-            Wanted::Task | Wanted::LiveTask | Wanted::LiveTaskOrCaller => {
-                self.task_fault(wanted, value)
-            }
-            _ => self.object_fault(wanted, value),
+            Wanted::Task => self.task_fault(false, value),
+            Wanted::LiveTask => self.task_fault(true, value),
+            Wanted::Object(kind) => self.object_fault(kind, value),
         }
     }
 
@@ -194,29 +165,30 @@ impl Asking<'_, '_> {
             Some(ObjectView::Request(request)) => request.port,
             _ => return Fault::new(self.alloc, None, "a handle of this call names nothing live"),
         };
-        let address = hex(self.alloc, port)?;
         let freed = self.freed_text(port)?;
         let why = format!(in self.alloc;
-            "has the reply port {address}, which is not a port any more{freed}"
+            "has the reply port ${port:08X}, which is not a port any more{freed}"
         )?;
-        Ok(Fault::whole(Some(0), why))
+        Ok(Fault::of(0, why, false))
     }
 
     /// Whether it is worth saying where a value comes from: it is 0, or the address of an object of another kind.
     fn asks_origin(&self, wanted: Wanted, value: u32) -> bool {
         match wanted {
-            Wanted::Task | Wanted::LiveTask | Wanted::LiveTaskOrCaller => true,
+            Wanted::Task | Wanted::LiveTask => true,
             _ => value == 0 || object_at(self.machine, value).is_some(),
         }
     }
 
     /// The first argument of a call that names nothing of the kind that the call wants, and why.
     pub fn handle_fault(&self) -> Result<Fault, AllocError> {
-        let wanted = wanted_by(self.refused.command.word.text());
-        for (number, kind) in wanted.iter().enumerate() {
+        let word = self.refused.command.word.text();
+        for (number, wanted) in wanted_by(word).iter().enumerate() {
             let value = self.refused.value(number);
-            if let Some(why) = self.fault_of(*kind, value)? {
-                return Ok(Fault::of(Some(number), why, self.asks_origin(*kind, value)));
+            if value != 0 || !may_be_none(word, number) {
+                if let Some(why) = self.fault_of(*wanted, value)? {
+                    return Ok(Fault::of(number, why, self.asks_origin(*wanted, value)));
+                }
             }
         }
         self.reply_fault()

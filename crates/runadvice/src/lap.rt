@@ -4,8 +4,8 @@ ghost use Rattle.exectrace.specs.declared.sinks.SinkState.{SinkState};
 ghost use Rattle.execsim.specs.Time.{HasTimeFor};
 
 use crate::course::{Course, RECENT};
+use crate::following::Run;
 use crate::next::{Next, next_of};
-use crate::room::Room;
 use crate::scene::Linked;
 use crate::snapshot::{memory_shown, tasks_shown};
 use crate::step::{Turn, prints};
@@ -89,16 +89,16 @@ impl Lap {
 }
 
 /// Does one step more; whether no alert has stopped the machine. The room holds what it printed.
-fn go_on(machine: &mut Linked, room: &mut Room) -> Result<bool, AllocError>
-    requires going { machine.old.failed ≡ false }
-    requires good { room.old.state ≡ SinkState.Good }
-    requires time { HasTimeFor 0 machine.old.seen }
-    ensures going { OnOk result (machine.new.failed ≡ false) }
-    ensures good { OnOk result (room.new.state ≡ SinkState.Good) }
-    ensures time { OnOk result (HasTimeFor 0 machine.new.seen) }
+fn go_on(run: &mut Run<'_>) -> Result<bool, AllocError>
+    requires going { run.old.machine.failed ≡ false }
+    requires good { run.old.room.state ≡ SinkState.Good }
+    requires time { HasTimeFor 0 run.old.machine.seen }
+    ensures going { OnOk result (run.new.machine.failed ≡ false) }
+    ensures good { OnOk result (run.new.room.state ≡ SinkState.Good) }
+    ensures time { OnOk result (HasTimeFor 0 run.new.machine.seen) }
 {
-    room.bytes.clear();
-    match machine.event(Event::Run(1), room) {
+    run.room.bytes.clear();
+    match run.machine.event(Event::Run(1), &mut run.room) {
         Ok(flow) => Ok(flow == Flow::Going),
         Err(_) => Err(AllocError),
     }
@@ -113,20 +113,19 @@ pub fn turn_of(machine: &Linked) -> Option<Turn> {
 
 /// Adds what the next step is to do: the command of a task, or a software interrupt; whether it is one of them.
 fn add_next(lap: &mut Lap, course: &Course<'_>, next: Next) -> Result<bool, AllocError> {
-    let turn = match next {
-        Next::Task(turn) => turn,
+    match next {
+        Next::Task(turn) => match course.command(turn) {
+            None => Ok(false),
+            Some(command) => {
+                lap.add(turn, command.word)?;
+                Ok(!lap.is_hidden)
+            }
+        },
         Next::Softint(_) => {
             lap.has_softint = true;
-            return Ok(true);
+            Ok(true)
         }
-        _ => return Ok(false),
-    };
-    match course.command(turn) {
-        None => Ok(false),
-        Some(command) => {
-            lap.add(turn, command.word)?;
-            Ok(!lap.is_hidden)
-        }
+        _ => Ok(false),
     }
 }
 
@@ -153,32 +152,24 @@ fn shows_again(
 
 /// The steps that bring a machine in which a task runs back to what it shows now, if some steps do. It goes on, and where no steps do it
 /// shows something else then.
-pub fn lap_of(
-    alloc: Global,
-    machine: &mut Linked,
-    course: &Course<'_>,
-    room: &mut Room,
-) -> Result<Option<Lap>, AllocError>
-    requires going { machine.old.failed ≡ false }
-    requires good { room.old.state ≡ SinkState.Good }
-    requires time { HasTimeFor 0 machine.old.seen }
+pub fn lap_of(alloc: Global, run: &mut Run<'_>) -> Result<Option<Lap>, AllocError>
+    requires going { run.old.machine.failed ≡ false }
+    requires good { run.old.room.state ≡ SinkState.Good }
+    requires time { HasTimeFor 0 run.old.machine.seen }
 {
-    let running = turn_of(machine);
-    let tasks = tasks_shown(alloc, machine)?;
-    let memory = memory_shown(alloc, machine)?;
+    let running = turn_of(&run.machine);
+    let tasks = tasks_shown(alloc, &run.machine)?;
+    let memory = memory_shown(alloc, &run.machine)?;
     let mut lap = Lap::new(alloc);
     let mut compared = 0usize;
     for _step in 0..RECENT {
-        let next = next_of(machine);
-        if !add_next(&mut lap, course, next)? {
+        let next = next_of(&run.machine);
+        if !add_next(&mut lap, &run.course, next)? || !go_on(run)? {
             return Ok(None);
         }
-        if !go_on(machine, room)? {
-            return Ok(None);
-        }
-        lap.waits = lap.waits || is_waiting(machine, next);
-        if shows_again(alloc, machine, running, tasks.as_str())? {
-            if memory_shown(alloc, machine)?.as_str() == memory.as_str() {
+        lap.waits = lap.waits || is_waiting(&run.machine, next);
+        if shows_again(alloc, &run.machine, running, tasks.as_str())? {
+            if memory_shown(alloc, &run.machine)?.as_str() == memory.as_str() {
                 return Ok(Some(lap));
             }
             compared = compared.saturating_add(1);

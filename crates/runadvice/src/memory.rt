@@ -11,7 +11,7 @@ const REGIONS: usize = 8;
 const GRAIN: u32 = 8;
 
 /// How many messages, requests or nodes a queue has at most, and one more.
-const QUEUE: usize = 2049;
+pub const QUEUE: usize = 2049;
 
 /// A block of memory.
 #[derive(Clone, Copy, Debug)]
@@ -65,46 +65,36 @@ pub fn blocks_of(alloc: Global, machine: &Linked) -> Result<Vec<Block>, AllocErr
     Ok(blocks)
 }
 
-/// The nodes of a list.
-pub fn nodes_of(alloc: Global, machine: &Linked, list: u32) -> Result<Vec<u32>, AllocError> {
-    let mut nodes = Vec::new(alloc);
-    let mut at = None;
-    for _turn in 0..QUEUE {
-        match machine.node_after(list, at) {
-            None => return Ok(nodes),
-            Some(node) => {
-                nodes.push(node)?;
-                at = Some(node);
-            }
+/// What is in a queue in which each is found after the one before it, at most that many.
+pub fn queued<T: Copy, F: Fn(Option<T>) -> Option<T>>(
+    alloc: Global,
+    most: usize,
+    after: F,
+) -> Result<Vec<T>, AllocError>
+    requires { F.IsAlwaysCallable after }
+{
+    let mut all = Vec::new(alloc);
+    let mut next = after(None);
+    for _turn in 0..most {
+        if let Some(one) = next {
+            all.push(one)?;
+            next = after(Some(one));
         }
     }
-    Ok(nodes)
+    Ok(all)
 }
 
-/// The messages and the replies of requests in a port.
-pub fn messages_of(alloc: Global, machine: &Linked, port: u32) -> Result<Vec<u32>, AllocError> {
-    let mut messages = Vec::new(alloc);
-    let mut at = None;
-    for _turn in 0..QUEUE {
-        match machine.message_after(port, at) {
-            None => return Ok(messages),
-            Some(message) => {
-                messages.push(message)?;
-                at = Some(message);
-            }
-        }
-    }
-    Ok(messages)
+/// The nodes of a list.
+pub fn nodes_of(alloc: Global, machine: &Linked, list: u32) -> Result<Vec<u32>, AllocError> {
+    queued(alloc, QUEUE, |at| machine.node_after(list, at))
 }
 
 /// The list that a node is in.
 pub fn list_with(alloc: Global, machine: &Linked, node: u32) -> Result<Option<u32>, AllocError> {
     for block in blocks_of(alloc, machine)?.iter() {
-        if matches!(block.view.object, ObjectView::List) {
-            let nodes = nodes_of(alloc, machine, block.address)?;
-            if nodes.iter().any(|one| *one == node) {
-                return Ok(Some(block.address));
-            }
+        let nodes = nodes_of(alloc, machine, block.address)?;
+        if nodes.iter().any(|one| *one == node) {
+            return Ok(Some(block.address));
         }
     }
     Ok(None)
@@ -113,10 +103,11 @@ pub fn list_with(alloc: Global, machine: &Linked, node: u32) -> Result<Option<u3
 /// The request in progress that is to be replied to a port.
 pub fn request_for(alloc: Global, machine: &Linked, port: u32) -> Result<Option<u32>, AllocError> {
     for block in blocks_of(alloc, machine)?.iter() {
-        if let Some(request) = block.request_in_progress() {
-            if request.port == port {
-                return Ok(Some(block.address));
-            }
+        if block
+            .request_in_progress()
+            .is_some_and(|request| request.port == port)
+        {
+            return Ok(Some(block.address));
         }
     }
     Ok(None)

@@ -1,4 +1,6 @@
 //! What the next step of a machine is to do, and how a task goes on by plain words.
+ghost use Rattle.std.specs.Prelude.{◌≡◌};
+
 use crate::scene::Linked;
 use crate::step::Turn;
 use taskscript::{Argument, Command, PlainWord, Word};
@@ -22,6 +24,16 @@ pub struct Part {
     pub steps: u32,
     /// What the last of them is to do.
     pub next: Next,
+}
+
+impl Part {
+    /// That many steps.
+    pub fn new(steps: u32, next: Next) -> Part
+        ensures steps { result.steps ≡ steps }
+        ensures next { result.next ≡ next }
+    {
+        Part { steps, next }
+    }
 }
 
 /// What the next step is to do.

@@ -2,7 +2,7 @@
 use crate::bodies::command_at;
 use crate::handles::Asking;
 use crate::page::name_of;
-use crate::step::{Setting, Site, when_text};
+use crate::step::{Site, when_text};
 use crate::value::held_by;
 use std::alloc::{AllocError, Global};
 use taskscript::{Argument, Command, Owner, Variable, Word};
@@ -56,14 +56,12 @@ fn has_name(command: &Command) -> bool {
 }
 
 /// The word of a command with the name between double quotes, if it has one.
-fn call_text(alloc: Global, command: Option<&Command>, word: Word) -> Result<String, AllocError> {
-    let text = word.text();
-    match command {
-        Some(command) if has_name(command) => {
-            let name = command.name.as_str();
-            format!(in alloc; "{text} \"{name}\"")
-        }
-        _ => format!(in alloc; "{text}"),
+fn call_text(alloc: Global, command: &Command) -> Result<String, AllocError> {
+    let (word, name) = (command.word.text(), command.name.as_str());
+    if has_name(command) {
+        format!(in alloc; "{word} \"{name}\"")
+    } else {
+        format!(in alloc; "{word}")
     }
 }
 
@@ -80,19 +78,25 @@ impl Asking<'_, '_> {
         format!(in self.alloc; "in line {line} of {kind} \"{name}\"")
     }
 
+    /// The word of a command that was done.
+    pub fn word_at(&self, site: Site) -> &'static str {
+        command_at(self.course.file, site.spot).map_or("", |command| command.word.text())
+    }
+
     /// What has set a variable to this value.
-    fn setting_text(&self, setting: Setting, value: u32) -> Result<String, AllocError> {
-        let spot = setting.site.spot;
-        let place = self.site_text(setting.site)?;
-        let time = when_text(self.alloc, setting.site.when)?;
-        let command = command_at(self.course.file, spot);
-        let call = call_text(self.alloc, command, setting.word)?;
-        let verb = match setting.word {
+    fn setting_text(&self, site: Site, value: u32) -> Result<String, AllocError> {
+        let Some(command) = command_at(self.course.file, site.spot) else {
+            return Ok(String::new(self.alloc));
+        };
+        let place = self.site_text(site)?;
+        let time = when_text(self.alloc, site.when)?;
+        let call = call_text(self.alloc, command)?;
+        let verb = match command.word {
             Word::Plain(_) => "gave",
             _ => "returned",
         };
         if value == 0 {
-            let reason = match setting.word.text() {
+            let reason = match command.word.text() {
                 "NewList" | "NewNode" | "NewMsg" | "NewSem" | "CreateMsgPort" | "AllocMem"
                     if self.machine.region(0).is_none() => NO_REGION,
                 word => reason_of_zero(word),
@@ -106,8 +110,8 @@ impl Asking<'_, '_> {
     pub fn origin(&self, variable: Variable, value: u32) -> Result<String, AllocError> {
         let task = self.refused.task();
         match self.course.setting_of(task, variable) {
-            Some(setting) if held_by(self.machine, task, variable) == value => {
-                self.setting_text(setting, value)
+            Some(site) if held_by(self.machine, task, variable) == value => {
+                self.setting_text(site, value)
             }
             None if value == 0 => format!(in self.alloc; ": nothing has set it"),
             _ => Ok(String::new(self.alloc)),
@@ -118,8 +122,8 @@ impl Asking<'_, '_> {
     pub fn freed_text(&self, address: u32) -> Result<String, AllocError> {
         match self.course.freed.get(&address).copied() {
             None => Ok(String::new(self.alloc)),
-            Some((site, word)) => {
-                let word = word.text();
+            Some(site) => {
+                let word = self.word_at(site);
                 let place = self.site_text(site)?;
                 let time = when_text(self.alloc, site.when)?;
                 format!(in self.alloc; ": {word} {place} freed it {time}")

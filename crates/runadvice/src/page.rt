@@ -9,15 +9,6 @@ use std::alloc::{AllocError, Global};
 use taskscript::{Array, LinePlace, Listed, Listing, MachineFile, Owner};
 use toml::Table;
 
-/// What of a line has marks below it.
-#[derive(Clone, Copy, Debug, PartialEq, Eq)]
-pub enum Mark {
-    /// The word.
-    Word,
-    /// The argument of this number, from 0.
-    Argument(usize),
-}
-
 /// A command of the file.
 #[derive(Clone, Copy, Debug, PartialEq, Eq)]
 pub struct Spot {
@@ -37,6 +28,14 @@ impl Spot {
             owner: Owner::Task,
             item: task,
             place,
+        }
+    }
+
+    /// The number of the task, if it is one of a task.
+    pub fn task(self) -> Option<usize> {
+        match self.owner {
+            Owner::Task => Some(self.item),
+            _ => None,
         }
     }
 
@@ -87,14 +86,12 @@ pub fn name_of<'a>(file: &'a MachineFile, owner: Owner, item: usize) -> Option<&
     })
 }
 
-/// The part of a line that has marks.
-fn span_of(alloc: Global, line: &str, mark: Mark) -> Result<Span, AllocError> {
-    let number = match said_by(alloc, line)? {
-        None => 0,
-        Some(said) => match mark {
-            Mark::Word => said.place_of_word(),
-            Mark::Argument(number) => said.place_of(number),
-        },
+/// The part of a line that has marks: an argument, from 0, or the word.
+fn span_of(alloc: Global, line: &str, argument: Option<usize>) -> Result<Span, AllocError> {
+    let number = match (said_by(alloc, line)?, argument) {
+        (None, _) => 0,
+        (Some(said), None) => said.place_of_word(),
+        (Some(said), Some(number)) => said.place_of(number),
     };
     Ok(field_span(line, number))
 }
@@ -161,11 +158,11 @@ impl<'a> Page<'a> {
         self.text.push_str(text.as_str())
     }
 
-    /// Adds what was found at a command.
+    /// Adds what was found at an argument of a command, from 0, or at its word.
     pub fn add(
         &mut self,
         spot: Spot,
-        mark: Mark,
+        argument: Option<usize>,
         header: &str,
         reason: &str,
     ) -> Result<(), AllocError> {
@@ -173,7 +170,7 @@ impl<'a> Page<'a> {
         let Some(place) = self.line_place(spot) else {
             return self.add_to_empty(spot.item, header, reason);
         };
-        let span = span_of(alloc, line_at(self.table, place), mark)?;
+        let span = span_of(alloc, line_at(self.table, place), argument)?;
         let advice = Advice::new(alloc, span, reason)?;
         let text = line_text(
             alloc,
@@ -190,6 +187,6 @@ impl<'a> Page<'a> {
     /// Adds a warning at the word of a command.
     pub fn warn(&mut self, spot: Spot, header: &str, reason: &str) -> Result<(), AllocError> {
         self.warns = true;
-        self.add(spot, Mark::Word, header, reason)
+        self.add(spot, None, header, reason)
     }
 }

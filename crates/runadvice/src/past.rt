@@ -2,10 +2,9 @@
 ghost use Rattle.std.specs.Prelude.{◌<◌, ◌≤◌};
 
 use crate::next::{Next, Part, Way, way_after};
-use crate::page::Spot;
-use crate::step::{Setting, Site, Turn, When};
+use crate::step::{Turn, When};
 use std::alloc::{AllocError, Global};
-use taskscript::{Command, MachineFile, Owner, Variable};
+use taskscript::{Command, MachineFile, Variable};
 
 /// The most steps that are done at once of which some may print.
 const LONGEST: u32 = 1000;
@@ -21,7 +20,7 @@ pub struct Past {
 
 impl Past {
     /// No step.
-    const NONE: Past = Past {
+    pub const NONE: Past = Past {
         visited: 0,
         done: 0,
     };
@@ -68,12 +67,9 @@ impl TaskPast {
         }
     }
 
-    /// The last step in which a command was done, or the task went on to wait in it.
-    pub fn visited(&self, place: usize) -> u64 {
-        match self.commands.get(place) {
-            None => 0,
-            Some(past) => past.visited,
-        }
+    /// What is noted of a command.
+    pub fn at(&self, place: usize) -> Past {
+        self.commands.get(place).copied().unwrap_or(Past::NONE)
     }
 
     /// Notes the plain words that the task does after some steps, whatever its variables hold, and answers the steps up to the last of them or to the
@@ -93,43 +89,24 @@ impl TaskPast {
                 None => Way::Call,
                 Some(command) => way_after(command, place),
             };
-            match way {
-                Way::To(next) => {
-                    self.note_done(place, step);
-                    place = next;
+            if let Way::Call = way {
+                // The line of a call is the first of a part.
+                if has_line && done > 0 {
+                    return Part::new(done, Next::Noted);
                 }
+                return Part::new(done + 1, Next::Task(Turn { place, ..turn }));
+            }
+            self.note_done(place, step);
+            match way {
+                Way::To(next) => place = next,
                 Way::Line(next) => {
-                    self.note_done(place, step);
                     place = next;
                     has_line = true;
                 }
-                Way::Either(_, _) => {
-                    self.note_done(place, step);
-                    return Part {
-                        steps: done + 1,
-                        next: Next::Noted,
-                    };
-                }
-                // The line of a call is the first of a part.
-                Way::Call if has_line && done > 0 => {
-                    return Part {
-                        steps: done,
-                        next: Next::Noted,
-                    };
-                }
-                Way::Call => {
-                    let task = turn.task;
-                    return Part {
-                        steps: done + 1,
-                        next: Next::Task(Turn { task, place }),
-                    };
-                }
+                _ => return Part::new(done + 1, Next::Noted),
             }
         }
-        Part {
-            steps: most,
-            next: Next::Noted,
-        }
+        Part::new(most, Next::Noted)
     }
 
     /// Whether the task goes on without end from a place on, whatever its variables hold, by commands that print nothing, set no shared variable and
@@ -140,7 +117,7 @@ impl TaskPast {
         }
         self.asks_at = steps.saturating_add(pause);
         let call = self.last_call(code);
-        self.visited(place) > call && self.is_closed(code, call)
+        self.at(place).visited > call && self.is_closed(code, call)
     }
 
     /// The last step in which the task made a call.
@@ -148,7 +125,7 @@ impl TaskPast {
         let mut call = 0u64;
         for (place, command) in code.iter().enumerate() {
             if matches!(way_after(command, place), Way::Call) {
-                call = call.max(self.visited(place));
+                call = call.max(self.at(place).visited);
             }
         }
         call
@@ -157,14 +134,14 @@ impl TaskPast {
     /// Whether after each command that was done after a step there is one that was too, and none of them sets a shared variable.
     fn is_closed(&self, code: &[Command], step: u64) -> bool {
         for (place, command) in code.iter().enumerate() {
-            if self.visited(place) > step {
+            if self.at(place).visited > step {
                 let (next, other) = match way_after(command, place) {
                     Way::To(next) => (next, next),
                     Way::Either(next, other) => (next, other),
                     Way::Line(_) | Way::Call => return false,
                 };
                 let is_shared = matches!(command.target, Some(Variable::Shared(_)));
-                if is_shared || self.visited(next) <= step || self.visited(other) <= step {
+                if is_shared || self.at(next).visited <= step || self.at(other).visited <= step {
                     return false;
                 }
             }
@@ -178,100 +155,23 @@ impl TaskPast {
     }
 }
 
-/// When the bodies of interrupts were run last that are run together: one of a software interrupt, or those of the servers of a source.
+/// When something was done: a command of a task, or bodies of interrupts that are run together.
 #[derive(Clone, Copy, Debug)]
-pub struct BodyPast {
-    /// After how many steps, that of a software interrupt included.
+pub struct Time {
+    /// After how many steps, its own included.
     pub steps: u64,
-    /// The number of this time among all of them, from 1; 0 if they were never run.
+    /// The number of this time among those in which bodies were run, from 1; 0 for a command of a task.
     pub turn: u64,
     pub when: When,
 }
 
-impl BodyPast {
-    /// Never.
-    pub const NONE: BodyPast = BodyPast {
-        steps: 0,
-        turn: 0,
-        when: When::Step(0),
-    };
-}
-
-/// The latest of some settings of a variable.
-#[derive(Clone, Copy)]
-pub struct Latest {
-    steps: u64,
-    turn: u64,
-    pub setting: Option<Setting>,
-}
-
-impl Latest {
-    /// No setting.
-    pub fn new() -> Latest {
-        Latest {
-            steps: 0,
-            turn: 0,
-            setting: None,
-        }
-    }
-
-    /// Takes a setting if it is as late or later.
-    fn offer(&mut self, steps: u64, turn: u64, setting: Setting) {
-        if steps > self.steps || steps == self.steps && turn >= self.turn {
-            *self = Latest {
-                steps,
-                turn,
-                setting: Some(setting),
-            };
-        }
-    }
-
-    /// Takes the latest setting by a task, if it is later.
-    pub fn offer_task(
-        &mut self,
-        task: usize,
-        code: &[Command],
-        past: &TaskPast,
-        variable: Variable,
-    ) {
-        for (place, command) in code.iter().enumerate() {
-            let done = match past.commands.get(place) {
-                None => 0,
-                Some(past) => past.done,
-            };
-            if done > 0 && command.target == Some(variable) {
-                let site = Site {
-                    spot: Spot::of_task(task, place),
-                    when: When::Step(done),
-                };
-                let word = command.word;
-                self.offer(done, 0, Setting { site, word });
-            }
-        }
-    }
-
-    /// Takes the setting by a body of an interrupt, if it was run and sets the variable, and if that is as late or later.
-    pub fn offer_body(
-        &mut self,
-        owner: Owner,
-        item: usize,
-        code: &[Command],
-        past: BodyPast,
-        variable: Variable,
-    ) {
-        if past.turn == 0 {
-            return;
-        }
-        for (place, command) in code.iter().enumerate() {
-            if command.target == Some(variable) {
-                let spot = Spot { owner, item, place };
-                let site = Site {
-                    spot,
-                    when: past.when,
-                };
-                let word = command.word;
-                self.offer(past.steps, past.turn, Setting { site, word });
-            }
+impl Time {
+    /// Whether it is not before another time, if that is one.
+    pub fn is_last(self, other: Option<Time>) -> bool {
+        match other {
+            None => true,
+            Some(other) if self.steps == other.steps => self.turn >= other.turn,
+            Some(other) => self.steps > other.steps,
         }
     }
 }
@@ -289,9 +189,7 @@ fn is_before(file: &MachineFile, one: usize, other: usize) -> bool {
 pub fn rank_of(file: &MachineFile, server: usize) -> u64 {
     let mut rank = 0u64;
     for other in 0..file.servers().len() {
-        if is_before(file, other, server) {
-            rank = rank.saturating_add(1);
-        }
+        rank = rank.saturating_add(is_before(file, other, server) as u64);
     }
     rank
 }

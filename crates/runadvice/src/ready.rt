@@ -1,4 +1,5 @@
 //! The tasks that are ready and never ran, and why.
+use crate::memory::queued;
 use crate::scene::Scene;
 use std::alloc::AllocError;
 
@@ -24,29 +25,21 @@ impl Scene<'_, '_> {
 
     /// Whether a task has done a step.
     fn has_run(&self, task: usize) -> bool {
-        match self.course.tasks.get(task) {
-            None => true,
-            Some(past) => past.has_run(),
-        }
+        self.course
+            .tasks
+            .get(task)
+            .is_none_or(|past| past.has_run())
     }
 
     /// The tasks that are ready and never ran, and why, as the end of a sentence.
     pub fn ready_text(&self, running: usize) -> Result<String, AllocError> {
         let mut text = String::new(self.alloc);
-        let mut at = None;
-        for _turn in 0..self.machine.view().tasks {
-            let Some(task) = self.machine.ready_after(at) else {
-                return Ok(text);
-            };
-            if !self.has_run(task) {
-                let name = self.name(task);
-                let why = self.idle_reason(task, running);
-                let sentence = format!(in self.alloc;
-                    "; \"{name}\" is ready but never ran: {why}"
-                )?;
-                text.push_str(sentence.as_str())?;
+        let most = self.machine.view().tasks;
+        for task in queued(self.alloc, most, |at| self.machine.ready_after(at))?.iter() {
+            if !self.has_run(*task) {
+                let (name, why) = (self.name(*task), self.idle_reason(*task, running));
+                write!(text, "; \"{name}\" is ready but never ran: {why}")?;
             }
-            at = Some(task);
         }
         Ok(text)
     }

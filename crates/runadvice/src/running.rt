@@ -1,5 +1,5 @@
 //! What is said of a task that runs when the events end: that it runs without end, alone or with others, or that the events end too early.
-use crate::argument::grouped;
+use crate::argument::{counted, grouped, joined};
 use crate::course::RECENT;
 use crate::lap::{Lap, Stretch, turn_of};
 use crate::page::{Page, Spot};
@@ -25,25 +25,12 @@ pub struct Running {
 
 /// Whether a task has ended.
 fn any_ended(machine: &Linked) -> bool {
-    for task in 0..machine.view().tasks {
-        if let Some(view) = machine.task(task) {
-            if matches!(view.state, TaskState::Removed) {
-                return true;
-            }
-        }
-    }
-    false
-}
-
-/// What is between a part and the one before it.
-fn joint(number: usize, last: usize) -> &'static str {
-    if number == 0 {
-        ""
-    } else if number == last {
-        ", and "
-    } else {
-        ", "
-    }
+    let mut tasks = 0..machine.view().tasks;
+    tasks.any(|task| {
+        machine
+            .task(task)
+            .is_some_and(|view| matches!(view.state, TaskState::Removed))
+    })
 }
 
 /// What the steps of a lap come to, which brings the machine back to what it showed.
@@ -90,14 +77,10 @@ impl Scene<'_, '_> {
     /// How many of the last steps were in a part of the code.
     fn steps_in(&self, lap: &Lap) -> Result<u64, AllocError> {
         let course = self.course;
-        let mut before = if lap.has_softint {
-            0
-        } else {
-            course.last_other()
-        };
+        let mut before = if lap.has_softint { 0 } else { course.other };
         for turn in course.visited_after(self.alloc, 0)?.iter() {
             if !lap.has(*turn) {
-                before = before.max(course.last_visit(*turn));
+                before = before.max(course.past(*turn).visited);
             }
         }
         Ok(course.steps.saturating_sub(before).min(RECENT))
@@ -108,7 +91,7 @@ impl Scene<'_, '_> {
         let course = self.course;
         let before = course.steps.saturating_sub(RECENT);
         let mut lap = Lap::new(self.alloc);
-        lap.has_softint = course.last_other() > before;
+        lap.has_softint = course.other > before;
         for turn in course.visited_after(self.alloc, before)?.iter() {
             if let Some(command) = course.command(*turn) {
                 lap.add(*turn, command.word)?;
@@ -130,28 +113,20 @@ impl Scene<'_, '_> {
 
     /// The parts of the tasks' code that were run, in words, in the order of the tasks.
     fn stretches_text(&self, page: &Page<'_>, lap: &Lap) -> Result<String, AllocError> {
-        let mut text = String::new(self.alloc);
-        let count = lap.stretches.len();
-        let last = if count > MOST_NAMED {
-            MOST_NAMED
-        } else {
-            count.saturating_sub(1)
-        };
-        let mut number = 0usize;
+        let mut parts = Vec::new(self.alloc);
         for task in 0..self.machine.view().tasks {
             for stretch in lap.stretches.iter() {
-                if stretch.task == task && number < MOST_NAMED {
-                    text.push_str(joint(number, last))?;
-                    text.push_str(self.stretch_text(page, stretch)?.as_str())?;
-                    number = number.saturating_add(1);
+                if stretch.task == task && parts.len() < MOST_NAMED {
+                    parts.push(self.stretch_text(page, stretch)?)?;
                 }
             }
         }
-        if count > MOST_NAMED {
-            let more = count.saturating_sub(MOST_NAMED);
-            let unit = if more == 1 { "task" } else { "tasks" };
-            text.push_str(format!(in self.alloc; ", and {more} more {unit}")?.as_str())?;
+        let more = lap.stretches.len().saturating_sub(MOST_NAMED);
+        if more > 0 {
+            let tasks = counted(self.alloc, more as u64, "more task")?;
+            parts.push(tasks)?;
         }
+        let mut text = joined(self.alloc, &parts, ", and ")?;
         if lap.has_softint {
             text.push_str(", and in software interrupts")?;
         }
@@ -183,7 +158,7 @@ impl Scene<'_, '_> {
         let reason = format!(in alloc;
             "the last {steps} steps were all in {parts}{effect}{until}{ready}"
         )?;
-        let spot = Spot::of_task(running.turn.task, running.turn.place);
+        let spot = running.turn.spot();
         page.warn(spot, header_of(lap, sure.is_some()), reason.as_str())
     }
 
@@ -193,9 +168,7 @@ impl Scene<'_, '_> {
             return Ok(());
         }
         let turn = running.turn;
-        let count = self.course.steps;
-        let steps = grouped(self.alloc, count)?;
-        let unit = if count == 1 { "step" } else { "steps" };
+        let steps = counted(self.alloc, self.course.steps, "step")?;
         let ready = running.ready.as_str();
         let (place, state) = if self.course.command(turn).is_none() && turn.place == 0 {
             (0, "its code has no command, and it ends at its next step")
@@ -204,13 +177,13 @@ impl Scene<'_, '_> {
                 turn.place.saturating_sub(1),
                 "was its last command, and the task ends at its next step",
             )
-        } else if self.course.has_done(turn) {
+        } else if self.course.past(turn).done > 0 {
             (turn.place, "comes next once more")
         } else {
             (turn.place, "comes next")
         };
         let reason = format!(in self.alloc;
-            "{state}, but the events end after {steps} {unit}, and no task has ended; ask for more{ready}"
+            "{state}, but the events end after {steps}, and no task has ended; ask for more{ready}"
         )?;
         let header = "warning: the events end while the task runs";
         page.warn(Spot::of_task(turn.task, place), header, reason.as_str())

@@ -1,28 +1,11 @@
 //! All that a machine shows of its tasks and of its memory, as text. A machine that shows the same again goes on as it did before.
-use crate::memory::{blocks_of, messages_of, nodes_of};
+use crate::memory::{QUEUE, blocks_of, nodes_of, queued};
 use crate::scene::Linked;
+use crate::value::numbers_of;
 use std::alloc::{AllocError, Global};
 
-/// The tasks that are ready, and the software interrupts that are caused, in their order.
-fn queued(alloc: Global, machine: &Linked) -> Result<Vec<usize>, AllocError> {
-    let mut numbers = Vec::new(alloc);
-    let mut ready = machine.ready_after(None);
-    let mut caused = machine.caused_after(None);
-    for _turn in 0..machine.view().tasks {
-        if let Some(task) = ready {
-            numbers.push(task)?;
-            ready = machine.ready_after(Some(task));
-        }
-    }
-    numbers.push(usize::MAX)?;
-    for _turn in 0..32 {
-        if let Some(number) = caused {
-            numbers.push(number)?;
-            caused = machine.caused_after(Some(number));
-        }
-    }
-    Ok(numbers)
-}
+/// How many software interrupts a machine has at most.
+const SOFTINTS: usize = 32;
 
 /// Adds what a machine shows of a task.
 fn push_task(
@@ -35,13 +18,7 @@ fn push_task(
     let variables = machine.variables(task);
     text.push_str(format!(in alloc; "{view:?}{variables:?}")?.as_str())?;
     if let Some(call) = machine.call(task) {
-        let awaited = call.awaited;
-        let values = [
-            call.number(0),
-            call.number(1),
-            call.number(2),
-            call.number(3),
-        ];
+        let (awaited, values) = (call.awaited, numbers_of(call));
         text.push_str(format!(in alloc; "{awaited}{values:?}")?.as_str())?;
     }
     Ok(())
@@ -51,36 +28,25 @@ fn push_task(
 pub fn tasks_shown(alloc: Global, machine: &Linked) -> Result<String, AllocError> {
     let view = machine.view();
     let shared = machine.shared_variables();
-    let queued = queued(alloc, machine)?;
-    let queued = queued.as_slice();
-    let mut text = format!(in alloc; "{view:?}{shared:?}{queued:?}")?;
+    let ready = queued(alloc, view.tasks, |at| machine.ready_after(at))?;
+    let caused = queued(alloc, SOFTINTS, |at| machine.caused_after(at))?;
+    let (ready, caused) = (ready.as_slice(), caused.as_slice());
+    let mut text = format!(in alloc; "{view:?}{shared:?}{ready:?}{caused:?}")?;
     for task in 0..view.tasks {
         push_task(alloc, &mut text, machine, task)?;
     }
     Ok(text)
 }
 
-/// The tasks that wait for a semaphore, in their order.
-fn waiters_of(alloc: Global, machine: &Linked, semaphore: u32) -> Result<Vec<usize>, AllocError> {
-    let mut waiters = Vec::new(alloc);
-    let mut waiter = machine.waiter_after(semaphore, None);
-    for _turn in 0..machine.view().tasks {
-        if let Some(task) = waiter {
-            waiters.push(task)?;
-            waiter = machine.waiter_after(semaphore, Some(task));
-        }
-    }
-    Ok(waiters)
-}
-
 /// What a machine shows of its memory.
 pub fn memory_shown(alloc: Global, machine: &Linked) -> Result<String, AllocError> {
     let mut text = String::new(alloc);
+    let tasks = machine.view().tasks;
     for block in blocks_of(alloc, machine)?.iter() {
         let address = block.address;
         let nodes = nodes_of(alloc, machine, address)?;
-        let messages = messages_of(alloc, machine, address)?;
-        let waiters = waiters_of(alloc, machine, address)?;
+        let messages = queued(alloc, QUEUE, |at| machine.message_after(address, at))?;
+        let waiters = queued(alloc, tasks, |at| machine.waiter_after(address, at))?;
         let (nodes, messages) = (nodes.as_slice(), messages.as_slice());
         let waiters = waiters.as_slice();
         let due = machine.due(address);

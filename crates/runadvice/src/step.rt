@@ -21,18 +21,18 @@ pub struct Site {
     pub when: When,
 }
 
-/// What has set a variable.
-#[derive(Clone, Copy, Debug, PartialEq, Eq)]
-pub struct Setting {
-    pub site: Site,
-    pub word: Word,
-}
-
 /// What is about to be done: the next command of a task.
 #[derive(Clone, Copy, Debug, PartialEq, Eq)]
 pub struct Turn {
     pub task: usize,
     pub place: usize,
+}
+
+impl Turn {
+    /// That command.
+    pub fn spot(self) -> Spot {
+        Spot::of_task(self.task, self.place)
+    }
 }
 
 /// When something was done, in words.

@@ -1,5 +1,6 @@
 //! What variables and arguments hold.
 use crate::scene::Linked;
+use execsim::Call;
 use taskscript::{Argument, Command, Variable};
 
 /// What a variable holds, as a task sees it; a body of an interrupt has shared variables alone, and no task.
@@ -41,4 +42,14 @@ pub fn variable_at(command: &Command, number: usize) -> Option<Variable> {
         Some(Argument::Variable(variable)) => Some(*variable),
         _ => None,
     }
+}
+
+/// The arguments of a call; 0 for what is no number.
+pub fn numbers_of(call: &Call) -> [u32; 4] {
+    [
+        call.number(0),
+        call.number(1),
+        call.number(2),
+        call.number(3),
+    ]
 }

@@ -1,7 +1,7 @@
 //! What a task waits for, as the machine shows it.
-use crate::argument::object_at;
+use crate::argument::owner_at;
 use crate::scene::Linked;
-use execsim::ObjectView;
+use crate::step::Turn;
 use std::alloc::{AllocError, Global};
 use taskq::{TaskState, Why};
 use taskscript::{PortWord, RequestWord, Word};
@@ -22,9 +22,8 @@ pub enum Awaited {
 /// A task that waits.
 #[derive(Clone, Copy, Debug)]
 pub struct Waiter {
-    pub task: usize,
-    /// The place of its call in its code.
-    pub place: usize,
+    /// Its call.
+    pub turn: Turn,
     pub awaited: Awaited,
     /// The signals that it has received and does not wait for.
     pub received: u32,
@@ -51,8 +50,10 @@ pub fn wait_of(machine: &Linked, task: usize) -> Option<Waiter> {
     };
     let call = machine.call(task)?;
     Some(Waiter {
-        task,
-        place: view.place,
+        turn: Turn {
+            task,
+            place: view.place,
+        },
         awaited: awaited_by(call.word, call.number(0), why),
         received: view.received,
     })
@@ -61,10 +62,7 @@ pub fn wait_of(machine: &Linked, task: usize) -> Option<Waiter> {
 /// The semaphore's owner, if a task waits for one that is owned.
 pub fn owner_awaited(machine: &Linked, task: usize) -> Option<usize> {
     match wait_of(machine, task)?.awaited {
-        Awaited::Semaphore(address) => match object_at(machine, address)? {
-            ObjectView::Semaphore(semaphore) => semaphore.owner,
-            _ => None,
-        },
+        Awaited::Semaphore(address) => owner_at(machine, address),
         _ => None,
     }
 }

@@ -1,11 +1,8 @@
 //! What is said of each task that waits when the events end.
-use crate::argument::{grouped, hex, object_at};
-use crate::page::{Mark, Page, Spot};
+use crate::argument::{counted, grouped, port_at, request_at};
+use crate::page::Page;
 use crate::scene::{Linked, Scene};
-use crate::step::Turn;
 use crate::wait::{Awaited, Waiter, awaited_text, owner_awaited, wait_of};
-use crate::wakers::ticks_text;
-use execsim::ObjectView;
 use msgport::action::PortAction;
 use std::alloc::{AllocError, Global};
 use taskq::TaskState;
@@ -43,21 +40,15 @@ impl Verdict {
 fn mute_text(machine: &Linked, awaited: Awaited) -> &'static str {
     let port = match awaited {
         Awaited::Message(port) => port,
-        Awaited::Request(request) => match object_at(machine, request) {
-            Some(ObjectView::Request(request)) => request.port,
-            _ => 0,
-        },
+        Awaited::Request(request) => request_at(machine, request).map_or(0, |one| one.port),
         _ => 0,
     };
-    match object_at(machine, port) {
-        Some(ObjectView::Port(port)) => match port.action {
-            PortAction::Signal => "",
-            PortAction::Ignore => "; PortIgnore has set its port to wake nobody",
-            PortAction::Cause(_) => {
-                "; PortCause has set its port to cause a software interrupt, and to wake nobody"
-            }
-        },
-        _ => "",
+    match port_at(machine, port).map_or(PortAction::Signal, |port| port.action) {
+        PortAction::Signal => "",
+        PortAction::Ignore => "; PortIgnore has set its port to wake nobody",
+        PortAction::Cause(_) => {
+            "; PortCause has set its port to cause a software interrupt, and to wake nobody"
+        }
     }
 }
 
@@ -88,8 +79,8 @@ fn received_text(alloc: Global, waiter: &Waiter) -> Result<String, AllocError> {
     if waiter.received == 0 {
         return Ok(String::new(alloc));
     }
-    let shown = hex(alloc, waiter.received)?;
-    format!(in alloc; "; the task has received {shown}, which this call does not wait for")
+    let received = waiter.received;
+    format!(in alloc; "; the task has received ${received:08X}, which this call does not wait for")
 }
 
 /// The words before the reason.
@@ -118,24 +109,20 @@ impl Scene<'_, '_> {
 
     /// Of a wait for a semaphore.
     fn of_semaphore(&self, waiter: &Waiter) -> Result<Verdict, AllocError> {
-        let Some(owner) = owner_awaited(self.machine, waiter.task) else {
+        let Some(owner) = owner_awaited(self.machine, waiter.turn.task) else {
             return Verdict::new(self.alloc, Level::Noted, ", which is free");
         };
         let name = self.name(owner);
-        let state = match self.machine.task(owner) {
-            None => TaskState::Absent,
-            Some(view) => view.state,
+        let (level, end) = match self.machine.task(owner).map(|view| view.state) {
+            Some(TaskState::Removed) => (Level::Forever, " has ended"),
+            Some(TaskState::Waiting(_)) => (self.level(), " waits too"),
+            _ => (Level::Noted, "")
         };
-        let (level, end) = match state {
-            TaskState::Removed => (Level::Forever, "has ended"),
-            TaskState::Waiting(_) => (self.level(), "waits too"),
-            _ => {
-                let end = format!(in self.alloc; ", which task \"{name}\" owns")?;
-                let level = Level::Noted;
-                return Ok(Verdict { level, end });
-            }
+        let end = if end.is_empty() {
+            format!(in self.alloc; ", which task \"{name}\" owns")?
+        } else {
+            format!(in self.alloc; ", whose owner, task \"{name}\",{end}")?
         };
-        let end = format!(in self.alloc; ", whose owner, task \"{name}\", {end}")?;
         Ok(Verdict { level, end })
     }
 
@@ -145,12 +132,12 @@ impl Scene<'_, '_> {
         let Some(ticks) = self.ticks_left(request) else {
             return format!(in alloc; ", which a tick ends");
         };
-        let shown = ticks_text(alloc, ticks)?;
+        let shown = counted(alloc, ticks, "tick")?;
         let more = if ticks > MOST_TICKS {
             let most = grouped(alloc, MOST_TICKS)?;
             format!(in alloc; ", and an event text has at most {most}")?
         } else if self.is_idle() {
-            format!(in alloc; "; the events have no more ticks")?
+            String::from_str(alloc, "; the events have no more ticks")?
         } else {
             String::new(alloc)
         };
@@ -162,12 +149,8 @@ impl Scene<'_, '_> {
         if waiter.awaited == Awaited::Signals(0) {
             return Verdict::new(self.alloc, Level::Forever, ", so nothing ends it");
         }
-        let turn = Turn {
-            task: waiter.task,
-            place: waiter.place,
-        };
         let is_idle = self.is_idle();
-        if is_idle && self.course.has_done(turn) {
+        if is_idle && self.course.past(waiter.turn).done > 0 {
             return of_server(self.alloc, waiter.awaited, wakers);
         }
         if let Awaited::Request(request) = waiter.awaited {
@@ -201,8 +184,8 @@ impl Scene<'_, '_> {
         if verdict.level != Level::Noted {
             page.warns = true;
         }
-        let spot = Spot::of_task(waiter.task, waiter.place);
-        page.add(spot, Mark::Word, header_of(verdict.level), reason.as_str())
+        let spot = waiter.turn.spot();
+        page.add(spot, None, header_of(verdict.level), reason.as_str())
     }
 
     /// Adds what there is to say of each task that waits.

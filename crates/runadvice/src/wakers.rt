@@ -1,6 +1,6 @@
 //! What can still wake a task when no task is left that can run: a software interrupt that is caused, a request in progress, and the servers.
-use crate::argument::{grouped, hex};
-use crate::memory::blocks_of;
+use crate::argument::{counted, joined};
+use crate::memory::{blocks_of, queued};
 use crate::scene::{Linked, Scene};
 use execsim::DueTime;
 use std::alloc::{AllocError, Global};
@@ -12,29 +12,21 @@ use taskscript::{
 /// How many requests and servers are named at most.
 const MOST_NAMED: usize = 3;
 
-/// Whether a task waits for signals, and for one of some.
-fn awaits(machine: &Linked, number: u32, mask: Option<u32>) -> bool {
-    let Some(view) = machine.task((number as usize).saturating_sub(1)) else {
-        return false;
-    };
-    match view.state {
-        TaskState::Waiting(Why::Signals(awaited)) => match mask {
-            None => true,
-            Some(mask) => awaited & mask != 0,
-        },
-        _ => false,
-    }
-}
-
 /// Whether a Signal of these arguments may wake a task.
 fn may_signal(machine: &Linked, command: &Command) -> bool {
-    let mask = match command.arguments.get(1) {
-        Some(Argument::Number(mask)) => Some(*mask),
-        _ => None,
+    let Some(Argument::Number(task)) = command.arguments.get(0) else {
+        return true
     };
-    match command.arguments.get(0) {
-        Some(Argument::Number(task)) => awaits(machine, *task, mask),
-        _ => true,
+    let task = (*task as usize).saturating_sub(1);
+    match (
+        machine.task(task).map(|view| view.state),
+        command.arguments.get(1),
+    ) {
+        (Some(TaskState::Waiting(Why::Signals(awaited))), Some(Argument::Number(mask))) => {
+            awaited & *mask != 0
+        }
+        (Some(TaskState::Waiting(Why::Signals(_))), _) => true,
+        _ => false,
     }
 }
 
@@ -54,15 +46,13 @@ fn causes(command: &Command) -> bool {
 
 /// Whether a software interrupt may wake a task. One that causes another is taken to do so.
 fn softint_wakes(machine: &Linked, file: &MachineFile, name: &str) -> bool {
-    for softint in file.softints() {
-        if name == softint.name.as_str() {
-            return softint
+    file.softints().iter().any(|softint| {
+        name == softint.name.as_str()
+            && softint
                 .code
                 .iter()
-                .any(|command| wakes(machine, command) || causes(command));
-        }
-    }
-    false
+                .any(|command| wakes(machine, command) || causes(command))
+    })
 }
 
 /// Whether the code of a server may wake a task.
@@ -81,15 +71,6 @@ fn changes(command: &Command) -> bool {
     }
 }
 
-/// A number of ticks in words.
-pub fn ticks_text(alloc: Global, ticks: u64) -> Result<String, AllocError> {
-    if ticks == 1 {
-        return format!(in alloc; "1 tick");
-    }
-    let ticks = grouped(alloc, ticks)?;
-    format!(in alloc; "{ticks} ticks")
-}
-
 /// A server and what runs it, in words.
 fn server_text(alloc: Global, server: &ServerRecord) -> Result<String, AllocError> {
     let name = server.name.as_str();
@@ -99,19 +80,6 @@ fn server_text(alloc: Global, server: &ServerRecord) -> Result<String, AllocErro
         Source::Exter => "irq EXTER",
     };
     format!(in alloc; "server \"{name}\" (run by {event})")
-}
-
-/// Some names, joined by `or`.
-fn joined(alloc: Global, names: &[String]) -> Result<String, AllocError> {
-    let mut text = String::new(alloc);
-    let last = names.len().saturating_sub(1);
-    for (i, name) in names.iter().enumerate() {
-        if i > 0 {
-            text.push_str(if i == last { " or " } else { ", " })?;
-        }
-        text.push_str(name.as_str())?;
-    }
-    Ok(text)
 }
 
 impl Scene<'_, '_> {
@@ -140,10 +108,9 @@ impl Scene<'_, '_> {
     /// Adds the software interrupts that are caused and may wake a task.
     fn push_softints(&self, names: &mut Vec<String>) -> Result<(), AllocError> {
         let file = self.course.file;
-        let mut caused = self.machine.caused_after(None);
-        for _turn in 0..file.softints().len() {
-            let Some(number) = caused else { return Ok(()) };
-            if let Some(softint) = file.softints().get(number) {
+        let most = file.softints().len();
+        for number in queued(self.alloc, most, |at| self.machine.caused_after(at))?.iter() {
+            if let Some(softint) = file.softints().get(*number) {
                 let name = softint.name.as_str();
                 if softint_wakes(self.machine, file, name) {
                     names.push(format!(in self.alloc;
@@ -151,7 +118,6 @@ impl Scene<'_, '_> {
                     )?)?;
                 }
             }
-            caused = self.machine.caused_after(Some(number));
         }
         Ok(())
     }
@@ -159,12 +125,11 @@ impl Scene<'_, '_> {
     /// A request in progress and when it is done, in words.
     fn request_text(&self, address: u32) -> Result<String, AllocError> {
         let alloc = self.alloc;
-        let shown = hex(alloc, address)?;
         let Some(ticks) = self.ticks_left(address) else {
-            return format!(in alloc; "request {shown} (done by a tick)");
+            return format!(in alloc; "request ${address:08X} (done by a tick)");
         };
-        let ticks = ticks_text(alloc, ticks)?;
-        format!(in alloc; "request {shown} (done in {ticks})")
+        let ticks = counted(alloc, ticks, "tick")?;
+        format!(in alloc; "request ${address:08X} (done in {ticks})")
     }
 
     /// Adds the requests in progress.
@@ -188,7 +153,7 @@ impl Scene<'_, '_> {
                 names.push(server_text(self.alloc, server)?)?;
             }
         }
-        joined(self.alloc, &names)
+        joined(self.alloc, &names, " or ")
     }
 
     /// What may change what tasks do that run, beside these tasks, joined by `or`; nothing if nothing may.
@@ -200,6 +165,6 @@ impl Scene<'_, '_> {
                 names.push(server_text(self.alloc, server)?)?;
             }
         }
-        joined(self.alloc, &names)
+        joined(self.alloc, &names, " or ")
     }
 }

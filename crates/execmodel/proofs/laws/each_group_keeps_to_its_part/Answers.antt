@@ -1,6 +1,6 @@
 -- The proof of `each_group_keeps_to_its_part`: the words of a group change their part of the state, and leave all else as it is: plain
 -- words the shared variables, and of the programs the caller's progress alone (its place, its variables and the call that it waits in).
-use Rattle.execmodel.proofs.Keeping.{plain_words_change_scripts, signal_words_change_signals_and_states, nesting_words_change_nestings, task_words_change_states_priorities_and_objects, list_words_change_the_memory, memory_words_change_the_memory, port_words_change_ports_signals_and_states, semaphore_words_change_states_and_objects, interrupt_words_change_what_is_caused, library_words_change_the_memory, request_words_change_requests_ports_signals_and_states}
+use Rattle.execmodel.proofs.Words.{plain_words_change_scripts, signal_words_change_signals_and_states, nesting_words_change_nestings, task_words_change_states_priorities_and_objects, list_words_change_the_memory, memory_words_change_the_memory, port_words_change_ports_signals_and_states, semaphore_words_change_states_and_objects, interrupt_words_change_what_is_caused, library_words_change_the_memory, request_words_change_requests_ports_signals_and_states}
 use Rattle.execmodel.proofs.laws.each_group_keeps_to_its_part.Goals as goal
 
 pub returns-clause-plain : goal.returns-clause-plain

@@ -15,7 +15,7 @@ loop-one-init c = record {
 }
 
 pub advance_event-requires-clause-time : goal.advance_event-requires-clause-time
-advance_event-requires-clause-time c = time_for_one c.args.list.now c.loop-one.one-index _ c.loop-one-test.true c.loop-one.machine.seen c.loop-one.invariant.time
+advance_event-requires-clause-time c = time_for_one c.args.list.now c.loop-one.one-index _ c.loop-one-test.true c.loop-one.run.machine.seen c.loop-one.invariant.time
 
 pub loop-one-preserved : goal.loop-one-preserved
 loop-one-preserved c = record {
@@ -23,6 +23,6 @@ loop-one-preserved c = record {
   going = c.in_ok-advance_event.ensures.going;
   good = c.in_ok-advance_event.ensures.good;
   time = c.in_ok-advance_event.ensures.time _
-      (subst (λ (n : ℕ). HasTimeFor n c.loop-one.machine.seen) (sum_by-drop_more ticks_of c.args.list.now c.loop-one.one-index _ c.loop-one-test.true)
+      (subst (λ (n : ℕ). HasTimeFor n c.loop-one.run.machine.seen) (sum_by-drop_more ticks_of c.args.list.now c.loop-one.one-index _ c.loop-one-test.true)
       c.loop-one.invariant.time);
 }

@@ -9,8 +9,8 @@ use Rattle.runadvice.proofs.following.advance_all.Given as goal
 
 abbrev pub invariant-loop-one : goal.invariant-loop-one
 invariant-loop-one l = record {
-  goes : Goes (take l.one-index l.list) l.initial.machine.seen l.machine.seen l.initial.room.bytes.items l.room.bytes.items;
-  going : l.machine.failed ≡ false;
-  good : l.room.state ≡ Good;
-  time : HasTimeFor (sum_by ticks_of (drop l.one-index l.list)) l.machine.seen;
+  goes : Goes (take l.one-index l.list) l.initial.run.machine.seen l.run.machine.seen l.initial.run.room.bytes.items l.run.room.bytes.items;
+  going : l.run.machine.failed ≡ false;
+  good : l.run.room.state ≡ Good;
+  time : HasTimeFor (sum_by ticks_of (drop l.one-index l.list)) l.run.machine.seen;
 }

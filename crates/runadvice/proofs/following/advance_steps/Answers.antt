@@ -26,11 +26,11 @@ loop-done-preserved c = record {
   good = c.in_ok-advance.ensures.good;
   time = λ ticks enough.
       let none : ticks ≡ 0 + ticks = omega arith in
-      c.in_ok-advance.ensures.time ticks (subst (λ (n : ℕ). HasTimeFor n c.loop-done.machine.seen) none (c.loop-done.invariant.time ticks enough));
+      c.in_ok-advance.ensures.time ticks (subst (λ (n : ℕ). HasTimeFor n c.loop-done.run.machine.seen) none (c.loop-done.invariant.time ticks enough));
 }
 
 pub returns-clause-goes : goal.returns-clause-goes
 returns-clause-goes c =
     let all : c.loop-done.done ≡ c.args.count = omega (arith, c.loop-done-test.false, c.loop-done.invariant.within) in
-    subst (λ (n : ℕ). Goes (Run n ∷ []) c.args.machine.now.seen c.loop-done.machine.seen c.args.room.now.bytes.items c.loop-done.room.bytes.items) all
+    subst (λ (n : ℕ). Goes (Run n ∷ []) c.args.run.now.machine.seen c.loop-done.run.machine.seen c.args.run.now.room.bytes.items c.loop-done.run.room.bytes.items) all
     c.loop-done.invariant.goes

@@ -9,10 +9,10 @@ use Rattle.runadvice.proofs.following.advance_steps.Given as goal
 abbrev pub invariant-loop-done : goal.invariant-loop-done
 invariant-loop-done l = record {
   within : l.done ≤ l.count;
-  goes : Goes (Run l.done ∷ []) l.initial.machine.seen l.machine.seen l.initial.room.bytes.items l.room.bytes.items;
-  going : l.machine.failed ≡ false;
-  good : l.room.state ≡ Good;
-  time : (ticks : ℕ) → HasTimeFor ticks l.initial.machine.seen → HasTimeFor ticks l.machine.seen;
+  goes : Goes (Run l.done ∷ []) l.initial.run.machine.seen l.run.machine.seen l.initial.run.room.bytes.items l.run.room.bytes.items;
+  going : l.run.machine.failed ≡ false;
+  good : l.run.room.state ≡ Good;
+  time : (ticks : ℕ) → HasTimeFor ticks l.initial.run.machine.seen → HasTimeFor ticks l.run.machine.seen;
 }
 
 -- each turn does a step

@@ -12,14 +12,14 @@ loop-tick-init c = record {
   good = c.requires.good;
   time = λ ticks enough.
       let none : 0 + ticks ≡ ticks = omega arith in
-      subst (λ (n : ℕ). HasTimeFor n c.args.machine.now.seen) none enough;
+      subst (λ (n : ℕ). HasTimeFor n c.args.run.now.machine.seen) none enough;
 }
 
 pub advance-requires-clause-time : goal.advance-requires-clause-time
 advance-requires-clause-time c =
     let j = c.loop-tick._tick in
     let more : j + 1 ≤ c.args.count = omega (arith, c.loop-tick-test.true) in
-    c.loop-tick.invariant.time 1 (time_for_fewer (j + 1) c.args.count c.args.machine.now.seen more c.requires.time)
+    c.loop-tick.invariant.time 1 (time_for_fewer (j + 1) c.args.count c.args.run.now.machine.seen more c.requires.time)
 
 pub loop-tick-preserved : goal.loop-tick-preserved
 loop-tick-preserved c =
@@ -31,5 +31,5 @@ loop-tick-preserved c =
       time = λ ticks enough.
           let one_more : j + 1 + ticks ≡ j + (1 + ticks) = omega arith in
           c.in_ok-advance.ensures.time ticks
-          (c.loop-tick.invariant.time (1 + ticks) (subst (λ (n : ℕ). HasTimeFor n c.args.machine.now.seen) one_more enough));
+          (c.loop-tick.invariant.time (1 + ticks) (subst (λ (n : ℕ). HasTimeFor n c.args.run.now.machine.seen) one_more enough));
     }

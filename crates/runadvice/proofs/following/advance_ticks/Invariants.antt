@@ -8,8 +8,8 @@ use Rattle.runadvice.proofs.following.advance_ticks.Given as goal
 
 abbrev pub invariant-loop-tick : goal.invariant-loop-tick
 invariant-loop-tick l = record {
-  goes : Goes (Tick l._tick ∷ []) l.initial.machine.seen l.machine.seen l.initial.room.bytes.items l.room.bytes.items;
-  going : l.machine.failed ≡ false;
-  good : l.room.state ≡ Good;
-  time : (ticks : ℕ) → HasTimeFor (l._tick + ticks) l.initial.machine.seen → HasTimeFor ticks l.machine.seen;
+  goes : Goes (Tick l._tick ∷ []) l.initial.run.machine.seen l.run.machine.seen l.initial.run.room.bytes.items l.run.room.bytes.items;
+  going : l.run.machine.failed ≡ false;
+  good : l.run.room.state ≡ Good;
+  time : (ticks : ℕ) → HasTimeFor (l._tick + ticks) l.initial.run.machine.seen → HasTimeFor ticks l.run.machine.seen;
 }

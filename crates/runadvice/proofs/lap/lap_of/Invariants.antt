@@ -6,7 +6,7 @@ use Rattle.runadvice.proofs.lap.lap_of.Given as goal
 
 abbrev pub invariant-loop-step : goal.invariant-loop-step
 invariant-loop-step l = record {
-  going : l.machine.failed ≡ false;
-  good : l.room.state ≡ Good;
-  time : HasTimeFor 0 l.machine.seen;
+  going : l.run.machine.failed ≡ false;
+  good : l.run.room.state ≡ Good;
+  time : HasTimeFor 0 l.run.machine.seen;
 }

@@ -1,11 +1,12 @@
 -- Each walk comes one node nearer to the other, and what is sought is among the nodes between them or in `found`.
-use Rattle.std.proofs.Common.{◌≡◌, ℕ, ◌<◌, Bool, Some, cond, refl, ap, sym, ◌∙◌, subst, length}
+use Rattle.std.proofs.Common.{◌≡◌, ℕ, ◌<◌, Bool, Some, cond, refl, ap, sym, ◌∙◌, subst, length, None}
 use Rattle.std.specs.Prelude.{find}
 use Rattle.std.proofs.lemmas.Bool.{cond-true, cond-false, ne_eqb}
 use Rattle.execlist.specs.Lists.{sequence, home, key_at, ahead, part_before, part_from}
 use Rattle.execlist.specs.DigestKeys.{keys_in}
-use Rattle.execlist.specs.Chains.{lists_of, homes_of}
+use Rattle.execlist.specs.Chains.{lists_of, homes_of, node_at}
 use Rattle.execlist.proofs.PlainLemmas.{last_none}
+use Rattle.execlist.proofs.LinkLemmas.{node-known, node-none}
 use Rattle.execlist.proofs.Walks.{ahead_shorter, once_from, from_last, from_before, in_sequence, front_step, back_step, last_ahead, nearer, has_last, not_first, before_ahead}
 use Rattle.execlist.proofs.link.LinkSpace.first_sought.Goals.{then-is_sought-2, else-is_sought-2}
 use Rattle.execlist.proofs.link.LinkSpace.first_sought.Goals as goal
@@ -17,8 +18,8 @@ returns-in_err-back-clause-value g c =
     let inside = in_sequence _ (home (homes_of s.block.links s.nodes) c.args.from) c.args.h (s.stands c.args.h c.args.from) c.requires.home in
     absurd (has_last c.args.from seq inside (sym c.last.ensures.value ∙ c.in_err-back.was))
 
-pub loop-found-init : goal.loop-found-init
-loop-found-init g c =
+pub loop-h-init : goal.loop-h-init
+loop-h-init g c =
     let s = c.args.self.now in
     let seq = sequence (lists_of s.block.links s.nodes s.headers) c.args.h in
     let homes = homes_of s.block.links s.nodes in
@@ -28,20 +29,20 @@ loop-found-init g c =
     let at_end = c.in_ok-back.ensures.value in
     record {
       sought = refl;
-      kept = ap (find wanted) (sym (ap (λ o. part_from o seq) at_end ∙ from_last seq once));
+      kept = node-none s.nodes ∙ ap (find wanted) (sym (ap (λ o. part_from o seq) at_end ∙ from_last seq once));
       between = last_ahead c.args.from c.in_ok-back.back seq (sym at_end) inside;
       next_home = c.requires.home;
       back_home = c.in_ok-back.ensures.home;
-      found_home = λ x e. cc;
+      found_home = λ x e. let none : None ≡ Some x = sym (node-none s.nodes) ∙ e in cc;
     }
 
-pub loop-found-smaller : goal.loop-found-smaller
-loop-found-smaller g c =
+pub loop-h-smaller : goal.loop-h-smaller
+loop-h-smaller g c =
     let s = c.args.self.now in
-    let m = c.loop-found.next in
+    let m = c.loop-h.next in
     let seq = sequence (lists_of s.block.links s.nodes s.headers) c.args.h in
     let once = once_from seq (home (homes_of s.block.links s.nodes)) c.args.h (s.stands c.args.h) in
-    let step = c.in_ok-next.ensures.value c.args.h c.loop-found.invariant.next_home in
+    let step = c.in_ok-next.ensures.value c.args.h c.loop-h.invariant.next_home in
     subst (λ o. length (ahead o seq) < length (ahead (Some m) seq)) (sym step) (ahead_shorter m seq once)
 
 pub returns-then-next-back-2-clause-value : goal.returns-then-next-back-2-clause-value
@@ -51,15 +52,16 @@ returns-then-next-back-2-clause-value g c =
     let homes = homes_of s.block.links s.nodes in
     let wanted : ℕ → Bool = (λ m. g.W.Sought.wanted c.args.wanted.now (key_at (keys_in s.nodes s.keys.items) m)) in
     let once = once_from seq (home homes) c.args.h (s.stands c.args.h) in
-    let l = c.loop-found in
+    let l = c.loop-h in
     let step = c.in_ok-next.ensures.value c.args.h l.invariant.next_home in
     let sought = l.invariant.sought ∙ front_step wanted seq l.next (Some c.in_ok-next.next) once (sym c.is_sought.ensures ∙ c.if-is_sought.false) step in
-    let chosen : c.if-is_sought-2.found ≡ cond c.is_sought-in-loop-found.result (Some l.back) l.found =
+    let known = node-known s.block.links s.nodes l.back c.args.h l.invariant.back_home in
+    let chosen : node_at s.nodes c.if-is_sought-2.found ≡ cond c.is_sought-in-loop-h.result (Some l.back) (node_at s.nodes l.found) =
     elim c.if-is_sought-2.branch [
-      | then-is_sought-2 w ↦ w.found-is ∙ sym (cond-true _ _ _ w.if-is_sought-2.true)
-      | else-is_sought-2 w ↦ w.found-is ∙ sym (cond-false _ _ _ w.if-is_sought-2.false)
+      | then-is_sought-2 w ↦ ap (node_at s.nodes) w.found-is ∙ known ∙ sym (cond-true _ _ _ w.if-is_sought-2.true)
+      | else-is_sought-2 w ↦ ap (node_at s.nodes) w.found-is ∙ sym (cond-false _ _ _ w.if-is_sought-2.false)
     ] in
-    chosen ∙ back_step wanted seq l.back l.found c.is_sought-in-loop-found.result l.invariant.kept c.is_sought-in-loop-found.ensures
+    c.node_of-then-next-back-2.ensures ∙ chosen ∙ back_step wanted seq l.back (node_at s.nodes l.found) c.is_sought-in-loop-h.result l.invariant.kept c.is_sought-in-loop-h.ensures
     ∙ ap (λ n. find wanted (ahead (Some n) seq)) (sym c.if-next-back-2.true) ∙ sym sought
 
 pub returns-in_err-back-2-clause-value : goal.returns-in_err-back-2-clause-value
@@ -67,28 +69,29 @@ returns-in_err-back-2-clause-value g c =
     let s = c.args.self.now in
     let seq = sequence (lists_of s.block.links s.nodes s.headers) c.args.h in
     let once = once_from seq (home (homes_of s.block.links s.nodes)) c.args.h (s.stands c.args.h) in
-    let l = c.loop-found in
+    let l = c.loop-h in
     let step = c.in_ok-next.ensures.value c.args.h l.invariant.next_home in
     let inside = nearer l.next c.in_ok-next.next l.back seq once (ne_eqb _ _ c.if-next-back.false) (ne_eqb _ _ c.if-next-back-2.false) step l.invariant.between in
     let none = last_none (part_before l.back seq) (sym (c.in_err-back-2.ensures.value c.args.h l.invariant.back_home)) in
     absurd (not_first c.in_ok-next.next l.back seq once inside none)
 
-pub loop-found-preserved : goal.loop-found-preserved
-loop-found-preserved g c =
+pub loop-h-preserved : goal.loop-h-preserved
+loop-h-preserved g c =
     let s = c.args.self.now in
     let seq = sequence (lists_of s.block.links s.nodes s.headers) c.args.h in
     let homes = homes_of s.block.links s.nodes in
     let wanted : ℕ → Bool = (λ m. g.W.Sought.wanted c.args.wanted.now (key_at (keys_in s.nodes s.keys.items) m)) in
     let once = once_from seq (home homes) c.args.h (s.stands c.args.h) in
-    let l = c.loop-found in
+    let l = c.loop-h in
     let step = c.in_ok-next.ensures.value c.args.h l.invariant.next_home in
     let sought = l.invariant.sought ∙ front_step wanted seq l.next (Some c.in_ok-next.next) once (sym c.is_sought.ensures ∙ c.if-is_sought.false) step in
-    let chosen : c.if-is_sought-2.found ≡ cond c.is_sought-in-loop-found.result (Some l.back) l.found =
+    let known = node-known s.block.links s.nodes l.back c.args.h l.invariant.back_home in
+    let chosen : node_at s.nodes c.if-is_sought-2.found ≡ cond c.is_sought-in-loop-h.result (Some l.back) (node_at s.nodes l.found) =
     elim c.if-is_sought-2.branch [
-      | then-is_sought-2 w ↦ w.found-is ∙ sym (cond-true _ _ _ w.if-is_sought-2.true)
-      | else-is_sought-2 w ↦ w.found-is ∙ sym (cond-false _ _ _ w.if-is_sought-2.false)
+      | then-is_sought-2 w ↦ ap (node_at s.nodes) w.found-is ∙ known ∙ sym (cond-true _ _ _ w.if-is_sought-2.true)
+      | else-is_sought-2 w ↦ ap (node_at s.nodes) w.found-is ∙ sym (cond-false _ _ _ w.if-is_sought-2.false)
     ] in
-    let kept = chosen ∙ back_step wanted seq l.back l.found c.is_sought-in-loop-found.result l.invariant.kept c.is_sought-in-loop-found.ensures in
+    let kept = chosen ∙ back_step wanted seq l.back (node_at s.nodes l.found) c.is_sought-in-loop-h.result l.invariant.kept c.is_sought-in-loop-h.ensures in
     let before = c.in_ok-back-2.ensures.value c.args.h l.invariant.back_home in
     let inside = in_sequence _ (home homes l.back) c.args.h (s.stands c.args.h l.back) l.invariant.back_home in
     let ahead_of = nearer l.next c.in_ok-next.next l.back seq once (ne_eqb _ _ c.if-next-back.false) (ne_eqb _ _ c.if-next-back-2.false) step l.invariant.between in
@@ -99,7 +102,7 @@ loop-found-preserved g c =
       next_home = c.in_ok-next.ensures.home ∙ l.invariant.next_home;
       back_home = c.in_ok-back-2.ensures.home ∙ l.invariant.back_home;
       found_home = λ x e. elim c.if-is_sought-2.branch [
-        | then-is_sought-2 w ↦ let here : Some l.back ≡ Some x = sym w.found-is ∙ e in let same : l.back ≡ x = cc in ap (home homes) (sym same) ∙ l.invariant.back_home
-        | else-is_sought-2 w ↦ l.invariant.found_home x (sym w.found-is ∙ e)
+        | then-is_sought-2 w ↦ let here : Some l.back ≡ Some x = sym known ∙ sym (ap (node_at s.nodes) w.found-is) ∙ e in let same : l.back ≡ x = cc in ap (home homes) (sym same) ∙ l.invariant.back_home
+        | else-is_sought-2 w ↦ l.invariant.found_home x (sym (ap (node_at s.nodes) w.found-is) ∙ e)
       ];
     }

@@ -1,25 +1,25 @@
--- What is sought is sought in the nodes ahead; the last of them is `back`, or is before it, and `found` is what is after `back`.
+-- What is sought is sought in the nodes ahead; the last of them is `back`, or is before it, and `found` is the number of what is after `back`.
 use Rattle.std.proofs.Common.{◌≡◌, ℕ, ◌<◌, length, Bool, Some}
 use Rattle.std.specs.Prelude.{find}
 use Rattle.std.specs.Option.{ForSome}
 use Rattle.execlist.specs.Lists.{sequence, home, key_at, times, ahead, part_after}
 use Rattle.execlist.specs.DigestKeys.{keys_in}
-use Rattle.execlist.specs.Chains.{lists_of, homes_of}
+use Rattle.execlist.specs.Chains.{lists_of, homes_of, node_at}
 use Rattle.execlist.proofs.link.LinkSpace.first_sought.Given as goal
 
-abbrev pub invariant-loop-found : goal.invariant-loop-found
-invariant-loop-found g l =
+abbrev pub invariant-loop-h : goal.invariant-loop-h
+invariant-loop-h g l =
     let seq = sequence (lists_of l.self.block.links l.self.nodes l.self.headers) l.h in
     let homes = homes_of l.self.block.links l.self.nodes in
     let wanted : ℕ → Bool = (λ m. g.W.Sought.wanted l.wanted (key_at (keys_in l.self.nodes l.self.keys.items) m)) in
     record {
       sought : find wanted (ahead (Some l.fn.from) seq) ≡ find wanted (ahead (Some l.next) seq);
-      kept : l.found ≡ find wanted (part_after l.back seq);
+      kept : node_at l.self.nodes l.found ≡ find wanted (part_after l.back seq);
       between : 0 < times l.back (ahead (Some l.next) seq);
       next_home : home homes l.next ≡ Some l.h;
       back_home : home homes l.back ≡ Some l.h;
-      found_home : ForSome l.found (λ p. home homes p ≡ Some l.h);
+      found_home : ForSome (node_at l.self.nodes l.found) (λ p. home homes p ≡ Some l.h);
     }
 
-abbrev pub decreases-loop-found : goal.decreases-loop-found
-decreases-loop-found g l = length (ahead (Some l.next) (sequence (lists_of l.self.block.links l.self.nodes l.self.headers) l.h))
+abbrev pub decreases-loop-h : goal.decreases-loop-h
+decreases-loop-h g l = length (ahead (Some l.next) (sequence (lists_of l.self.block.links l.self.nodes l.self.headers) l.h))

@@ -4,4 +4,4 @@ use Rattle.memlist.specs.Chain.{Space, first_or}
 use Rattle.memlist.proofs.space.FreeSpace.head.Goals as goal
 
 pub returns : goal.returns
-returns c = c.self.invariant.first ∙ ap (λ (s : Space). first_or 0 s.gaps) c.self.view_is
+returns c = c.self.invariant.0.first ∙ ap (λ (s : Space). first_or 0 s.gaps) c.self.view_is

@@ -1,8 +1,9 @@
 -- The proof of `FreeSpace::join`: frees a block, which joins the gaps that touch it.
-use Rattle.std.proofs.Common.{◌+◌, ◌-◌, arith, ap, sym, length, ◌∙◌}
-use Rattle.memlist.specs.Chain.{Space, written}
+use Rattle.std.proofs.Common.{◌+◌, ◌-◌, arith, ap, sym, length, ◌∙◌, subst}
+use Rattle.memlist.specs.Chain.{IsCount, Space, written}
 use Rattle.memlist.specs.Joins.{Around}
-use Rattle.memlist.proofs.Chains.{before_within, seen}
+use Rattle.memlist.proofs.Chains.{apart_sum, before_within, seen}
+use Rattle.memlist.proofs.Counts.{bytes_joined}
 use Rattle.memlist.proofs.Edits.{front, joined}
 use Rattle.memlist.proofs.Walking.{up_to_block}
 use Rattle.memlist.proofs.Writing.{IsJoining, joining, length-written, link_len, seen_around, space_written}
@@ -15,7 +16,7 @@ module _ (c : After-upper-upper) (around : Around c.args.self.now.gaps c.args.ad
       let base_is = ap (λ (s : Space). s.base) c.self.view_is in
       let end_is = ap (λ (s : Space). s.end) c.self.view_is in
       let walk = up_to_block around c.requires.before in
-      joining c.self.inside.base c.self.inside.words.items c.self.inside.head _ c.self.invariant c.args.address c.args.size (seen_around (ap (λ (s : Space). s.gaps) c.self.view_is) around)
+      joining c.self.inside.base c.self.inside.words.items c.self.inside.head _ c.self.invariant.0 c.args.address c.args.size (seen_around (ap (λ (s : Space). s.gaps) c.self.view_is) around)
       (omega (arith, base_is, c.requires.low)) (omega (arith, end_is, c.requires.high)) c.requires.place c.requires.some c.requires.whole
       c.args.before c.upper-upper.result.next c.upper-upper.result.size walk.last (c.upper-upper.ensures.next walk) (c.upper-upper.ensures.size walk)
 
@@ -24,6 +25,11 @@ upper-upper-requires-clause-walk c = up_to_block c.requires.around c.requires.be
 
 pub ends_at-requires : goal.ends_at-requires
 ends_at-requires c = up_to_block c.requires.around c.requires.before
+
+pub overflow_add-free : goal.overflow_add-free
+overflow_add-free c =
+    let all = apart_sum c.self.inside.base _ _ c.self.invariant.0.apart in
+    omega (arith, c.self.invariant.1, all, c.self.invariant.0.low, c.self.invariant.0.reach, c.requires.low, c.requires.high, ap (λ (s : Space). s.end) c.self.view_is, ap (λ (s : Space). s.base) c.self.view_is)
 
 pub overflow_sub-chunk : goal.overflow_sub-chunk
 overflow_sub-chunk c = ((joins (goal.at.overflow_sub-chunk c).After-upper-upper c.requires.around).lower (sym c.if-ends_at.true ∙ c.ends_at.ensures (up_to_block c.requires.around c.requires.before))).above
@@ -39,26 +45,32 @@ write-requires c = omega (arith, ((joins (goal.at.write-requires c).After-upper-
 
 pub invariant_of-self : goal.invariant_of-self
 invariant_of-self c =
-    ((joins (goal.at.invariant_of-self c).After-upper-upper c.requires.around).into c.write.new.words.items (sym c.if-ends_at.true ∙ c.ends_at.ensures (up_to_block c.requires.around c.requires.before))
-    (c.write.ensures ∙ ap (λ k. written c.self.inside.words.items k c.upper-upper.result.next (c.args.address - c.args.before + c.upper-upper.result.size)) c.word_place.ensures)).kept
+    let shown =
+    (joins (goal.at.invariant_of-self c).After-upper-upper c.requires.around).into c.write.new.words.items (sym c.if-ends_at.true ∙ c.ends_at.ensures (up_to_block c.requires.around c.requires.before))
+    (c.write.ensures ∙ ap (λ k. written c.self.inside.words.items k c.upper-upper.result.next (c.args.address - c.args.before + c.upper-upper.result.size)) c.word_place.ensures) in
+    let around = seen_around (ap (λ (s : Space). s.gaps) c.self.view_is) c.requires.around in
+    (shown.kept, subst (IsCount (c.self.inside.free + c.args.size)) (sym shown.is) (bytes_joined c.self.inside.free c.args.size c.args.address _ around c.self.invariant.1))
 
 pub link-requires-clause-low : goal.link-requires-clause-low
 link-requires-clause-low c some =
-    (before_within c.self.inside.base c.self.inside.words.items c.self.inside.head _ c.self.invariant c.args.before some
+    (before_within c.self.inside.base c.self.inside.words.items c.self.inside.head _ c.self.invariant.0 c.args.before some
     (seen (ap (λ (s : Space). s.gaps) c.self.view_is) (up_to_block c.requires.around c.requires.before))).begins
 
 pub link-requires-clause-within : goal.link-requires-clause-within
 link-requires-clause-within c some =
-    let w = before_within c.self.inside.base c.self.inside.words.items c.self.inside.head _ c.self.invariant c.args.before some
+    let w = before_within c.self.inside.base c.self.inside.words.items c.self.inside.head _ c.self.invariant.0 c.args.before some
     (seen (ap (λ (s : Space). s.gaps) c.self.view_is) (up_to_block c.requires.around c.requires.before)) in
     let len = ap length c.write-else-ends_at.ensures ∙ length-written c.self.inside.words.items c.word_place-else-ends_at.result c.upper-upper.result.next c.upper-upper.result.size in
     omega (arith, w.begins, w.ends, len)
 
 pub invariant_of-self-else-ends_at : goal.invariant_of-self-else-ends_at
 invariant_of-self-else-ends_at c =
-    ((joins (goal.at.invariant_of-self-else-ends_at c).After-upper-upper c.requires.around).own c.write-else-ends_at.new.words.items c.link.new.words.items c.link.new.head (sym c.if-ends_at.false ∙ c.ends_at.ensures (up_to_block c.requires.around c.requires.before))
+    let shown =
+    (joins (goal.at.invariant_of-self-else-ends_at c).After-upper-upper c.requires.around).own c.write-else-ends_at.new.words.items c.link.new.words.items c.link.new.head (sym c.if-ends_at.false ∙ c.ends_at.ensures (up_to_block c.requires.around c.requires.before))
     (c.write-else-ends_at.ensures ∙ ap (λ k. written c.self.inside.words.items k c.upper-upper.result.next c.upper-upper.result.size) c.word_place-else-ends_at.ensures)
-    c.link.ensures.words c.link.ensures.head).kept
+    c.link.ensures.words c.link.ensures.head in
+    let around = seen_around (ap (λ (s : Space). s.gaps) c.self.view_is) c.requires.around in
+    (shown.kept, subst (IsCount (c.self.inside.free + c.args.size)) (sym shown.is) (bytes_joined c.self.inside.free c.args.size c.args.address _ around c.self.invariant.1))
 
 pub returns-then-ends_at : goal.returns-then-ends_at
 returns-then-ends_at c around =

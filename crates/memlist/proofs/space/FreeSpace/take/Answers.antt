@@ -1,11 +1,12 @@
 -- The proof of `FreeSpace::take`: takes that many bytes off the front of the lowest gap that has them, which is the one after the chunk at
 -- an address, and answers where they begin.
-use Rattle.std.proofs.Common.{◌≡◌, ◌+◌, ◌++◌, refl, arith, ap, sym, ◌∙◌, subst, length}
+use Rattle.std.proofs.Common.{◌≡◌, ◌+◌, ◌-◌, ◌++◌, refl, arith, ap, sym, ◌∙◌, subst, length}
 use Rattle.std.specs.Prelude.{IsSome}
 use Rattle.memlist.specs.declared.gap.Gap.{Gap}
 use Rattle.memlist.specs.Blocks.{stretch}
-use Rattle.memlist.specs.Chain.{IsSpot, Space, cut_rest, cut_words}
+use Rattle.memlist.specs.Chain.{IsCount, IsSpot, Space, cut_rest, cut_words}
 use Rattle.memlist.proofs.Chains.{IsShown, before_within, seen, shown}
+use Rattle.memlist.proofs.Counts.{bytes_taken}
 use Rattle.memlist.proofs.Walking.{past, same_gap, seen_spot, up_to}
 use Rattle.memlist.proofs.Writing.{IsSpotIn, cut_len, link_len, space_written, spot_in, taken_chain}
 use Rattle.memlist.proofs.space.FreeSpace.take.Goals as goal
@@ -18,7 +19,7 @@ module _ (c : After-unwrap-gap) (spot : IsSpot c.args.size c.args.self.now.gaps 
   -- if the gap lies
   lies : IsSpotIn c.self.inside.base (length c.self.inside.words.items) c.args.size c.unwrap-gap.result
   lies =
-      spot_in c.self.inside.base c.self.inside.words.items c.self.inside.head _ c.self.invariant c.args.size c.args.before c.requires.whole
+      spot_in c.self.inside.base c.self.inside.words.items c.self.inside.head _ c.self.invariant.0 c.args.size c.args.before c.requires.whole
       (seen_spot (ap (λ (s : Space). s.gaps) c.self.view_is) spot) c.unwrap-gap.result same
 
 module _ (c : After-link) (spot : IsSpot c.args.size c.args.self.now.gaps c.args.before) (is : c.unwrap-gap.result ≡ spot.gap) where
@@ -26,7 +27,7 @@ module _ (c : After-link) (spot : IsSpot c.args.size c.args.self.now.gaps c.args
       (spot.below ++ (stretch (spot.gap.address + c.args.size) (spot.gap.address + spot.gap.size) ++ spot.above))
   taken =
       shown c.self.inside.base c.link.new.words.items c.link.new.head _
-      (taken_chain c.self.inside.base c.self.inside.words.items c.self.inside.head _ c.self.invariant c.args.size c.args.before c.next-next.result c.cut-rest.result
+      (taken_chain c.self.inside.base c.self.inside.words.items c.self.inside.head _ c.self.invariant.0 c.args.size c.args.before c.next-next.result c.cut-rest.result
       (seen_spot (ap (λ (s : Space). s.gaps) c.self.view_is) spot) c.cut-rest.new.words.items c.link.new.words.items c.link.new.head c.requires.whole
       (c.next-next.ensures.is (past spot c.unwrap-gap.result is))
       (c.cut-rest.ensures.rest ∙ ap (λ (g : Gap). cut_rest g c.args.size c.next-next.result) is)
@@ -56,16 +57,19 @@ cut-rest-requires-clause-room c = (lies (goal.at.cut-rest-requires-clause-room c
 
 pub link-requires-clause-low : goal.link-requires-clause-low
 link-requires-clause-low c some =
-    (before_within c.self.inside.base c.self.inside.words.items c.self.inside.head _ c.self.invariant c.args.before some (seen (ap (λ (s : Space). s.gaps) c.self.view_is) (up_to c.requires.spot))).begins
+    (before_within c.self.inside.base c.self.inside.words.items c.self.inside.head _ c.self.invariant.0 c.args.before some (seen (ap (λ (s : Space). s.gaps) c.self.view_is) (up_to c.requires.spot))).begins
 
 pub link-requires-clause-within : goal.link-requires-clause-within
 link-requires-clause-within c some =
-    let w = before_within c.self.inside.base c.self.inside.words.items c.self.inside.head _ c.self.invariant c.args.before some (seen (ap (λ (s : Space). s.gaps) c.self.view_is) (up_to c.requires.spot)) in
+    let w = before_within c.self.inside.base c.self.inside.words.items c.self.inside.head _ c.self.invariant.0 c.args.before some (seen (ap (λ (s : Space). s.gaps) c.self.view_is) (up_to c.requires.spot)) in
     let len = ap length c.cut-rest.ensures.words ∙ cut_len c.self.inside.base c.self.inside.words.items c.unwrap-gap.result c.args.size c.next-next.result in
     omega (arith, w.begins, w.ends, len)
 
 pub invariant_of-self : goal.invariant_of-self
-invariant_of-self c = (taken (goal.at.invariant_of-self c).After-link c.requires.spot (same (goal.at.invariant_of-self c).After-unwrap-gap c.requires.spot)).kept
+invariant_of-self c =
+    let shown = taken (goal.at.invariant_of-self c).After-link c.requires.spot (same (goal.at.invariant_of-self c).After-unwrap-gap c.requires.spot) in
+    let spot = seen_spot (ap (λ (s : Space). s.gaps) c.self.view_is) c.requires.spot in
+    (shown.kept, subst (IsCount (c.self.inside.free - c.args.size)) (sym shown.is) (bytes_taken c.self.inside.free c.args.size _ spot.below spot.gap spot.above c.self.invariant.1 spot.is spot.fits).1)
 
 pub returns : goal.returns
 returns c spot = (

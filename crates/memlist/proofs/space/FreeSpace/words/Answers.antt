@@ -13,4 +13,4 @@ returns-clause-len c =
 pub returns-clause-linked : goal.returns-clause-linked
 returns-clause-linked c =
     subst (λ (s : Space). IsLinked s.base c.deref.result.now s.gaps 0) c.self.view_is
-    (subst (λ ws. IsLinked c.self.inside.base ws (chain (length c.self.inside.words.items) c.self.inside.base c.self.inside.words.items c.self.inside.head) 0) (sym c.deref.ensures.value) c.self.invariant.linked)
+    (subst (λ ws. IsLinked c.self.inside.base ws (chain (length c.self.inside.words.items) c.self.inside.base c.self.inside.words.items c.self.inside.head) 0) (sym c.deref.ensures.value) c.self.invariant.0.linked)

@@ -1,0 +1,256 @@
+//! What is wrong at a place of the tree of a machine file: the place in words, the part that is marked, and why, in one sentence.
+
+use crate::escaped::shown_name;
+use crate::file::{File, item_word, name_at};
+use crate::keys::{unknown_key, unknown_key_reason, wanted_of};
+use crate::made::Made;
+use crate::members::name_of;
+use crate::regions::unfit_region;
+use crate::written::Part;
+use std::alloc::Global;
+use taskscript::{Array, FileFault, Key, LINE_LIMIT, TablePlace, TreePlace, items_at, member};
+use toml::{Table, Value};
+
+/// What is wrong at a place of the tree.
+#[derive(Drop)]
+pub struct Wrong<'a> {
+    /// The place, by its path.
+    pub words: String,
+    pub reason: String,
+    /// The part of the file that is marked: the key that is unknown, the value that is wrong, or the head of the table that lacks a key. None if
+    /// the file does not show it.
+    pub part: Option<Part<'a>>,
+}
+
+/// What is at a place.
+fn held_text(alloc: Global, value: &Value) -> Made<String> {
+    if let Some(z) = value.as_integer() {
+        return format!(in alloc; "{z}");
+    }
+    if let Some(text) = value.as_str() {
+        let text = shown_name(alloc, text)?;
+        return format!(in alloc; "\"{text}\"");
+    }
+    match value.as_bool() {
+        Some(true) => format!(in alloc; "true"),
+        Some(false) => format!(in alloc; "false"),
+        None if value.is_array() => format!(in alloc; "an array"),
+        None => {
+            let kind = value.type_str();
+            format!(in alloc; "a {kind}")
+        }
+    }
+}
+
+/// The number, from 0, of the first item of the code of a table that is no string.
+fn line_without_string(own: &Table) -> Option<usize> {
+    items_at(own, "code").iter().position(|item| !item.is_str())
+}
+
+/// The number, from 0, of the item of a code that is marked: the first that is too many or no string.
+fn marked_line(own: &Table, key: Key, fault: FileFault) -> Option<usize> {
+    match fault {
+        _ if key != Key::Code => None,
+        FileFault::TooMany => Some(LINE_LIMIT),
+        _ => line_without_string(own),
+    }
+}
+
+/// Why a value of a key is not one that the key may have. `wanted` is what it may have.
+fn bad_value_reason(alloc: Global, own: &Table, key: Key, wanted: &str) -> Made<String> {
+    let Some(value) = member(own, key.text()) else {
+        return format!(in alloc; "expected {wanted}");
+    };
+    match line_without_string(own) {
+        Some(line) if key == Key::Code => {
+            let number = line.saturating_add(1);
+            format!(in alloc; "expected {wanted}, but line {number} is not a string")
+        }
+        _ => {
+            let held = held_text(alloc, value)?;
+            format!(in alloc; "expected {wanted}, found {held}")
+        }
+    }
+}
+
+/// The arrays in which a name may be before that of an item of one.
+fn named_arrays(array: Array) -> &'static [Array] {
+    match array {
+        Array::Library => &[Array::Library],
+        _ => &[Array::Softint, Array::Server, Array::Task],
+    }
+}
+
+impl<'a> File<'_, 'a> {
+    /// An item of an array, by its number from 1 and its name if it has one.
+    fn item_words(&self, array: Array, item: usize) -> Made<String> {
+        let (word, number) = (item_word(array), item.saturating_add(1));
+        let name = shown_name(self.alloc, name_at(&self.table, array, item))?;
+        if name.is_empty() {
+            return format!(in self.alloc; "in {word} {number}");
+        }
+        format!(in self.alloc; "in {word} {number} (\"{name}\")")
+    }
+
+    /// A key of a table, by the table and the key.
+    fn key_words(&self, of: TablePlace, key: &str) -> Made<String> {
+        let key = shown_name(self.alloc, key)?;
+        match of {
+            TablePlace::Top => format!(in self.alloc; "in the top table, key {key}: "),
+            TablePlace::Item(array, item) => {
+                let named = self.item_words(array, item)?;
+                format!(in self.alloc; "{named}, key {key}: ")
+            }
+        }
+    }
+
+    /// The table of a place; if the item is no table, the top table.
+    fn table_at(&self, of: TablePlace) -> &Table {
+        let TablePlace::Item(array, item) = of else {
+            return &self.table;
+        };
+        match items_at(&self.table, array.key()).get(item) {
+            None => &self.table,
+            Some(value) => value.as_table().unwrap_or(&self.table),
+        }
+    }
+
+    /// The head of a table, if it has one.
+    fn head_of(&self, of: TablePlace) -> Option<Part<'a>> {
+        match of {
+            TablePlace::Top => None,
+            TablePlace::Item(array, item) => self.written.head(array, item),
+        }
+    }
+
+    /// The value of a key, or the head of a table that lacks it.
+    fn value_of(&self, of: TablePlace, key: &str) -> Made<Option<Part<'a>>> {
+        Ok(match self.written.key(self.alloc, of, key)? {
+            None => self.head_of(of),
+            Some(found) => Some(found.value),
+        })
+    }
+
+    /// What is wrong if a table has a key that it may not have.
+    fn wrong_table(&self, of: TablePlace) -> Made<Wrong<'a>> {
+        let key = unknown_key(self.alloc, of, self.table_at(of))?;
+        let part = match self.written.key(self.alloc, of, key)? {
+            None => self.head_of(of),
+            Some(found) => Some(found.key),
+        };
+        Ok(Wrong {
+            words: self.key_words(of, key)?,
+            reason: unknown_key_reason(self.alloc, of, key)?,
+            part,
+        })
+    }
+
+    /// Where the name of an item was before.
+    fn twice_reason(&self, of: TablePlace) -> Made<String> {
+        if let TablePlace::Item(array, item) = of {
+            let name = name_at(&self.table, array, item);
+            for other in named_arrays(array) {
+                let items = items_at(&self.table, other.key());
+                if let Some(before) = items.iter().position(|item| name == name_of(item)) {
+                    let (key, number) = (other.key(), before.saturating_add(1));
+                    let name = shown_name(self.alloc, name)?;
+                    return format!(in self.alloc;
+                        "the name \"{name}\" is already used, in {key} {number}"
+                    );
+                }
+            }
+        }
+        format!(in self.alloc; "this name is already used")
+    }
+
+    /// Why a key of a table is faulty.
+    fn key_reason(&self, of: TablePlace, key: Key, fault: FileFault) -> Made<String> {
+        let (own, wanted) = (self.table_at(of), wanted_of(of, key));
+        match fault {
+            FileFault::MissingKey => {
+                format!(in self.alloc; "the key is missing; expected {wanted}")
+            }
+            FileFault::NameTwice => self.twice_reason(of),
+            FileFault::TooMany => {
+                let count = items_at(own, "code").len();
+                format!(in self.alloc; "{count} lines; a body has at most {LINE_LIMIT}")
+            }
+            _ => bad_value_reason(self.alloc, own, key, wanted),
+        }
+    }
+
+    /// The part that is marked for a faulty key: of a code the line that is too many or no string, and else the value.
+    fn key_part(&self, of: TablePlace, key: Key, fault: FileFault) -> Made<Option<Part<'a>>> {
+        let line = marked_line(self.table_at(of), key, fault);
+        if let (TablePlace::Item(array, item), Some(line)) = (of, line) {
+            if let Some(part) = self.written.line(array, item, line) {
+                return Ok(Some(part));
+            }
+        }
+        self.value_of(of, key.text())
+    }
+
+    /// What is wrong with a key of a table.
+    fn wrong_key(&self, of: TablePlace, key: Key, fault: FileFault) -> Made<Wrong<'a>> {
+        Ok(Wrong {
+            words: self.key_words(of, key.text())?,
+            reason: self.key_reason(of, key, fault)?,
+            part: self.key_part(of, key, fault)?,
+        })
+    }
+
+    /// What is wrong with an array as a whole. What is marked is the first item that is too many, the region that does not fit, or the key.
+    fn wrong_array(&self, array: Array, fault: FileFault) -> Made<Wrong<'a>> {
+        let (alloc, key) = (self.alloc, array.key());
+        let words = self.key_words(TablePlace::Top, key)?;
+        match fault {
+            FileFault::BadRegions => {
+                let found = unfit_region(alloc, &self.table)?;
+                let part = self.value_of(TablePlace::Item(array, found.item), found.key)?;
+                let reason = found.reason;
+                Ok(Wrong {
+                    words,
+                    reason,
+                    part,
+                })
+            }
+            FileFault::TooMany => {
+                let (count, limit) = (items_at(&self.table, array.key()).len(), array.limit());
+                Ok(Wrong {
+                    words,
+                    reason: format!(in alloc;
+                        "{count} tables; there are at most {limit} of {key}"
+                    )?,
+                    part: self.written.head(array, limit),
+                })
+            }
+            _ => Ok(Wrong {
+                words,
+                reason: format!(in alloc;
+                    "expected an array of tables, each of which begins with [[{key}]]"
+                )?,
+                part: self.value_of(TablePlace::Top, key)?,
+            }),
+        }
+    }
+
+    /// What is wrong with an item of an array, which is no table.
+    fn wrong_item(&self, array: Array, item: usize) -> Made<Wrong<'a>> {
+        let named = self.item_words(array, item)?;
+        Ok(Wrong {
+            words: format!(in self.alloc; "{named}: ")?,
+            reason: format!(in self.alloc; "expected a table")?,
+            part: self.written.head(array, item),
+        })
+    }
+
+    /// What is wrong at a place of the tree.
+    pub fn wrong_at(&self, place: TreePlace, fault: FileFault) -> Made<Wrong<'a>> {
+        match place {
+            TreePlace::UnknownKey(of) => self.wrong_table(of),
+            TreePlace::Key(of, key) => self.wrong_key(of, key, fault),
+            TreePlace::Array(array) => self.wrong_array(array, fault),
+            TreePlace::Item(array, item) => self.wrong_item(array, item),
+        }
+    }
+}

@@ -1,0 +1,3 @@
+-- The lemma files of `logforms`.
+pub mod Pages
+pub mod Turns

@@ -1,0 +1,14 @@
+-- The sums of what is taken.
+use Rattle.std.proofs.Common.{◌≡◌, ◌≤◌}
+use Rattle.std.specs.Prelude.{sum_by}
+use Rattle.taskscript.specs.Events.{ticks as ticks_of}
+use Rattle.execlog.specs.Log.{turns}
+use Rattle.logforms.proofs.events.events_up_to.Given as goal
+
+abbrev pub invariant-loop-event : goal.invariant-loop-event
+invariant-loop-event l = record {
+  turns : l.turns ≡ sum_by turns l.part.items;
+  ticks : l.ticks ≡ sum_by ticks_of l.part.items;
+  few : l.turns ≤ 4000000;
+  time : l.ticks ≤ 1000000;
+}

@@ -1,3 +1,0 @@
--- The lemma files of `logger`.
-pub mod Pages
-pub mod Turns
