@@ -21,7 +21,7 @@ use Rattle.execmodel.proofs.Heaps.{true_is_not_false}
 use Rattle.execmodel.proofs.Itself.{word_itself, word_keeps}
 use Rattle.execmodel.proofs.Stopped.{step_stopped, request_stopped}
 use Rattle.execmodel.proofs.Stretches.{Relation, HoldsOfEach, clock_gains, of_request, of_step, of_starts}
-use Rattle.execmodel.proofs.Commands.{body_alters}
+use Rattle.execmodel.proofs.Telling.{body_alters}
 use Rattle.execmodel.proofs.Asking.{finishing}
 use Rattle.execmodel.proofs.TidyLaw.{quietly, switches_quiet}
 

@@ -1,39 +1,31 @@
 -- What a command that a body may have makes of the state, whether a body or a task makes the call: of the blocks of memory, of the tasks'
 -- states and of the received signals one of a few things, whatever the word.
 use Rattle.std.proofs.Common.{◌≡◌, ℕ, Bool, true, false, List, [], ◌∷◌, Option, None, Some, length, refl, sym, ap, ◌∙◌, subst}
-use Rattle.std.specs.Prelude.{◌-◌, not, if◌then◌else◌, nat_eq, is_some}
+use Rattle.std.specs.Prelude.{◌-◌, not, if◌then◌else◌, nat_eq, is_some, nat_lt, ◌&&◌, unwrap_or}
 use Rattle.std.proofs.lemmas.List.{length-set}
 use Rattle.execlist.specs.Order.{first}
 use Rattle.execlist.specs.Disciplines.{by_arrival}
-use Rattle.scheduler.specs.Schedule.{Schedule, signals_of}
+use Rattle.scheduler.specs.Schedule.{Schedule, signals_of, status_of, awaits}
 use Rattle.msgport.specs.Port.{acting}
 use Rattle.msgport.specs.Ports.{nt_message, nt_replymsg}
 use Rattle.msgport.specs.declared.action.Action.{Action}
 use Rattle.msgport.specs.declared.action.Action.TheVariants as action
 use Rattle.msgport.specs.declared.message.Message.{Message as Content}
-use Rattle.taskscript.specs.Commands.{CommandData}
 use Rattle.taskscript.specs.declared.variable.Variable.{Variable}
 use Rattle.taskscript.specs.declared.variable.Variable.TheVariants.{Private, Shared}
-use Rattle.taskscript.specs.declared.word.Word.{Word}
-use Rattle.taskscript.specs.declared.word.Word.TheVariants as group
-use Rattle.taskscript.specs.declared.word.plain.PlainWord.{PlainWord}
-use Rattle.taskscript.specs.declared.word.plain.PlainWord.TheVariants as plain
-use Rattle.taskscript.specs.declared.word.task_signals.SignalWord.{SignalWord}
-use Rattle.taskscript.specs.declared.word.task_signals.SignalWord.TheVariants as signals
-use Rattle.taskscript.specs.declared.word.ports.PortWord.{PortWord}
-use Rattle.taskscript.specs.declared.word.ports.PortWord.TheVariants as ports
-use Rattle.taskscript.specs.declared.word.interrupts.InterruptWord.{InterruptWord}
-use Rattle.taskscript.specs.declared.word.interrupts.InterruptWord.TheVariants as interrupts
-use Rattle.execmodel.specs.State.{Call, Scripts, Heap, Memory, Mark, put, got, State, Outcome, leaving}
-use Rattle.scheduler.specs.Dispatch.{signalled}
-use Rattle.execmodel.specs.Calls.{Caller, ByTask, ByBody, argument, call_in_body, stored, stored_shared, goes_on, done, answered, silent, alerted, done_by, answered_by, silent_by, unless_by}
+use Rattle.execmodel.specs.State.{Call, Scripts, Heap, Memory, Mark, put, got, State, Outcome, leaving, Pending, Bodies, on_schedule}
+use Rattle.scheduler.specs.Dispatch.{signalled, arrives}
+use Rattle.execmodel.specs.Calls.{Caller, ByTask, ByBody, argument, stored, stored_shared, goes_on, done, answered, silent, alerted, done_by, answered_by, silent_by, unless_by, name_argument}
 use Rattle.execmodel.specs.Signals.{signal_alert, does_signal_by}
-use Rattle.execmodel.specs.Pending.{causes}
+use Rattle.execmodel.specs.Pending.{causes, arrived, is_caused, softint_named}
 use Rattle.execmodel.specs.Causing.{does_cause_by}
 use Rattle.execmodel.specs.Ports.{is_port_at, is_message_at, is_queued, port_alert, message_alert, messages_of, content_of, port_of, appended, with_content, typed, posted, taken_off, reply_port_alert, loose_alert, put_alert, reply_alert, replied_by, delivered, performed, taken_by, does_put_msg_by, does_get_msg_by, does_reply_msg_by}
-use Rattle.execmodel.specs.Bodies.{does_plain_by, does_signals_by, does_ports_by, does_interrupts_by, does_word_by, does_in_body, body_step}
 use Rattle.execmodel.specs.Marks.{turns_at_semaphore}
 use Rattle.execmodel.proofs.Heaps.{content_is, filled, true_is_not_false}
+use Rattle.forbid.specs.Nesting.{Nesting}
+use Rattle.softint.specs.declared.latches.Latches.{Latches}
+use Rattle.taskscript.specs.File.{SoftintData}
+use Rattle.taskq.specs.Tasks.{is_live}
 
 -- what a call may make of the blocks, and the marks that it leaves: nothing, or a message changes, is put at a port or is taken there
 pub data Touches : Heap → List Mark → Heap → Type 0 where
@@ -67,8 +59,16 @@ pub data Reaches (marks : List Mark) (s r : Schedule) : Type 0 where
 abbrev pub settings_of : Memory → Bool × ℕ
 settings_of memory = (memory.asks, memory.tasks)
 
+-- the names, the running task and the nestings, which no command of a body changes
+abbrev pub fixed_of : Schedule → List (List ℕ) × Option ℕ × List Nesting
+fixed_of s = (s.queue.names, s.running, s.nestings)
+
+-- nor does it change which sources ask to be served, or what interrupts execute
+abbrev pub fixed : State → (List (List ℕ) × Option ℕ × List Nesting) × Latches × Bodies
+fixed s = (fixed_of s.schedule, s.pending.latches, s.bodies)
+
 -- That is what a call makes of a state; and the regions, whether libraries are asked, the timer, and how many tasks and programs there are,
--- stay.
+-- and what is fixed, stay.
 pub record Alters (s : State) (marks : List Mark) (r : State) : Type 0 where
   pub regions : r.memory.regions ≡ s.memory.regions
   pub settings : settings_of r.memory ≡ settings_of s.memory
@@ -76,6 +76,7 @@ pub record Alters (s : State) (marks : List Mark) (r : State) : Type 0 where
   pub blocks : Touches s.memory.heap marks r.memory.heap
   pub programs : length r.scripts.programs ≡ length s.scripts.programs
   pub tasks : Reaches marks s.schedule r.schedule
+  pub others : fixed r ≡ fixed s
 
 -- an outcome is such a one
 abbrev pub IsAltered : State → Outcome → Type 0
@@ -151,22 +152,54 @@ shared_count None value scripts = refl
 shared_count (Some (Private k)) value scripts = refl
 shared_count (Some (Shared k)) value scripts = refl
 
+-- ---- what stays fixed
+
+either_fixed : (a : List (List ℕ) × Option ℕ × List Nesting) (test : Bool) (r s : Schedule) → fixed_of r ≡ a → fixed_of s ≡ a
+    → fixed_of (if test then r else s) ≡ a
+either_fixed a true r s one other = one
+either_fixed a false r s one other = other
+
+signalled_schedule : (t mask : ℕ) (s : Schedule) → fixed_of (signalled by_arrival t mask s) ≡ fixed_of s
+unfolding signalled arrives
+signalled_schedule t mask s =
+    either_fixed _ (not (is_live (status_of s t))) _ _ refl
+    (either_fixed _ (awaits (status_of s t) _) _ _ refl refl)
+
+signalled_fixed : (t mask : ℕ) (s : State) → fixed (on_schedule (signalled by_arrival t mask) s) ≡ fixed s
+signalled_fixed t mask s =
+    ap (λ (p : List (List ℕ) × Option ℕ × List Nesting). (p, s.pending.latches, s.bodies)) (signalled_schedule t mask s.schedule)
+
+same_latches : (test : Bool) (i : ℕ) (softints : List SoftintData) (pending : Pending) → (if test then arrived by_arrival i softints pending else pending).latches ≡ pending.latches
+same_latches true i softints pending = refl
+same_latches false i softints pending = refl
+
+caused_fixed : (i : ℕ) (s : State) → fixed (causes i s) ≡ fixed s
+unfolding causes
+caused_fixed i s =
+    ap (λ (latches : Latches). (fixed_of s.schedule, latches, s.bodies))
+    (same_latches (nat_lt i (length s.bodies.softints) && not (is_caused i s.pending)) i s.bodies.softints s.pending)
+
+pub performed_fixed : (act : Action) (s : State) → fixed (performed act s) ≡ fixed s
+performed_fixed (action.Signal task mask) s = signalled_fixed task mask s
+performed_fixed (action.Cause i) s = caused_fixed i s
+performed_fixed action.Nothing s = refl
+
 -- ---- how a call ends
 
 pub rested : (s : State) → Alters s [] s
-rested s = record { regions = refl; settings = refl; timer = refl; blocks = remains; programs = refl; tasks = rests (λ p. refl) (same s.schedule) }
+rested s = record { regions = refl; settings = refl; timer = refl; blocks = remains; programs = refl; tasks = rests (λ p. refl) (same s.schedule); others = refl }
 
 -- the call of a caller ends after its effect; if it leaves a mark, that comes first
-done_alters : (c : Caller) (call : Call) (s r : State) → Alters s [] r → IsAltered s (done_by c call r)
+pub done_alters : (c : Caller) (call : Call) (s r : State) → Alters s [] r → IsAltered s (done_by c call r)
 unfolding done
 done_alters (ByTask t) call s r a =
-    record { regions = a.regions; settings = a.settings; timer = a.timer; blocks = a.blocks; programs = goes_count t call.next r.scripts ∙ a.programs; tasks = a.tasks }
+    record { regions = a.regions; settings = a.settings; timer = a.timer; blocks = a.blocks; programs = goes_count t call.next r.scripts ∙ a.programs; tasks = a.tasks; others = a.others }
 done_alters (ByBody name) call s r a = a
 
 done_marked : (c : Caller) (call : Call) (mark : Mark) (s r : State) → Alters s (mark ∷ []) r → IsAltered s (leaving mark (done_by c call r))
 unfolding done
 done_marked (ByTask t) call mark s r a =
-    record { regions = a.regions; settings = a.settings; timer = a.timer; blocks = a.blocks; programs = goes_count t call.next r.scripts ∙ a.programs; tasks = a.tasks }
+    record { regions = a.regions; settings = a.settings; timer = a.timer; blocks = a.blocks; programs = goes_count t call.next r.scripts ∙ a.programs; tasks = a.tasks; others = a.others }
 done_marked (ByBody name) call mark s r a = a
 
 answered_alters : (c : Caller) (call : Call) (value : ℕ) (s r : State) → Alters s [] r → IsAltered s (answered_by c call value r)
@@ -178,6 +211,7 @@ answered_alters (ByTask t) call value s r a = record {
   blocks = a.blocks;
   programs = answered_count t call.next call.target value r.scripts ∙ a.programs;
   tasks = a.tasks;
+  others = a.others;
 }
 answered_alters (ByBody name) call value s r a = record {
   regions = a.regions;
@@ -186,6 +220,7 @@ answered_alters (ByBody name) call value s r a = record {
   blocks = a.blocks;
   programs = shared_count call.target value r.scripts ∙ a.programs;
   tasks = a.tasks;
+  others = a.others;
 }
 
 answered_marked : (c : Caller) (call : Call) (value : ℕ) (mark : Mark) (s r : State) → Alters s (mark ∷ []) r
@@ -198,6 +233,7 @@ answered_marked (ByTask t) call value mark s r a = record {
   blocks = a.blocks;
   programs = answered_count t call.next call.target value r.scripts ∙ a.programs;
   tasks = a.tasks;
+  others = a.others;
 }
 answered_marked (ByBody name) call value mark s r a = record {
   regions = a.regions;
@@ -206,9 +242,10 @@ answered_marked (ByBody name) call value mark s r a = record {
   blocks = a.blocks;
   programs = shared_count call.target value r.scripts ∙ a.programs;
   tasks = a.tasks;
+  others = a.others;
 }
 
-silent_alters : (c : Caller) (call : Call) (value : ℕ) (s : State) → IsAltered s (silent_by c call value s)
+pub silent_alters : (c : Caller) (call : Call) (value : ℕ) (s : State) → IsAltered s (silent_by c call value s)
 unfolding silent
 silent_alters (ByTask t) call value s = record {
   regions = refl;
@@ -217,6 +254,7 @@ silent_alters (ByTask t) call value s = record {
   blocks = remains;
   programs = answered_count t call.next call.target value s.scripts;
   tasks = rests (λ p. refl) (same s.schedule);
+  others = refl;
 }
 silent_alters (ByBody name) call value s = record {
   regions = refl;
@@ -225,6 +263,7 @@ silent_alters (ByBody name) call value s = record {
   blocks = remains;
   programs = shared_count call.target value s.scripts;
   tasks = rests (λ p. refl) (same s.schedule);
+  others = refl;
 }
 
 either_alters : (s : State) (test : Bool) (o p : Outcome) → (test ≡ true → IsAltered s o) → (test ≡ false → IsAltered s p)
@@ -237,28 +276,47 @@ unless_alters : (c : Caller) (call : Call) (s : State) (alert : Option (List ℕ
 unfolding alerted
 unless_alters c call s None effect alters = alters refl
 unless_alters (ByTask t) call s (Some code) effect alters =
-    record { regions = refl; settings = refl; timer = refl; blocks = remains; programs = refl; tasks = rests (λ p. refl) (same s.schedule) }
+    record { regions = refl; settings = refl; timer = refl; blocks = remains; programs = refl; tasks = rests (λ p. refl) (same s.schedule); others = refl }
 unless_alters (ByBody name) call s (Some code) effect alters =
-    record { regions = refl; settings = refl; timer = refl; blocks = remains; programs = refl; tasks = rests (λ p. refl) (same s.schedule) }
+    record { regions = refl; settings = refl; timer = refl; blocks = remains; programs = refl; tasks = rests (λ p. refl) (same s.schedule); others = refl }
 
 -- ---- the words of a body
+
+causing_alters : (i : ℕ) (s : State) → Alters s [] (causes i s)
+causing_alters i s = record {
+  regions = unfold causes in refl;
+  settings = unfold causes in refl;
+  timer = unfold causes in refl;
+  blocks = unfold causes in remains;
+  programs = unfold causes in refl;
+  tasks = unfold causes in rests (λ p. refl) (same s.schedule);
+  others = caused_fixed i s;
+}
 
 pub signal_alters : (c : Caller) (call : Call) (s : State) → IsAltered s (does_signal_by c call s)
 signal_alters c call s =
     unless_alters c call s (signal_alert (argument 0 call) (argument 1 call) s.scripts) _
     (λ none. done_alters c call s _
-    (record { regions = refl; settings = refl; timer = refl; blocks = remains; programs = refl; tasks = posts (argument 0 call - 1) (argument 1 call) (λ p. refl) refl }))
+    (record {
+      regions = refl;
+      settings = refl;
+      timer = refl;
+      blocks = remains;
+      programs = refl;
+      tasks = posts (argument 0 call - 1) (argument 1 call) (λ p. refl) refl;
+      others = signalled_fixed (argument 0 call - 1) (argument 1 call) s;
+    }))
 
 -- what is done for a message that has arrived
 performed_alters : (act : Action) (s : State) (marks : List Mark) (memory : Memory) → memory.regions ≡ s.memory.regions
     → settings_of memory ≡ settings_of s.memory → memory.timer ≡ s.memory.timer → Touches s.memory.heap marks memory.heap → IsCalm marks → Alters s marks (performed act (record s { memory = memory }))
 unfolding causes
 performed_alters (action.Signal task mask) s marks memory regions settings timer blocks calm =
-    record { regions = regions; settings = settings; timer = timer; blocks = blocks; programs = refl; tasks = posts task mask calm refl }
+    record { regions = regions; settings = settings; timer = timer; blocks = blocks; programs = refl; tasks = posts task mask calm refl; others = signalled_fixed task mask s }
 performed_alters (action.Cause i) s marks memory regions settings timer blocks calm =
-    record { regions = regions; settings = settings; timer = timer; blocks = blocks; programs = refl; tasks = rests calm (same s.schedule) }
+    record { regions = regions; settings = settings; timer = timer; blocks = blocks; programs = refl; tasks = rests calm (same s.schedule); others = caused_fixed i s }
 performed_alters action.Nothing s marks memory regions settings timer blocks calm =
-    record { regions = regions; settings = settings; timer = timer; blocks = blocks; programs = refl; tasks = rests calm (same s.schedule) }
+    record { regions = regions; settings = settings; timer = timer; blocks = blocks; programs = refl; tasks = rests calm (same s.schedule); others = refl }
 
 -- that changes the schedule, and what is caused, alone
 pub performed_reaches : (act : Action) (marks : List Mark) (s : State) → IsCalm marks → Reaches marks s.schedule (performed act s).schedule
@@ -310,7 +368,7 @@ unfolding typed
 replied_alters reply c call message s is loose there =
     either_alters s (nat_eq reply 0) _ _
     (λ none. done_alters c call s _
-    (record { regions = refl; settings = refl; timer = refl; blocks = gives message _ s.memory.heap is; programs = refl; tasks = rests (λ p. refl) (same s.schedule) }))
+    (record { regions = refl; settings = refl; timer = refl; blocks = gives message _ s.memory.heap is; programs = refl; tasks = rests (λ p. refl) (same s.schedule); others = refl }))
     (λ some. done_marked c call (put reply message) s _ (delivered_alters nt_replymsg reply message s (there some) is loose))
 
 pub reply_alters : (c : Caller) (call : Call) (s : State) → IsAltered s (does_reply_msg_by c call s)
@@ -324,7 +382,7 @@ taken_alters : (port : ℕ) (message : Option ℕ) (c : Caller) (call : Call) (s
 taken_alters port None c call s is e = answered_alters c call 0 s s (rested s)
 taken_alters port (Some message) c call s is e =
     answered_marked c call message (got port message) s _
-    (record { regions = refl; settings = refl; timer = refl; blocks = gets port message is e; programs = refl; tasks = rests (λ p. refl) (same s.schedule) })
+    (record { regions = refl; settings = refl; timer = refl; blocks = gets port message is e; programs = refl; tasks = rests (λ p. refl) (same s.schedule); others = refl })
 
 pub get_alters : (c : Caller) (call : Call) (s : State) → IsAltered s (does_get_msg_by c call s)
 get_alters c call s =
@@ -333,40 +391,6 @@ get_alters c call s =
     (is_port_there (argument 0 call) s.memory.heap none) refl)
 
 pub cause_alters : (c : Caller) (call : Call) (s : State) → IsAltered s (does_cause_by c call s)
-unfolding causes
 cause_alters c call s =
-    done_alters c call s _ (record { regions = refl; settings = refl; timer = refl; blocks = remains; programs = refl; tasks = rests (λ p. refl) (same s.schedule) })
-
-plain_alters : (word : PlainWord) (c : Caller) (call : Call) (s : State) → IsAltered s (does_plain_by word c call s)
-plain_alters plain.Set c call s = silent_alters c call _ s
-plain_alters plain.Add c call s = silent_alters c call _ s
-plain_alters plain.Sub c call s = silent_alters c call _ s
-plain_alters plain.And c call s = silent_alters c call _ s
-plain_alters plain.Or c call s = silent_alters c call _ s
-plain_alters plain.Print c call s = done_alters c call s s (rested s)
-plain_alters _ c call s = rested s
-
-signals_alter : (word : SignalWord) (c : Caller) (call : Call) (s : State) → IsAltered s (does_signals_by word c call s)
-signals_alter signals.Signal c call s = signal_alters c call s
-signals_alter _ c call s = rested s
-
-ports_alter : (word : PortWord) (c : Caller) (call : Call) (s : State) → IsAltered s (does_ports_by word c call s)
-ports_alter ports.PutMsg c call s = put_alters c call s
-ports_alter ports.GetMsg c call s = get_alters c call s
-ports_alter ports.ReplyMsg c call s = reply_alters c call s
-ports_alter _ c call s = rested s
-
-interrupts_alter : (word : InterruptWord) (c : Caller) (call : Call) (s : State) → IsAltered s (does_interrupts_by word c call s)
-interrupts_alter interrupts.Cause c call s = cause_alters c call s
-
-word_alters : (word : Word) (c : Caller) (call : Call) (s : State) → IsAltered s (does_word_by word c call s)
-word_alters (group.Plain word) c call s = plain_alters word c call s
-word_alters (group.Signals word) c call s = signals_alter word c call s
-word_alters (group.Ports word) c call s = ports_alter word c call s
-word_alters (group.Interrupts word) c call s = interrupts_alter word c call s
-word_alters _ c call s = rested s
-
--- one command of a body
-pub body_alters : (name : List ℕ) (command : CommandData) (s : State) → IsAltered s (body_step name command s)
-unfolding body_step does_in_body
-body_alters name command s = word_alters command.word (ByBody name) (call_in_body command s.scripts) s
+    let i = softint_named (unwrap_or (name_argument 0 call) []) s.bodies.softints in
+    done_alters c call s (causes i s) (causing_alters i s)

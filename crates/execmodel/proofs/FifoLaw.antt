@@ -15,7 +15,7 @@ use Rattle.execmodel.proofs.Queues.{Follows, IsOnce, follows_more, follows_once,
 use Rattle.execmodel.proofs.Itself.{does_itself, call_works}
 use Rattle.execmodel.specs.Requests.{finishes}
 use Rattle.execmodel.proofs.Stretches.{Relation, HoldsOfEach, clock_gains, of_starts, of_events}
-use Rattle.execmodel.proofs.Commands.{body_alters}
+use Rattle.execmodel.proofs.Telling.{body_alters}
 use Rattle.execmodel.proofs.Posts.{IsTidy}
 use Rattle.execmodel.proofs.Asking.{finishing, without_reply}
 use Rattle.execmodel.proofs.Works.{Works, by_moves, by_asking, by_taking}

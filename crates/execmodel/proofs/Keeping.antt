@@ -20,7 +20,7 @@ use Rattle.sigsem.specs.declared.semaphore.Obtained.{Obtained}
 use Rattle.msgport.specs.declared.action.Action.{Action}
 use Rattle.msgport.specs.declared.action.Action.TheVariants as action
 use Rattle.sigsem.specs.declared.semaphore.Obtained.TheVariants.{Owner, Waits}
-use Rattle.execmodel.specs.State.{Call, Heap, Object, Library, Timer, Memory, Pending, Program, Scripts, State, Outcome, no_program, says, andthen, on_schedule, on_scripts, on_memory, on_timer}
+use Rattle.execmodel.specs.State.{quiet, Call, Heap, Object, Library, Timer, Memory, Pending, Program, Scripts, State, Outcome, no_program, says, andthen, on_schedule, on_scripts, on_memory, on_timer}
 use Rattle.execmodel.specs.Pending.{arrived, is_caused, causes}
 use Rattle.execmodel.specs.Libraries.{base_of, library_at, library_opened, entered_or_loaded}
 use Rattle.execmodel.specs.GivingWay.{after_asking_for_object}
@@ -36,7 +36,6 @@ use Rattle.execmodel.specs.Ports.{port_created, replied, delivered, performed, t
 use Rattle.execmodel.specs.Semaphores.{awaited_by, leaving_queue, obtains, passes}
 use Rattle.execmodel.specs.Requests.{finishes, finishes_each, finishes_set, answering_port, acting_at, with_reply, ended, outcome_at, timer_begun, begun_at, looks_for, aborts}
 use Rattle.execmodel.specs.Keeping.{Keeps, without_progress, without_progress_of, without_states, without_priorities, without_signals, without_blocks, beside_plain, beside_signals, beside_nestings, beside_memory, beside_ports, beside_semaphores, beside_tasks, beside_requests, without_caused, clock_alone, without_blocks_system_and_waiting}
-use Rattle.execmodel.proofs.BodyActions.{finishes_found}
 use Rattle.execmodel.proofs.Commands.{performed_scripts}
 
 -- a part that both ways keep
@@ -52,26 +51,6 @@ pub unless_keeps : {A : Type 0} (part : State → A) (alert : Option (List ℕ))
 unfolding alerted
 unless_keeps part None t call effect s stops keeps = keeps
 unless_keeps part (Some code) t call effect s stops keeps = stops
-
--- a block is placed, or there is no place for it
-pub allocates_keeps : {A : Type 0} (part : State → A) (size : ℕ) (object : Object) (place : Option ℕ) (t : ℕ) (call : Call) (s : State)
-    → part (allocates t call size object None s).state ≡ part s
-    → ((address : ℕ) → part (allocates t call size object (Some address) s).state ≡ part s)
-    → part (allocates t call size object place s).state ≡ part s
-allocates_keeps part size object None t call s without placed = without
-allocates_keeps part size object (Some address) t call s without placed = placed address
-
--- the state before an object is made
-abbrev pub asking_for_object : (Object → Bool) → ℕ → State → State
-asking_for_object kind size s = on_memory (after_asking_for_object kind size) s
-
--- an object is made, or there is no place for it
-pub makes_keeps : {A : Type 0} (part : State → A) (kind : Object → Bool) (size : ℕ) (object : Object) (t : ℕ) (call : Call) (s : State)
-    → part (allocates t call size object None s).state ≡ part s
-    → ((address : ℕ) → part (allocates t call size object (Some address) s).state ≡ part s)
-    → part (makes_object t call kind size object s).state ≡ part s
-makes_keeps part kind size object t call s without placed =
-    allocates_keeps part size object (place_for_object kind size s.memory) t call s without placed
 
 -- task t makes progress, and no other: what its program was, but for its progress, it stays
 set_again : (t : ℕ) (program : Program) (programs : List Program)
@@ -331,6 +310,11 @@ finish_keeps request s =
     let next = on_memory (ended (pos 0) request) s in
     reply_keeps found request (says (TimerLine request) (performed act next)) s
     (acted_keeps act next ∙ waiting_change (ended (pos 0) request) s refl)
+
+-- the request that is found finishes, and then what comes next
+abbrev pub finishes_found : (State → Outcome) → Option ℕ → State → Outcome
+finishes_found next found s =
+    elim found as (λ (x : Option ℕ). Outcome) [ None ↦ quiet s | Some request ↦ andthen (finishes request) next s ]
 
 -- nor does a request that finishes change what the tasks execute
 pub finish_scripts : (request : ℕ) (s : State) → (finishes request s).state.scripts ≡ s.scripts

@@ -29,7 +29,8 @@ use Rattle.execmodel.proofs.Heaps.{block_remade, found_rid, rid, filled, true_is
 use Rattle.execmodel.proofs.Itself.{does_itself, ends_followed, call_works}
 use Rattle.execmodel.proofs.Formed.{placed_fresh, counted_formed, rid_formed}
 use Rattle.execmodel.proofs.Stretches.{Relation, HoldsOfInterrupts, of_softint, of_set, of_settle, of_request, ticked}
-use Rattle.execmodel.proofs.Commands.{Touches, remains, fills, puts, gets, body_alters}
+use Rattle.execmodel.proofs.Commands.{Touches, remains, fills, puts, gets}
+use Rattle.execmodel.proofs.Telling.{body_alters}
 use Rattle.execmodel.proofs.Taking.{Takes, nothing, places, recounts, yields}
 use Rattle.execmodel.proofs.Moves.{MayExpunge, MayGo, Moves, touches, takes, frees, relists, unlinks, sets, enters, queues, hands, opens, releases, counts, expunges, drops}
 use Rattle.execmodel.proofs.Posts.{IsTidy}

@@ -25,7 +25,7 @@ use Rattle.execmodel.specs.Requests.{does_requests, finishes, finishes_each, fin
 use Rattle.execmodel.specs.Interrupts.{no_softint, no_server, softint_at, runs_softint, server_at, chain_of, runs_server, runs_chain, text_of_source, serving_counted, finishes_for, serves, servings, interrupts}
 use Rattle.execmodel.specs.Step.{announced, switches, settle, does, ends, task_step, call_step, softint_or_task_step, acting, acts, step, steps, request, tick, ticks, started, all_added, starts, event, events, run}
 use Rattle.execmodel.specs.Laws.{FitsItsWord, CallsFitTheirWords, LinesAreShort}
-use Rattle.execmodel.proofs.BodyActions.{finishes_found}
+use Rattle.execmodel.proofs.Keeping.{finishes_found}
 use Rattle.execmodel.proofs.Itself.{followed}
 use Rattle.execmodel.proofs.ShortLines.{IsShort, IsShortText, switch_short, idle_short, serve_short, server_short, softint_short, call_short}
 use Rattle.execmodel.proofs.ShortCalls.{IsBrief, HasArguments, name_is_short, body_call_has}

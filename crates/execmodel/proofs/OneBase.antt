@@ -29,7 +29,8 @@ use Rattle.execmodel.proofs.Heaps.{block_remade, found_rid, rid, filled, true_is
 use Rattle.execmodel.proofs.Itself.{does_itself, call_works}
 use Rattle.execmodel.proofs.Formed.{counted_formed, rid_formed}
 use Rattle.execmodel.proofs.Stretches.{Relation, HoldsOfEach, of_events, of_starts, clock_gains}
-use Rattle.execmodel.proofs.Commands.{Touches, remains, fills, puts, gets, body_alters, none_some}
+use Rattle.execmodel.proofs.Commands.{Touches, remains, fills, puts, gets, none_some}
+use Rattle.execmodel.proofs.Telling.{body_alters}
 use Rattle.execmodel.proofs.Taking.{IsNew, Takes, nothing, places, recounts, yields, number_is}
 use Rattle.execmodel.proofs.Moves.{Moves, touches, takes, frees, relists, unlinks, sets, enters, queues, hands, opens, releases, counts, expunges, drops}
 use Rattle.execmodel.proofs.Posts.{IsTidy}

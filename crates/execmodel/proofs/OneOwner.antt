@@ -19,7 +19,8 @@ use Rattle.execmodel.specs.Laws.{EachByteHasOneOwner, FreeMemRefusesObjects}
 use Rattle.execmodel.proofs.Heaps.{true_is_not_false}
 use Rattle.execmodel.proofs.Itself.{does_itself, call_works}
 use Rattle.execmodel.proofs.Stretches.{Relation, HoldsOfEach, of_starts, of_events}
-use Rattle.execmodel.proofs.Commands.{none_some, body_alters}
+use Rattle.execmodel.proofs.Commands.{none_some}
+use Rattle.execmodel.proofs.Telling.{body_alters}
 use Rattle.execmodel.specs.Requests.{finishes}
 use Rattle.execmodel.proofs.Asking.{finishing}
 use Rattle.execmodel.proofs.TidyLaw.{FormedState, works_regions, works_formed, altered_formed, finished_formed, booted_formed, quietly, switches_quiet}

@@ -17,7 +17,7 @@ use Rattle.execmodel.specs.Laws.{Action, OneStep, OneTick, OneRequest, outcome_o
 use Rattle.execmodel.proofs.Heaps.{true_is_not_false}
 use Rattle.execmodel.proofs.Itself.{does_itself, ends_followed, call_works}
 use Rattle.execmodel.proofs.Stretches.{Relation, HoldsOfInterrupts, HoldsOfEach, of_softint, of_set, of_settle, of_request, ticked, of_starts, of_events}
-use Rattle.execmodel.proofs.Commands.{body_alters}
+use Rattle.execmodel.proofs.Telling.{body_alters}
 use Rattle.execmodel.specs.Requests.{finishes}
 use Rattle.execmodel.proofs.Posts.{IsTidy}
 use Rattle.execmodel.proofs.Asking.{finishing}

@@ -27,7 +27,8 @@ use Rattle.execmodel.proofs.Stretches.{Relation, HoldsOfInterrupts, HoldsOfEach,
 use Rattle.execmodel.proofs.TidyLaw.{quietly, switches_quiet}
 use Rattle.execmodel.specs.Requests.{finishes}
 use Rattle.execmodel.proofs.Asking.{finishing}
-use Rattle.execmodel.proofs.Commands.{Reaches, rests, posts, body_alters}
+use Rattle.execmodel.proofs.Commands.{Reaches, rests, posts}
+use Rattle.execmodel.proofs.Telling.{body_alters}
 use Rattle.execmodel.proofs.Shifts.{Shifts, reaches, rearrives, adds, takes, sleeps, asks, wakes, leaves, removes}
 use Rattle.execmodel.proofs.Agreement.{running_state, set_there, set_here, in_range, set_state, all_absent, got}
 use Rattle.execmodel.proofs.WaitingLaw.{IsSound, waits, clocked, booted_sound}

@@ -131,10 +131,6 @@ no_second false c e h = true_is_not_false (sym h)
 abbrev IsHigh : Schedule → Type 0
 IsHigh s = (r : ℕ) → s.running ≡ Some r → is_switching_allowed (Some r) s ≡ true → NoneAbove (pri_at s.queue.pris) (priority_of s r) s.queue.ready
 
-left_pris : (b : Bool) (s : Schedule) → (if b then record s { left = s.quantum } else s).queue.pris ≡ s.queue.pris
-left_pris true s = refl
-left_pris false s = refl
-
 left_high : (b : Bool) (s : Schedule) → IsHigh s → IsHigh (if b then record s { left = s.quantum } else s)
 left_high true s high = high
 left_high false s high = high

@@ -1,41 +1,27 @@
 -- Names are short and commands brief in every state: what words, bodies and requests leave of them, and that their lines are short.
-use Rattle.std.proofs.Common.{◌≡◌, ℕ, zero, suc, pos, Bool, true, false, List, [], ◌∷◌, Option, None, Some, refl, sym, subst, ap}
-use Rattle.std.specs.Prelude.{◌+◌, All, IfSome, not, ◌-◌, if◌then◌else◌, nat_eq, slice_get, slice_index_or}
+use Rattle.std.proofs.Common.{◌≡◌, ℕ, zero, suc, pos, Bool, true, false, List, [], ◌∷◌, Option, None, Some, sym, subst, ap}
+use Rattle.std.specs.Prelude.{◌+◌, All, IfSome, ◌-◌, if◌then◌else◌, slice_get, slice_index_or}
 use Rattle.std.proofs.lemmas.List.Elements.{All-nil, All-cons, All-head, All-tail, All-append, All-weaker}
 use Rattle.exectrace.specs.Trace.{TraceLine, Timer}
 use Rattle.taskscript.specs.Words.{word_text}
 use Rattle.execlist.specs.Order.{first}
-use Rattle.execlist.specs.Disciplines.{by_arrival}
-use Rattle.msgport.specs.declared.action.Action.{Action}
-use Rattle.msgport.specs.declared.action.Action.TheVariants as action
-use Rattle.taskq.specs.Tasks.{is_live}
-use Rattle.scheduler.specs.Schedule.{name_of, Schedule, status_of, awaits}
+use Rattle.scheduler.specs.Schedule.{name_of, Schedule}
 use Rattle.taskscript.specs.Commands.{CommandData}
 use Rattle.taskscript.specs.declared.word.Word.{Word}
-use Rattle.taskscript.specs.declared.word.Word.TheVariants as group
-use Rattle.taskscript.specs.declared.word.plain.PlainWord.{PlainWord}
-use Rattle.taskscript.specs.declared.word.plain.PlainWord.TheVariants as plain
-use Rattle.taskscript.specs.declared.word.task_signals.SignalWord.{SignalWord}
-use Rattle.taskscript.specs.declared.word.task_signals.SignalWord.TheVariants as signals
-use Rattle.taskscript.specs.declared.word.ports.PortWord.{PortWord}
-use Rattle.taskscript.specs.declared.word.ports.PortWord.TheVariants as ports
-use Rattle.taskscript.specs.declared.word.interrupts.InterruptWord.{InterruptWord}
-use Rattle.taskscript.specs.declared.word.interrupts.InterruptWord.TheVariants as causing
 use Rattle.execmodel.specs.State.{Call, Scripts, Bodies, State, Outcome, quiet, says, andthen, unless_stopped, program_of, on_schedule, on_memory}
-use Rattle.scheduler.specs.Dispatch.{arrives, signalled}
-use Rattle.execmodel.specs.Calls.{ByBody, argument, call_at, call_after, call_in_body, next_call, unless_by}
-use Rattle.execmodel.specs.Signals.{signal_alert}
-use Rattle.execmodel.specs.Pending.{causes}
-use Rattle.execmodel.specs.Ports.{performed, delivered, put_alert, port_alert, reply_alert, content_of, messages_of, taken_by, replied_by}
-use Rattle.execmodel.specs.Bodies.{does_plain_by, does_signals_by, does_ports_by, does_interrupts_by, does_word_by, does_in_body, body_step}
+use Rattle.execmodel.specs.Calls.{call_at, call_after, call_in_body, next_call}
+use Rattle.execmodel.specs.Ports.{performed}
+use Rattle.execmodel.specs.Bodies.{body_step}
 use Rattle.execmodel.specs.Requests.{answering_port, acting_at, with_reply, ended, finishes}
 use Rattle.execmodel.specs.Interrupts.{softint_at, server_at}
 use Rattle.execmodel.proofs.Itself.{word_itself, does_itself, word_keeps, word_tells}
-use Rattle.execmodel.proofs.Commands.{performed_scripts}
+use Rattle.execmodel.proofs.Commands.{performed_scripts, performed_fixed}
 use Rattle.execmodel.proofs.ShortLines.{IsShort, IsShortText, AreShort, timer_short, call_short, alert_short}
 use Rattle.execmodel.proofs.ShortWords.{word_short}
 use Rattle.execmodel.proofs.ShortCalls.{IsBrief, HasArguments, task_call_has, body_call_has}
-use Rattle.execmodel.proofs.Telling.{AreBriefPrograms, IsOwn, own, refusing, word_by_tells}
+use Rattle.execmodel.proofs.Telling.{AreBriefPrograms, IsOwn, own, refusing, body_commanded}
+use Rattle.forbid.specs.Nesting.{Nesting}
+use Rattle.softint.specs.declared.latches.Latches.{Latches}
 
 -- ---- short texts
 
@@ -154,91 +140,17 @@ pub either_names : (names : List (List ℕ)) (test : Bool) (r s : Schedule) → 
 either_names names true r s one other = one
 either_names names false r s one other = other
 
-signalled_names : (t mask : ℕ) (s : Schedule) → (signalled by_arrival t mask s).queue.names ≡ s.queue.names
-unfolding signalled arrives
-signalled_names t mask s =
-    either_names s.queue.names (not (is_live (status_of s t))) _ _ refl
-    (either_names s.queue.names (awaits (status_of s t) _) _ _ refl refl)
-
-performed_texts : (act : Action) (s : State) → texts_of (performed act s) ≡ texts_of s
-unfolding causes
-performed_texts (action.Signal task mask) s = named_alike (signalled by_arrival task mask) s (signalled_names task mask s.schedule)
-performed_texts (action.Cause i) s = refl
-performed_texts action.Nothing s = refl
-
-delivered_texts : (kind port message : ℕ) (s : State) → texts_of (delivered kind port message s) ≡ texts_of s
-unfolding delivered
-delivered_texts kind port message s = performed_texts _ _
-
-either_texts : (s : State) (test : Bool) (o p : Outcome) → texts_of o.state ≡ texts_of s → texts_of p.state ≡ texts_of s
-    → texts_of (if test then o else p).state ≡ texts_of s
-either_texts s true o p one other = one
-either_texts s false o p one other = other
-
-unless_texts : (alert : Option (List ℕ)) (name : List ℕ) (call : Call) (effect : State → Outcome) (s : State)
-    → texts_of (effect s).state ≡ texts_of s → texts_of (unless_by alert (ByBody name) call effect s).state ≡ texts_of s
-unless_texts None name call effect s same = same
-unless_texts (Some code) name call effect s same = refl
-
-plain_texts : (word : PlainWord) (name : List ℕ) (call : Call) (s : State)
-    → texts_of (does_plain_by word (ByBody name) call s).state ≡ texts_of s
-plain_texts plain.Print name call s = refl
-plain_texts _ name call s = refl
-
-signals_texts : (word : SignalWord) (name : List ℕ) (call : Call) (s : State)
-    → texts_of (does_signals_by word (ByBody name) call s).state ≡ texts_of s
-signals_texts signals.Signal name call s =
-    unless_texts (signal_alert (argument 0 call) (argument 1 call) s.scripts) name call _ s
-    (named_alike (signalled by_arrival (argument 0 call - 1) (argument 1 call)) s (signalled_names (argument 0 call - 1) (argument 1 call) s.schedule))
-signals_texts _ name call s = refl
-
-taken_texts : (port : ℕ) (message : Option ℕ) (name : List ℕ) (call : Call) (s : State)
-    → texts_of (taken_by port message (ByBody name) call s).state ≡ texts_of s
-taken_texts port None name call s = refl
-taken_texts port (Some message) name call s = refl
-
-replied_texts : (reply : ℕ) (name : List ℕ) (call : Call) (message : ℕ) (s : State)
-    → texts_of (replied_by reply (ByBody name) call message s).state ≡ texts_of s
-replied_texts reply name call message s = either_texts s (nat_eq reply 0) _ _ refl (delivered_texts _ reply message s)
-
-ports_texts : (word : PortWord) (name : List ℕ) (call : Call) (s : State)
-    → texts_of (does_ports_by word (ByBody name) call s).state ≡ texts_of s
-ports_texts ports.PutMsg name call s =
-    unless_texts (put_alert (argument 0 call) (argument 1 call) s.memory.heap) name call _ s
-    (delivered_texts _ (argument 0 call) (argument 1 call) s)
-ports_texts ports.GetMsg name call s =
-    unless_texts (port_alert (argument 0 call) s.memory.heap) name call _ s
-    (taken_texts (argument 0 call) (first (messages_of (argument 0 call) s.memory.heap)) name call s)
-ports_texts ports.ReplyMsg name call s =
-    unless_texts (reply_alert (argument 0 call) s.memory.heap) name call _ s
-    (replied_texts (content_of (argument 0 call) s.memory.heap).reply name call (argument 0 call) s)
-ports_texts _ name call s = refl
-
-interrupts_texts : (word : InterruptWord) (name : List ℕ) (call : Call) (s : State)
-    → texts_of (does_interrupts_by word (ByBody name) call s).state ≡ texts_of s
-unfolding causes
-interrupts_texts causing.Cause name call s = refl
-
-body_texts : (word : Word) (name : List ℕ) (call : Call) (s : State)
-    → texts_of (does_word_by word (ByBody name) call s).state ≡ texts_of s
-body_texts (group.Plain word) name call s = plain_texts word name call s
-body_texts (group.Signals word) name call s = signals_texts word name call s
-body_texts (group.Ports word) name call s = ports_texts word name call s
-body_texts (group.Interrupts word) name call s = interrupts_texts word name call s
-body_texts _ name call s = refl
+abbrev texts_fixed : (List (List ℕ) × Option ℕ × List Nesting) × Latches × Bodies → List (List ℕ) × Bodies
+texts_fixed p = (p.0.0, p.2)
 
 pub command_says : (name : List ℕ) (command : CommandData) (s : State) → IsShortText name → IsBrief command
     → Says s (body_step name command s)
-unfolding body_step does_in_body
 command_says name command s short brief has =
-    let call = call_in_body command s.scripts in
+    let o = body_step name command s in
     let given = body_call_has s.scripts command brief in
-    let tells = word_by_tells command.word (ByBody name) call s in (
-      record {
-        texts = texts_stay s (does_word_by command.word (ByBody name) call s).state (body_texts command.word name call s) has.texts;
-        programs = tells.programs given has.programs;
-      },
-      all_short name call (does_word_by command.word (ByBody name) call s).lines short given.short tells.lines,
+    let known = body_commanded name command s in (
+      record { texts = texts_stay s o.state (ap texts_fixed known.alters.others) has.texts; programs = known.tells.programs given has.programs },
+      all_short name (call_in_body command s.scripts) o.lines short given.short known.tells.lines,
     )
 
 -- ---- requests that finish
@@ -256,4 +168,4 @@ finished_says request s =
     reply_says found request s (says (Timer request) (performed act next))
     (λ has.
     line_says (Timer request) (performed act next) (timer_short request)
-    (all_stays s (performed act next) (performed_texts act next) (performed_scripts act next) has))
+    (all_stays s (performed act next) (ap texts_fixed (performed_fixed act next)) (performed_scripts act next) has))

@@ -19,7 +19,7 @@ use Rattle.execmodel.specs.Requests.{does_requests, finishes, finishes_each, fin
 use Rattle.execmodel.specs.Interrupts.{softint_at, runs_softint, server_at, chain_of, runs_server, runs_chain, text_of_source, serving_counted, finishes_for, serves, servings, interrupts}
 use Rattle.execmodel.specs.Laws.{times_waiting}
 use Rattle.execmodel.proofs.Asking.{due_stands, until_stands}
-use Rattle.execmodel.proofs.BodyActions.{finishes_found}
+use Rattle.execmodel.proofs.Keeping.{finishes_found}
 use Rattle.execmodel.proofs.Itself.{does_itself, followed}
 use Rattle.execmodel.specs.Step.{switches, settle, does, ends, task_step, call_step, softint_or_task_step, acting, acts, step, steps, request, tick, ticks, all_added, starts, event, events}
 

@@ -21,7 +21,7 @@ use Rattle.execmodel.proofs.Setting.{Leaves, system_of}
 use Rattle.execmodel.proofs.Words.{requests_facts}
 use Rattle.execmodel.proofs.Itself.{word_itself, word_keeps, ends_followed}
 use Rattle.execmodel.proofs.Stretches.{Relation, HoldsOfInterrupts, clock_gains, of_softint, of_set, of_settle, of_request}
-use Rattle.execmodel.proofs.Commands.{body_alters}
+use Rattle.execmodel.proofs.Telling.{body_alters}
 use Rattle.execmodel.proofs.Asking.{finishing}
 use Rattle.execmodel.proofs.ClockLaw.{word_stands}
 use Rattle.execmodel.proofs.TidyLaw.{quietly, switches_quiet}

@@ -2,7 +2,7 @@
 use Rattle.std.proofs.Common.{[], ◌≡◌, ℕ, Bool, true, false, List, Option, None, Some, refl, zero, suc, ◌∷◌, sym, subst, ap, ◌∙◌}
 use Rattle.std.specs.Prelude.{◌-◌, if◌then◌else◌, nat_eq, All, IfSome, slice_index_or, slice_set, is_some}
 use Rattle.execmodel.specs.State.{Call, State, Outcome, quiet, on_schedule, Program, Scripts, Mark, leaving, no_program}
-use Rattle.execmodel.specs.Calls.{argument, done, answered, waiting, silent, alerted, ByBody, unless_by, alerted_by, Caller, ByTask, stored, stored_shared, goes_on, done_by, answered_by, silent_by}
+use Rattle.execmodel.specs.Calls.{argument, done, answered, waiting, silent, alerted, ByBody, unless_by, alerted_by, Caller, ByTask, stored, stored_shared, goes_on, done_by, answered_by, silent_by, call_in_body}
 use Rattle.execmodel.specs.Causing.{does_cause_by}
 use Rattle.execmodel.specs.Requests.{answering_port, with_reply, looks_for, aborts}
 use Rattle.taskscript.specs.declared.word.Word.{Word}
@@ -26,12 +26,12 @@ use Rattle.execmodel.specs.Semaphores.{awaited_by, leaving_queue, obtains, passe
 use Rattle.exectrace.specs.Trace.{TraceLine, Done, Answers, Alert}
 use Rattle.exectrace.specs.Trace as trace
 use Rattle.execmodel.specs.Pending.{causes}
-use Rattle.execmodel.specs.Bodies.{does_plain_by, does_signals_by, does_ports_by, does_interrupts_by, does_word_by}
+use Rattle.execmodel.specs.Bodies.{does_plain_by, does_signals_by, does_ports_by, does_interrupts_by, does_word_by, body_step, does_in_body}
 use Rattle.std.proofs.lemmas.List.Elements.{All-nil, All-cons}
 use Rattle.taskscript.specs.declared.variable.Variable.{Variable}
 use Rattle.taskscript.specs.declared.variable.Variable.TheVariants.{Private, Shared}
 use Rattle.taskscript.specs.Words.{word_text}
-use Rattle.execmodel.proofs.Commands.{performed_scripts}
+use Rattle.execmodel.proofs.Commands.{performed_scripts, IsAltered, rested, done_alters, silent_alters, signal_alters, put_alters, get_alters, reply_alters, cause_alters}
 use Rattle.execmodel.proofs.ShortLines.{IsShortText}
 use Rattle.execmodel.proofs.ShortCalls.{IsBrief, HasArguments}
 use Rattle.execmodel.proofs.ShortAlerts.{signal_short, nest_short, port_short, put_short, reply_short, IsShortAlert, coded}
@@ -43,6 +43,7 @@ use Rattle.taskscript.specs.declared.word.ports.PortWord.TheVariants as ports
 use Rattle.taskscript.specs.declared.word.interrupts.InterruptWord.TheVariants as causing
 use Rattle.execmodel.specs.Keeping.{without_progress_of}
 use Rattle.execmodel.proofs.Keeping.{goes_on_keeps, stored_keeps, kept_keeps}
+use Rattle.taskscript.specs.Commands.{CommandData}
 
 -- ---- programs
 
@@ -256,34 +257,49 @@ cause_tells c call s = done_tells c call s _ refl
 
 -- ---- the words of a body
 
-plain_by_tells : (word : PlainWord) (c : Caller) (call : Call) (s : State) → Tells c call s (does_plain_by word c call s)
-plain_by_tells plain.Set c call s = silent_tells c call _ s
-plain_by_tells plain.Add c call s = silent_tells c call _ s
-plain_by_tells plain.Sub c call s = silent_tells c call _ s
-plain_by_tells plain.And c call s = silent_tells c call _ s
-plain_by_tells plain.Or c call s = silent_tells c call _ s
-plain_by_tells plain.Print c call s = done_tells c call s s refl
-plain_by_tells _ c call s = quiet_tells c call s
+-- what is known of a command that a body may have, whoever makes the call
+pub record IsCommanded (c : Caller) (call : Call) (s : State) (o : Outcome) : Type 0 where
+  pub tells : Tells c call s o
+  pub alters : IsAltered s o
 
-signals_by_tells : (word : SignalWord) (c : Caller) (call : Call) (s : State) → Tells c call s (does_signals_by word c call s)
-signals_by_tells signals.Signal c call s = signal_tells c call s
-signals_by_tells _ c call s = quiet_tells c call s
+quiet_commanded : (c : Caller) (call : Call) (s : State) → IsCommanded c call s (quiet s)
+quiet_commanded c call s = record { tells = quiet_tells c call s; alters = rested s }
 
-ports_by_tells : (word : PortWord) (c : Caller) (call : Call) (s : State) → Tells c call s (does_ports_by word c call s)
-ports_by_tells ports.PutMsg c call s = put_tells c call s
-ports_by_tells ports.GetMsg c call s = get_tells c call s
-ports_by_tells ports.ReplyMsg c call s = reply_tells c call s
-ports_by_tells _ c call s = quiet_tells c call s
+plain_commanded : (word : PlainWord) (c : Caller) (call : Call) (s : State) → IsCommanded c call s (does_plain_by word c call s)
+plain_commanded plain.Jump c call s = quiet_commanded c call s
+plain_commanded plain.JumpZ c call s = quiet_commanded c call s
+plain_commanded plain.JumpNZ c call s = quiet_commanded c call s
+plain_commanded plain.Print c call s = record { tells = done_tells c call s s refl; alters = done_alters c call s s (rested s) }
+plain_commanded _ c call s = record { tells = silent_tells c call _ s; alters = silent_alters c call _ s }
 
-interrupts_by_tells : (word : InterruptWord) (c : Caller) (call : Call) (s : State) → Tells c call s (does_interrupts_by word c call s)
-interrupts_by_tells causing.Cause c call s = cause_tells c call s
+signals_commanded : (word : SignalWord) (c : Caller) (call : Call) (s : State) → IsCommanded c call s (does_signals_by word c call s)
+signals_commanded signals.Signal c call s = record { tells = signal_tells c call s; alters = signal_alters c call s }
+signals_commanded _ c call s = quiet_commanded c call s
 
-pub word_by_tells : (word : Word) (c : Caller) (call : Call) (s : State) → Tells c call s (does_word_by word c call s)
-word_by_tells (group.Plain word) c call s = plain_by_tells word c call s
-word_by_tells (group.Signals word) c call s = signals_by_tells word c call s
-word_by_tells (group.Ports word) c call s = ports_by_tells word c call s
-word_by_tells (group.Interrupts word) c call s = interrupts_by_tells word c call s
-word_by_tells _ c call s = quiet_tells c call s
+ports_commanded : (word : PortWord) (c : Caller) (call : Call) (s : State) → IsCommanded c call s (does_ports_by word c call s)
+ports_commanded ports.PutMsg c call s = record { tells = put_tells c call s; alters = put_alters c call s }
+ports_commanded ports.GetMsg c call s = record { tells = get_tells c call s; alters = get_alters c call s }
+ports_commanded ports.ReplyMsg c call s = record { tells = reply_tells c call s; alters = reply_alters c call s }
+ports_commanded _ c call s = quiet_commanded c call s
+
+interrupts_commanded : (word : InterruptWord) (c : Caller) (call : Call) (s : State) → IsCommanded c call s (does_interrupts_by word c call s)
+interrupts_commanded causing.Cause c call s = record { tells = cause_tells c call s; alters = cause_alters c call s }
+
+word_commanded : (word : Word) (c : Caller) (call : Call) (s : State) → IsCommanded c call s (does_word_by word c call s)
+word_commanded (group.Plain word) c call s = plain_commanded word c call s
+word_commanded (group.Signals word) c call s = signals_commanded word c call s
+word_commanded (group.Ports word) c call s = ports_commanded word c call s
+word_commanded (group.Interrupts word) c call s = interrupts_commanded word c call s
+word_commanded _ c call s = quiet_commanded c call s
+
+-- one command of a body
+pub body_commanded : (name : List ℕ) (command : CommandData) (s : State)
+    → IsCommanded (ByBody name) (call_in_body command s.scripts) s (body_step name command s)
+unfolding body_step does_in_body
+body_commanded name command s = word_commanded command.word (ByBody name) (call_in_body command s.scripts) s
+
+pub body_alters : (name : List ℕ) (command : CommandData) (s : State) → IsAltered s (body_step name command s)
+body_alters name command s = (body_commanded name command s).alters
 
 -- ---- parts of the words of tasks
 

@@ -17,7 +17,8 @@ use Rattle.execmodel.specs.Step.{announced, switches, ends, starts, run}
 use Rattle.execmodel.proofs.Heaps.{true_is_not_false}
 use Rattle.execmodel.proofs.Itself.{does_itself, call_works}
 use Rattle.execmodel.proofs.Stretches.{Relation, HoldsOfEach, of_starts, of_events}
-use Rattle.execmodel.proofs.Commands.{Alters, body_alters}
+use Rattle.execmodel.proofs.Commands.{Alters}
+use Rattle.execmodel.proofs.Telling.{body_alters}
 use Rattle.execmodel.proofs.Posts.{AreInOrder, IsTidy, post_at}
 use Rattle.execmodel.proofs.Asking.{Finishing, finishing}
 use Rattle.execmodel.proofs.Formed.{touched_formed, moves_formed, asked_formed, taken_formed}

@@ -19,7 +19,8 @@ use Rattle.execmodel.specs.Laws.{LibrariesAreAskedInVersionTwo, UnaskedMemorySta
 use Rattle.execmodel.proofs.Heaps.{true_is_not_false}
 use Rattle.execmodel.proofs.Itself.{word_itself, word_keeps}
 use Rattle.execmodel.proofs.Stretches.{Relation, HoldsOfEach, of_events, of_starts}
-use Rattle.execmodel.proofs.Commands.{body_alters, settings_of}
+use Rattle.execmodel.proofs.Commands.{settings_of}
+use Rattle.execmodel.proofs.Telling.{body_alters}
 use Rattle.execmodel.proofs.Asking.{finishing}
 use Rattle.execmodel.proofs.GivingWay.{asking_keeps, asking_for_object_keeps, ready_keeps}
 use Rattle.execmodel.proofs.TidyLaw.{quietly, switches_quiet}

@@ -28,7 +28,8 @@ use Rattle.execmodel.specs.Laws.{QueuesAgreeWithTheSchedule, SemaphoresPassInOrd
 use Rattle.execmodel.proofs.Queues.{Follows, IsOnce, follows_more, follows_once, in_order}
 use Rattle.execmodel.proofs.Itself.{does_itself, call_works, call_shifts}
 use Rattle.execmodel.proofs.Stretches.{Relation, HoldsOfEach, clock_gains, of_starts, of_events}
-use Rattle.execmodel.proofs.Commands.{IsCalm, Reaches, rests, posts, body_alters}
+use Rattle.execmodel.proofs.Commands.{IsCalm, Reaches, rests, posts}
+use Rattle.execmodel.proofs.Telling.{body_alters}
 use Rattle.execmodel.specs.Requests.{finishes}
 use Rattle.execmodel.proofs.Posts.{IsTidy}
 use Rattle.execmodel.proofs.Asking.{finishing, without_reply}
