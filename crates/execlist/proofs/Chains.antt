@@ -149,10 +149,6 @@ unfolding last_from
 misses-last x y [] m e = m.0 e
 misses-last x y (z ∷ p) m e = misses-last x z p m.1 e
 
--- every number of p but is not c, in p's own order
-abbrev pub Avoids : ℕ → List ℕ → Type 0
-Avoids c p = Misses c p
-
 module _ (ls ls' : List Link) (a b c : ℕ) (next-kept : (x : ℕ) → (x ≡ a → ⊥) → (x ≡ c → ⊥) → (link_at ls' x).next ≡ (link_at ls x).next)
     (prev-kept : (x : ℕ) → (x ≡ b → ⊥) → (x ≡ c → ⊥) → (link_at ls' x).prev ≡ (link_at ls x).prev) where
   -- edges that none of a, b and c is at, but for the first, which may be b

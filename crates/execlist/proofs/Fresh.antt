@@ -2,7 +2,7 @@
 use Rattle.std.proofs.Common.{◌≡◌, ℕ, zero, suc, ◌<◌, ◌≤◌, List, [], ◌∷◌, length, replicate, Option, None, refl, sym, ap, subst, ◌∙◌, arith, inl, inr}
 use Rattle.std.specs.Prelude.{◌⊎◌, slice_set}
 use Rattle.std.proofs.lemmas.Bool.{cond-true, cond-false, eq-eqb, cases_eq, cases_lt}
-use Rattle.std.proofs.lemmas.List.{get_or-set_same, get_or-set_other, length-set, set-get_or}
+use Rattle.std.proofs.lemmas.List.{set-get_or}
 use Rattle.execlist.specs.Lists.{sequence, home, is_at, times}
 use Rattle.execlist.specs.Links.{Link, link_at, linked, unlinked}
 use Rattle.execlist.specs.Chains.{IsLinked, lists_of, homes_of, header_of}
@@ -29,22 +29,6 @@ unlinked-fresh low c ls inside fresh n lt = by_case (cases_eq n c) where
 pub same-homes : (n c : ℕ) (ls : List Link) → c < n → (link_at ls c).home ≡ 0 → homes_of ls n ≡ slice_set (homes_of ls n) c None
 same-homes n c ls lt none =
     sym (set-get_or (homes_of ls n) c None) ∙ ap (slice_set (homes_of ls n) c) (home-at ls n c lt ∙ ap header_of none)
-
--- one node more is in no list
-pub more-out : (i : ℕ) (new old : List (Option ℕ)) → new ≡ slice_set old i None → ((m : ℕ) → m < i → home old m ≡ None)
-    → (m : ℕ) → m < suc i → home new m ≡ None
-more-out i new old e out m lt = ap (λ (l : List (Option ℕ)). home l m) e ∙ by_case (cases_eq m i) where
-  by_size : (i < length old) ⊎ (length old ≤ i) → home (slice_set old i None) i ≡ None
-  by_size (inl there) = get_or-set_same old i None None there
-  by_size (inr past) = beyond (slice_set old i None) i (omega (arith, past, length-set old i None)) where
-    beyond : (l : List (Option ℕ)) (k : ℕ) → length l ≤ k → home l k ≡ None
-    beyond [] k le = refl
-    beyond (x ∷ l) zero le = absurd (omega (arith, le))
-    beyond (x ∷ l) (suc k) le = beyond l k (omega (arith, le))
-
-  by_case : (m ≡ i) ⊎ (m ≡ i → ⊥) → home (slice_set old i None) m ≡ None
-  by_case (inl same) = subst (λ k. home (slice_set old i None) k ≡ None) (sym same) (by_size (cases_lt i (length old)))
-  by_case (inr ne) = get_or-set_other old i m None None ne ∙ out m (omega (arith, lt, ne))
 
 -- no node is in a list
 none-there : (xs : List ℕ) → ((x : ℕ) → times x xs ≡ 0) → xs ≡ []

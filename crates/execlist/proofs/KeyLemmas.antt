@@ -12,14 +12,6 @@ set-left [] ys n a lt = absurd (omega (arith, lt))
 set-left (x ∷ xs) ys zero a lt = refl
 set-left (x ∷ xs) ys (suc n) a lt = ap (λ rest. x ∷ rest) (set-left xs ys n a (omega (arith, lt)))
 
-pub keys-length : (nodes : ℕ) (ks : List DigestKey) → length (keys_in nodes ks) ≡ length ks + (nodes - length ks)
-unfolding keys_in
-keys-length nodes ks =
-    let left : length (map digest_key_of ks) ≡ length ks = length-map ks digest_key_of in
-    let right = length-replicate (nodes - length ks) blank in
-    let both = length-append (map digest_key_of ks) (replicate (nodes - length ks) blank) in
-    omega (arith, left, right, both)
-
 pub no-keys : (nodes : ℕ) → keys_in nodes [] ≡ replicate nodes blank
 unfolding keys_in
 no-keys nodes = let all : nodes - 0 ≡ nodes = omega arith in ap (λ k. replicate k blank) all

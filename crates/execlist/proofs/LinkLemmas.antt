@@ -362,9 +362,6 @@ pub is-some : (o : Option ℕ) → IsSome o → (h : ℕ) × (o ≡ Some h)
 is-some None i = cc
 is-some (Some h) i = (h, refl)
 
-pub same-header : (o : Option ℕ) (h g : ℕ) → o ≡ Some h → o ≡ Some g → h ≡ g
-same-header o h g a b = cc
-
 pub header-less : (m : ℕ) → (m ≡ 0 → ⊥) → Some (m - 1) ≡ header_of m
 header-less zero ne = absurd (ne refl)
 header-less (suc h) ne = let e : suc h - 1 ≡ h = omega arith in ap Some e

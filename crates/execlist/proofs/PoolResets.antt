@@ -1,15 +1,14 @@
 -- The lowest places of a pool's stack, and a pool whose numbers are free again.
-use Rattle.std.proofs.Common.{◌≡◌, ℕ, zero, suc, ◌+◌, ◌<◌, ◌≤◌, true, false, cond, not, List, [], ◌∷◌, ◌++◌, length, take, drop, replicate, refl, sym, ◌∙◌, ap, subst, arith, inl, inr, Option, Some, None, is_some, length-append, append-nil}
+use Rattle.std.proofs.Common.{◌≡◌, ℕ, zero, suc, ◌+◌, ◌<◌, ◌≤◌, true, false, cond, not, List, [], ◌∷◌, ◌++◌, length, take, drop, replicate, refl, sym, ◌∙◌, ap, subst, arith, inl, inr, Option, Some, None, is_some, length-append}
 use Rattle.std.specs.Prelude.{◌-◌, ◌⊎◌, nat_lt, ◌&&◌, IsSome, slice_set}
 use Rattle.std.specs.List.{range_with_len}
 use Rattle.std.proofs.Math.Bool.{and-true, and-false}
-use Rattle.std.proofs.Math.Seq.{drop-length}
 use Rattle.std.proofs.lemmas.Bool.{cond-true, lt-ltb, le-ltb, cases_lt}
 use Rattle.std.proofs.lemmas.List.{take-append-drop, take-append-le, length-drop}
 use Rattle.std.proofs.lemmas.List.FromFn.{length-range_with_len}
 use Rattle.execlist.specs.Lists.{times}
-use Rattle.execlist.specs.Pool.{IsFresh, IsPool, Pooled, slot, taken, is_free, all_free, free_below}
-use Rattle.execlist.proofs.Pools.{times-append, free_known, times_range, pooled}
+use Rattle.execlist.specs.Pool.{IsFresh, IsPool, slot, taken, is_free}
+use Rattle.execlist.proofs.Pools.{times-append, free_known, times_range}
 
 -- The lowest places of the stack.
 
@@ -148,7 +147,3 @@ reset_pool xs count capacity more known held room grown =
       stands = λ n. times_range n count ∙ ap (λ b. cond b 1 0) (sym (free_vacated count (drop count xs) all n));
       room = omega (arith, length_vacated count (drop count xs), length-drop count xs, known, room, grown);
     }
-
--- all numbers are free
-pub all_below : {A : Type 0} (pool : Pooled A) → free_below (length pool.slots) pool ≡ all_free (length pool.slots)
-all_below pool = ap (λ ys. pooled ys (range_with_len 0 (length pool.slots))) (ap (vacated (length pool.slots)) (drop-length pool.slots) ∙ append-nil (replicate (length pool.slots) None))

@@ -6,7 +6,7 @@ use mathlib.Core.List.{List, [], ◌∷◌, ◌++◌}
 use lib.Dec.{T}
 use lib.ListN.{length}
 use seplogic.Ra.Ura.{Ura}
-use mir.Syntax.{Callee, w64}
+use mir.Syntax.{w64}
 use mir.Val.{Val, vint, vptr, vstruct, of_list, has_ty, WT}
 use base.Logic.{SProp, ent, sep, ex, guard, emp, id⊢}
 use base.Fml.{Lft, Share, ftrue, fsep, flft}
@@ -30,7 +30,7 @@ use Rattle.core.specs.contracts.slots.Slots.from_raw_parts as FR
 use Rattle.core.specs.contracts.slots.Slots.from_raw_parts.Key as from
 use Rattle.core.specs.contracts.slots.Slots.into_raw_parts as IR
 use Rattle.core.specs.contracts.slots.Slots.into_raw_parts.Key as into
-use Rattle.core.proofs.mem.Param.{El, args, el_x, R}
+use Rattle.core.proofs.mem.Param.{El, el_x, R}
 use Rattle.core.proofs.slots.Places.{sz}
 use Rattle.core.proofs.slots.Opens.{Sr, words_val, row_val, row_had, row_made}
 
@@ -40,12 +40,6 @@ module _ (E : El) where
 
   abbrev pub all : ℕ → ℕ → List (el_x E) → List Bool → base.Fml.Fml
   all b o xs fs = slots (R E) (block_ptr b o) xs fs
-
-  abbrev pub from_key : Callee
-  from_key = from.name (args E)
-
-  abbrev pub into_key : Callee
-  into_key = into.name (args E)
 
   pub row_Typed : (v : Val) (b o n : ℕ) → v ≡ row_val b o n → n < 2 ^ 64 → T (has_ty (layout Row) v) × WT v
   row_Typed v b o n e fn = subst (λ (z : Val). T (has_ty (layout Row) z) × WT z) (sym e) (tt, (tt, (record { fits = fn }, tt)))

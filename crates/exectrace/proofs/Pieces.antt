@@ -8,7 +8,6 @@ use Rattle.std.specs.Prelude.{◌↔◌, true, false, Option, Some, None, Result
 use Rattle.std.specs.Io.KnownBytes.{Appends}
 use Rattle.exectrace.specs.declared.sinks.SinkState.{SinkState}
 use Rattle.exectrace.specs.declared.sinks.SinkState.TheVariants.{Good, Empty, Failed}
-use Rattle.exectrace.specs.Trace.{TraceLine, printed_line, printed}
 use Rattle.exectrace.specs.Sink.{empties, after_taking, Tape, TakesAll, Breaks, Puts, Writes, Adds}
 
 -- The bytes that a writer holds.
@@ -35,10 +34,6 @@ rest_fits k n xs below fits =
     omega (arith, fits', length-drop k xs)
 
 -- The state of a sink.
-
--- fewer than 16 empty writes are not 16
-pub below_not_exhausted : (state : SinkState) → empties state < 16 → state ≢ Empty 16
-below_not_exhausted state below e = let bad : 16 < 16 = rw e at below in absurd (omega (arith, bad))
 
 -- a write that brings the empty ones to 16 took nothing
 exhausted : (before after : SinkState) (n : ℕ) → empties before < 16 → after ≡ after_taking before n → 16 ≤ empties after → (n ≡ 0) × (after ≡ Empty 16)
@@ -191,24 +186,12 @@ pub adds_both : {a b c : Tape} {built between after xs : List ℕ} (ys zs : List
     → Adds a b built between xs → Adds b c between after (ys ++ zs) → Adds a c built after ((xs ++ ys) ++ zs)
 adds_both {a} {b} {c} {built} {between} {after} {xs} ys zs p q = adds_then _ p q (append_assoc xs ys zs)
 
--- another spelling of the same bytes
-pub add_same : {a b : Tape} {built after xs : List ℕ} (ys : List ℕ) → Adds a b built after xs → ys ≡ xs → Adds a b built after ys
-add_same ys p e = rw e p
-
 -- a line that began empty is handed over to its end
 pub adds_all : {a b c : Tape} {built after text : List ℕ} → built ≡ [] → Adds a b built after text → Puts b c after → Puts a c text
 adds_all {a} {b} {c} {built} {after} {text} empty p q =
     put_same text (Puts-trans a b c p.handed after p.puts q) (sym (ap (λ zs. zs ++ text) empty) ∙ p.whole)
 
 -- Lines.
-
--- one line
-pub puts_line : {a b : Tape} (line : TraceLine) → Puts a b (printed_line line) → Puts a b (printed (line ∷ []))
-puts_line line p = put_same _ p (append-nil (printed_line line))
-
--- more lines after some
-pub puts_lines : {a b c : Tape} (lines more : List TraceLine) → Puts a b (printed lines) → Puts b c (printed more) → Puts a c (printed (lines ++ more))
-puts_lines lines more p q = puts_then _ p q (flat_map-append printed_line lines more)
 
 -- one more of what is made of a list
 pub flat_map_mapped_more : {X Y A : Type 0} (f : Y → List A) (g : X → Y) (xs : List X) (i : ℕ) (d : X) → i < length xs → flat_map f (map g (take (i + 1) xs)) ≡ flat_map f (map g (take i xs)) ++ f (g (get_or xs i d))

@@ -25,10 +25,6 @@ use Rattle.memlist.proofs.Fitting.{fit_parts, homed, split_lowest, within_split}
 
 -- No block begins if a gap does
 
-no_gap : {A : Type 0} (xs : List Gap) (gap : Gap) (ys : List Gap) → [] ≡ xs ++ gap ∷ ys → A
-no_gap [] gap ys e = cc
-no_gap (x ∷ xs) gap ys e = cc
-
 -- a gap after a block
 free_after : (block : ℕ × (ℕ × ℕ)) (rest : Blocks) (to : ℕ) (gap : Gap) (ys xs : List Gap) → 0 < block.1.0 → IsLaid (block.0 + block.1.0) rest to
     → ((zs : List Gap) → gaps_between (block.0 + block.1.0) rest to ≡ zs ++ gap ∷ ys → block_at gap.address rest ≡ None)

@@ -40,12 +40,6 @@ same_offer : (areas : List Area) (size reqs : ℕ) (some other : List Area) (off
 same_offer areas size reqs some other offer is h =
     subst (λ (o : Option Region). IsSomeAnd (slice_get areas offer.header) (λ area. (o ≡ Some area.region) × IsLowest size (area_gaps area) (Some offer.before))) (sym is) h
 
--- an area that offers nothing changes nothing
-pub offer_without : (areas : List Area) (size reqs : ℕ) (area : Area) (rest some : List Area) (later : Option Offer) → some ≡ area ∷ rest → offers size reqs area ≡ false
-    → IsOffer areas size reqs rest later → IsOffer areas size reqs some later
-offer_without areas size reqs area rest some None is e h = ap (chosen_of size reqs) is ∙ chosen_without size reqs area rest e ∙ h
-offer_without areas size reqs area rest some (Some offer) is e h = same_offer areas size reqs rest some offer (ap (chosen_of size reqs) is ∙ chosen_without size reqs area rest e) h
-
 -- nor does one that an offer outranks
 outranked_by : (areas : List Area) (size reqs : ℕ) (area : Area) (rest some : List Area) (offer : Offer) (other : Option Area) → some ≡ area ∷ rest
     → IsSomeAnd other (λ area. (chosen_of size reqs rest ≡ Some area.region) × IsLowest size (area_gaps area) (Some offer.before)) → is_below (Some area) other ≡ true
@@ -83,16 +77,7 @@ offer_chosen areas size reqs place area rest some (Some offer) is at above e h =
 pub offers_by : (size reqs : ℕ) (area : Area) (gap : ℕ) → is_suitable reqs area.region ≡ true → IsLowest size (area_gaps area) (Some gap) → offers size reqs area ≡ true
 offers_by size reqs area gap fits h = ap (λ b. b && is_some (lowest_gap size (area_gaps area))) fits ∙ ap is_some h.lowest
 
-pub offers_none : (size reqs : ℕ) (area : Area) → IsLowest size (area_gaps area) None → offers size reqs area ≡ false
-offers_none size reqs area h = ap (λ o. is_suitable reqs area.region && is_some o) h ∙ elim (is_suitable reqs area.region) as (λ b. b && false ≡ false) [ true ↦ refl | false ↦ refl ]
-
-pub offers_unsuitable : (size reqs : ℕ) (area : Area) → is_suitable reqs area.region ≡ false → offers size reqs area ≡ false
-offers_unsuitable size reqs area e = ap (λ b. b && is_some (lowest_gap size (area_gaps area))) e
-
 -- Sizes
-
-gap_sizes : Area → List ℕ
-gap_sizes area = map (λ (gap : Gap). gap.size) (area_gaps area)
 
 sizes_append : (xs ys : List Gap) → map (λ (gap : Gap). gap.size) (xs ++ ys) ≡ map (λ (gap : Gap). gap.size) xs ++ map (λ (gap : Gap). gap.size) ys
 sizes_append [] ys = refl

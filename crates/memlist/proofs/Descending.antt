@@ -104,12 +104,6 @@ look-full base slots slot unit top some le at =
 
 -- If nothing begins any more
 
-pub base-chunk : (base top : ℕ) → base < top → base ≡ last_left base [] top
-base-chunk base top lt = sym (ap (last_or 0) (stretch_some base top lt))
-
-pub base-none : (base top : ℕ) → top ≤ base → 0 ≡ last_left base [] top
-base-none base top le = sym (ap (last_or 0) (stretch_none base top le))
-
 -- If the descent begins
 
 parted : (slots : List Slot) (place : ℕ) (d : Slot) → place < length slots → slots ≡ take place slots ++ get_or slots place d ∷ drop (suc place) slots

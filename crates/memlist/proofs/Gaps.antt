@@ -1,5 +1,5 @@
 -- How the gaps of a region change when a block is put into one of them, and when a block is freed.
-use Rattle.std.proofs.Common.{◌≡◌, ◌≢◌, ℕ, ◌+◌, ◌-◌, ◌*◌, ◌%◌, ◌<◌, ◌≤◌, true, false, cond, List, [], ◌∷◌, ◌++◌, length, refl, sym, ◌∙◌, ap, subst, arith, append_assoc, append-nil}
+use Rattle.std.proofs.Common.{◌≡◌, ◌≢◌, ℕ, ◌+◌, ◌-◌, ◌%◌, ◌<◌, ◌≤◌, true, false, cond, List, [], ◌∷◌, ◌++◌, refl, sym, ◌∙◌, ap, subst, arith, append_assoc, append-nil}
 use Rattle.std.specs.Prelude.{nat_lt, not, Some}
 use Rattle.std.specs.Ordering.{nat_cmp}
 use Rattle.std.specs.FinMap.{put}
@@ -244,14 +244,3 @@ frees from (block ∷ rest) to address n tag l found =
     (subst (λ m. IsFreed from (block ∷ rest) to block.0 m) (ap (λ (v : ℕ × ℕ). v.0) here) (freed_here from block rest to l)))
     (λ other. freed_there from block rest to address n l other
     (frees (block.0 + block.1.0) rest to address n tag l.4 (found_later address block (Some (n, tag)) rest other found)))
-
--- How many gaps there may be
-
-pub units_used : (from : ℕ) (blocks : Blocks) (to : ℕ) → from % 8 ≡ 0 → to % 8 ≡ 0 → IsLaid from blocks to
-    → from + 8 * length (gaps_between from blocks to) + 8 * length blocks ≤ to
-units_used from [] to a b l =
-    stretch_cases (λ gap. from + 8 * length gap + 0 ≤ to) from to (λ lt. omega arith) (λ le. omega arith)
-units_used from (block ∷ rest) to a b l =
-    let later = units_used (block.0 + block.1.0) rest to (omega (arith, l.2, l.3)) b l.4 in
-    stretch_cases (λ gap. from + 8 * length (gap ++ gaps_between (block.0 + block.1.0) rest to) + 8 * length (block ∷ rest) ≤ to) from block.0
-    (λ lt. omega (arith, l.1, l.2, l.3, later)) (λ le. omega (arith, l.0, l.1, l.2, l.3, later))

@@ -14,10 +14,9 @@ use Rattle.memlist.specs.Regions.{region_end, is_aligned, is_in_reach}
 use Rattle.memlist.specs.Blocks.{Blocks, block_at, freed, is_in, stretch, gaps_between}
 use Rattle.memlist.specs.Memory.{IsLaid}
 use Rattle.memlist.specs.Joins.{Around}
-use Rattle.memlist.specs.Chain.{AreApart, IsSpot, Space}
+use Rattle.memlist.specs.Chain.{IsSpot, Space}
 use Rattle.memlist.specs.Areas.{Area, IsHeader, area_gaps, entries, block_of}
 use Rattle.memlist.proofs.Answered.{cases_eq, found_here, found_later}
-use Rattle.memlist.proofs.Chains.{gaps_apart}
 use Rattle.memlist.proofs.Gaps.{stretch_cases, taken, frees}
 use Rattle.memlist.proofs.Slots.{entries-put, entries-freed, found-entries, found_between}
 
@@ -73,10 +72,6 @@ inside_region region address e =
     let a = nat_le region.base address in
     let b = nat_lt address (region_end region) in
     record { low = from_le region.base address (and_left a b e); high = from_lt address (region_end region) (and_right a b e) }
-
-some_block : (address : ℕ) (blocks : Blocks) (value : ℕ × ℕ) → block_at address blocks ≡ Some value → 0 < length blocks
-some_block address [] value found = cc
-some_block address (block ∷ rest) value found = omega arith
 
 -- Blocks and gaps lie within their region
 
@@ -199,14 +194,6 @@ pub end_aligned : (region : Region) → IsAligned region → region_end region %
 end_aligned region a = omega (arith, a.base, a.size)
 
 module _ (region : Region) (slots : List Slot) (space : Space) (h : IsHeader region slots space) where
-  pub gaps_placed : AreApart space.base space.gaps space.end
-  gaps_placed =
-      let a = aligned_region region h.aligned in
-      let apart = gaps_apart region.base (entries region.base slots) (region_end region) a.base (end_aligned region a) h.laid in
-      subst (λ to. AreApart space.base space.gaps to) (sym h.end)
-      (subst (λ from. AreApart from space.gaps (region_end region)) (sym h.base)
-      (subst (λ gaps. AreApart region.base gaps (region_end region)) (sym h.free) apart))
-
   -- if a gap begins, there is its unit
   pub spot_within : (n before : ℕ) (spot : IsSpot n space.gaps before) → IsGapWithin region.base (region_end region) spot.gap
   spot_within n before spot =

@@ -76,12 +76,6 @@ header_reset (suc n) (x ∷ rest) area new l read is =
     ap (λ (others : List Area). empty_area x.region ∷ others) (header_reset n rest area new (omega arith) read is)
     ∙ ap (λ k. reset_first k (x ∷ rest)) (let same : suc (n + 1) ≡ suc n + 1 = omega arith in same)
 
-pub headers_reset : (n : ℕ) (areas : List Area) → length areas ≤ n → reset_first n areas ≡ map empty_area (regions_of areas)
-headers_reset zero [] l = refl
-headers_reset (suc n) [] l = refl
-headers_reset zero (x ∷ rest) l = absurd (omega arith)
-headers_reset (suc n) (x ∷ rest) l = ap (λ (others : List Area). empty_area x.region ∷ others) (headers_reset n rest (omega arith))
-
 pub length-reset_first : (n : ℕ) (areas : List Area) → length (reset_first n areas) ≡ length areas
 length-reset_first zero areas = refl
 length-reset_first (suc n) [] = refl

@@ -147,9 +147,6 @@ merged-put (x ∷ rest) (suc place) area a v apart laid at inside =
 
 -- Freeing
 
-not_key : ℕ → ℕ → Bool
-not_key a k = not (nat_eq k a)
-
 freed_outside : (p : ℕ → Bool) (a : ℕ) (blocks : Blocks) → p a ≡ true → AllAnswer p false blocks → freed a blocks ≡ blocks
 freed_outside p a [] t all = refl
 freed_outside p a (block ∷ rest) t all =

@@ -1,8 +1,7 @@
 -- Walks along the chain: what has been looked at, and what that says once the walk ends.
 use Rattle.std.proofs.Common.{◌≡◌, ◌≢◌, ℕ, ◌+◌, ◌<◌, ◌≤◌, cond, max, List, [], ◌∷◌, ◌++◌, map, refl, sym, ◌∙◌, ap, subst, arith, append_assoc, append-nil}
 use Rattle.std.specs.Prelude.{None, Option, Some, nat_eq, slice_get}
-use Rattle.std.specs.List.{AllByRecursion, sum_by}
-use Rattle.std.proofs.lemmas.List.Sums.{sum_by-append}
+use Rattle.std.specs.List.{AllByRecursion}
 use Rattle.memlist.specs.declared.gap.Gap.{Gap}
 use Rattle.memlist.specs.Fit.{greatest, lowest_gap}
 use Rattle.memlist.specs.Chain.{IsLastBelow, IsPassed, IsSpot, IsWalked, first_or, last_or, upper_next, upper_size}
@@ -125,9 +124,6 @@ parted_end address gaps before p below above at is low high =
     parted_here address gaps before p below above is low high (subst (AllByRecursion (λ (gap : Gap). address ≤ gap.address)) (sym (nothing_ahead p.above at)) tt)
 
 -- Numbers
-
-pub sum_more : (xs : List Gap) (gap : Gap) → sum_by (λ (gap : Gap). gap.size) (xs ++ gap ∷ []) ≡ sum_by (λ (gap : Gap). gap.size) xs + gap.size
-sum_more xs gap = let a = sum_by-append (λ (gap : Gap). gap.size) xs (gap ∷ []) in omega (arith, a)
 
 pub greatest_more : (xs : List Gap) (gap : Gap) → greatest (map (λ (gap : Gap). gap.size) (xs ++ gap ∷ [])) ≡ max gap.size (greatest (map (λ (gap : Gap). gap.size) xs))
 greatest_more [] gap = refl

@@ -1,6 +1,6 @@
 -- What follows from a schedule's being sound, and the schedules that calls on the tasks lead to.
 use Rattle.std.proofs.Common.{◌≡◌, ◌≢◌, ℕ, ◌<◌, zero, suc, Bool, true, false, cond, not, eqb, List, [], ◌∷◌, Option, Some, None, IfSome, length, slice_set, refl, sym, ap, ◌∙◌, arith}
-use Rattle.std.specs.Prelude.{ℤ, ◌&&◌}
+use Rattle.std.specs.Prelude.{ℤ}
 use Rattle.std.proofs.lemmas.Bool.{eq-eqb}
 use Rattle.std.proofs.lemmas.List.{set-get_or}
 use Rattle.execlist.specs.Order.{enqueue, first, without}
@@ -11,10 +11,10 @@ use Rattle.taskq.specs.declared.TaskState.{TaskState}
 use Rattle.taskq.specs.declared.TaskState.TheVariants.{Absent, Ready, Running, Waiting, Removed}
 use Rattle.taskq.specs.declared.Why.TheVariants.{Signals, Sem}
 use Rattle.signals.specs.Signals.{SignalSets}
-use Rattle.forbid.specs.Nesting.{Nesting, may_switch}
+use Rattle.forbid.specs.Nesting.{Nesting}
 use Rattle.scheduler.specs.declared.Switch.{Switch}
-use Rattle.scheduler.specs.declared.Switch.TheVariants.{To, Idle}
-use Rattle.scheduler.specs.Schedule.{Schedule, status_of, nesting_of, takes_over, switch_for, IsToOneOf, begins, waits_for, waits_at_semaphore, leaves, departs, removed, with_priority}
+use Rattle.scheduler.specs.declared.Switch.TheVariants.{To}
+use Rattle.scheduler.specs.Schedule.{Schedule, status_of, switch_for, begins, waits_for, waits_at_semaphore, leaves, departs, removed, with_priority}
 use Rattle.scheduler.specs.Dispatch.{arrives, switch_of, displaced, after_switch, rescheduled, reprioritized}
 use Rattle.scheduler.specs.Sound.{IsSound, IsToReady, is_running, is_task}
 
@@ -84,12 +84,6 @@ switch_of-is s choice e = ap (λ o. switch_for s.running o s) e
 pub to_ready : (w : Option Switch) (t : ℕ) (states : List TaskState) → w ≡ Some (To t) → IsToReady w states → state_at states t ≡ Ready
 to_ready w t states e ready = rw e at ready
 
--- the task of a switch is one of the file
-pub to_known : (w : Option Switch) (states : List TaskState) → IsToReady w states → IsToOneOf w (length states)
-to_known None states ready = tt
-to_known (Some Idle) states ready = tt
-to_known (Some (To t)) states ready = is_known states t (λ absent. cc)
-
 -- a task that begins to run takes the place of the running one
 pub begins-vacant : (t : ℕ) (s : Schedule) → begins t (record s { running = None }) ≡ begins t s
 unfolding begins
@@ -99,12 +93,6 @@ begins-vacant t s = refl
 pub rescheduled-is : (s : Schedule) (w : Option Switch) → w ≡ switch_of by_priority s → after_switch by_priority w s ≡ rescheduled by_priority s
 unfolding rescheduled
 rescheduled-is s w e = ap (λ o. after_switch by_priority o s) e
-
--- the switch that is due if this task runs
-pub switch_for-is : (s : Schedule) (r t : ℕ) (over : Bool) → s.running ≡ Some r
-    → over ≡ (may_switch (nesting_of s r) && takes_over t r s) → switch_for s.running (Some t) s ≡ cond over (Some (To t)) None
-switch_for-is s r t over e o =
-    ap (λ x. switch_for x (Some t) s) e ∙ ap (λ b. cond b (Some (To t)) None) (sym o)
 
 -- ---- what the calls on the tasks make of a schedule
 
