@@ -1,9 +1,9 @@
 -- What holds of the code of a body without a fault: its variables are within their limits, and so are the shared names after it.
-use Rattle.std.proofs.Common.{◌≡◌, ℕ, suc, ◌+◌, ◌<◌, ◌≤◌, arith, Bool, true, false, ◌&&◌, ◌||◌, nat_lt, nat_le, bytes_eq, List, [], ◌∷◌, ◌++◌, length, map, All, Option, Some, None, IfSome, option_map, inl, inr, refl, ap, ◌∙◌, length-append}
+use Rattle.std.proofs.Common.{◌≡◌, ℕ, suc, ◌+◌, ◌≤◌, arith, Bool, true, false, ◌&&◌, nat_le, List, [], ◌∷◌, ◌++◌, length, map, All, Option, Some, None, IfSome, option_map, refl, ◌∙◌}
 use Rattle.std.specs.List.{flat_map, cons_option}
-use Rattle.std.proofs.lemmas.Bool.{cases_Bool, and_parts}
+use Rattle.std.proofs.lemmas.Bool.{and_parts}
 use Rattle.std.proofs.lemmas.Bool.Decides.{nat_tests}
-use Rattle.std.proofs.lemmas.List.{append-nil, length-map}
+use Rattle.std.proofs.lemmas.List.{length-map}
 use Rattle.std.proofs.lemmas.List.Folds.{list_all-append}
 use Rattle.std.proofs.lemmas.List.Elements.{All-nil, All-cons, All-head, All-tail, All-map, All-weaker}
 use Rattle.taskscript.specs.declared.fault.FileFault.{FileFault}
@@ -16,14 +16,13 @@ use Rattle.execlist.specs.Order.{first}
 use Rattle.taskscript.specs.Faults.{check}
 use Rattle.taskscript.specs.Interrupting.{Setting, may_stand, names_softints}
 use Rattle.taskscript.specs.Lines.{NamedVariableData, NamedArgumentData, number, variable, label, quoted, NamedCommandData, LineData, label_line, command_line}
-use Rattle.taskscript.specs.Numbering.{seen_after, number_in, Names, names_with, names_after, variable_in, argument_in, command_in, is_within, variables_of_target, variables_of_arguments, variables_of, have_room}
-use Rattle.taskscript.specs.Code.{command_said, commands_of, labels_of, place_of, names_of, line_faults, lines_faults, jumps_faults, body_faults, code_of, shared_after}
+use Rattle.taskscript.specs.Numbering.{Names, variable_in, argument_in, command_in, is_within, variables_of_target, variables_of_arguments, variables_of}
+use Rattle.taskscript.specs.Code.{command_said, commands_of, labels_of, place_of, names_of, line_faults, lines_faults, jumps_faults, body_faults, code_of}
 use Rattle.taskscript.specs.declared.place.Owner.{Owner}
 use Rattle.taskscript.specs.Meaning.{says}
 use Rattle.taskscript.specs.Places.{at, line_at}
-use Rattle.taskscript.proofs.BodyReading.{variables_left}
 use Rattle.taskscript.proofs.Firsts.{first_left, first_right, none_at}
-use Rattle.taskscript.proofs.FirstSight.{is_among, all_within, room_whole}
+use Rattle.taskscript.proofs.FirstSight.{all_within}
 
 variable_fits : (n : Variable) → is_within n ≡ true → VariableFits n
 variable_fits (Private n) h = grind (arith, nat_tests)
@@ -120,43 +119,6 @@ commands_within s names [] h = refl
 commands_within s names (c ∷ cs) h =
     let here : Stands s names c = All-head (Stands s names) c cs h in
     within-append names (variables_of c) (flat_map variables_of cs) here.within (commands_within s names cs (All-tail (Stands s names) c cs h))
-
--- a new name is after the others
-or_false : (a b : Bool) → (a || b) ≡ false → (a ≡ false) × (b ≡ false)
-or_false true b h = absurd cc
-or_false false b h = (refl, h)
-
-new_number : (seen : List (List ℕ)) (x : List ℕ) → is_among seen x ≡ false → number_in seen x ≡ length seen
-new_number [] x h = refl
-new_number (y ∷ seen) x h =
-    let parts = or_false (bytes_eq x y) (is_among seen x) h in
-    rw (parts.0, new_number seen x parts.1) (omega arith)
-
-pushed_fits : (seen : List (List ℕ)) (x : List ℕ) → nat_lt (length seen) 64 ≡ true → length (seen ++ x ∷ []) ≤ 64
-pushed_fits seen x room = let lt : length seen < 64 = grind (arith, nat_tests) in omega (arith, length-append seen (x ∷ []))
-
-seen_fit : (seen : List (List ℕ)) (x : List ℕ) → nat_lt (number_in seen x) 64 ≡ true → length seen ≤ 64 → length (seen_after seen x) ≤ 64
-seen_fit seen x room h =
-    elim (cases_Bool (is_among seen x)) [
-      | inl there ↦ rw there h
-      | inr new ↦ rw new (pushed_fits seen x (rw (new_number seen x new) at room))
-    ]
-
-shared_grown : (b : Bool) (names : Names) (x : List ℕ) → let v : NamedVariableData = record { is_shared = b; name = x } in is_within (variable_in names v) ≡ true → length names.shared ≤ 64 → length (names_with names v).shared ≤ 64
-shared_grown true names x room h = seen_fit names.shared x room h
-shared_grown false names x room h = h
-
-room_fits : (names : Names) (vs : List NamedVariableData) → have_room names vs ≡ true → length names.shared ≤ 64 → length (names_after names vs).shared ≤ 64
-room_fits names [] room h = h
-room_fits names (v ∷ vs) room h = room_fits (names_with names v) vs (and_parts _ _ room).1 (shared_grown v.is_shared names v.name (and_parts _ _ room).0 h)
-
-pub shared_fit : (w : Owner) (j : ℕ) (s : Setting) (shared lines : List (List ℕ)) → length shared ≤ 64 → first (body_faults w j s shared lines) ≡ None → length (shared_after shared lines) ≤ 64
-unfolding shared_after
-shared_fit w j s shared lines few h =
-    let start : Names = record { private = []; shared = shared } in
-    let vs = variables_left lines in
-    let whole : names_after start (vs ++ []) ≡ names_of shared lines = ap (names_after start) (append-nil vs) in
-    room_fits start vs (room_whole start vs [] ∙ ap (λ (n : Names). all_within n vs) whole ∙ commands_within s (names_of shared lines) (commands_of lines) (commands_stand w j s shared lines h)) few
 
 -- ---- lengths
 

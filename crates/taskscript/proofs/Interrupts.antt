@@ -1,17 +1,13 @@
 -- What a body of an interrupt may have, and the software interrupts that a command names, one argument after another.
-use Rattle.std.proofs.Common.{◌≡◌, ℕ, ◌+◌, ◌<◌, Bool, true, false, ◌&&◌, bytes_eq, List, [], ◌∷◌, ◌++◌, length, map, drop, get_or, Option, Some, None, option_map, refl, ap, sym, ◌∙◌}
-use Rattle.std.specs.List.{list_all, list_any, cons_option}
-use Rattle.std.proofs.lemmas.List.{drop_more}
+use Rattle.std.proofs.Common.{◌≡◌, ℕ, ◌+◌, Bool, ◌&&◌, bytes_eq, List, [], ◌∷◌, ◌++◌, map, Option, option_map, refl, ap, ◌∙◌}
+use Rattle.std.specs.List.{list_all, list_any}
 use Rattle.std.proofs.lemmas.List.Folds.{list_all-append}
 use Rattle.taskscript.specs.declared.named.NamedArgument.{NamedArgument}
 use Rattle.taskscript.specs.declared.named.NamedArgument.TheVariants as named
 use Rattle.taskscript.specs.declared.variable.NamedVariable.{NamedVariable}
-use Rattle.taskscript.specs.declared.word.row.Kind.{Kind}
-use Rattle.taskscript.specs.declared.word.row.Kind.TheVariants.{Value}
-use Rattle.taskscript.specs.Interrupting.{is_open, softint_named, softints_among}
-use Rattle.taskscript.specs.Lines.{NamedVariableData, NamedArgumentData, named_variable_view, named_argument_view}
+use Rattle.taskscript.specs.Interrupting.{is_open}
+use Rattle.taskscript.specs.Lines.{NamedVariableData, named_variable_view, named_argument_view}
 use Rattle.taskscript.specs.Numbering.{variables_of_target, variables_of_arguments}
-use Rattle.taskscript.proofs.Turns.{left_split}
 
 -- ---- variables
 
@@ -37,22 +33,3 @@ all_open target xs =
 -- whether these are all known
 abbrev pub are_known : List (List ℕ) → List (List ℕ) → Bool
 are_known softints names = list_all (λ name. list_any (bytes_eq name) softints) names
-
-and_true : (a b : Bool) → (a && b) ≡ ((a && true) && b)
-and_true true b = refl
-and_true false b = refl
-
-one_known : (softints : List (List ℕ)) (o : Option (List ℕ)) (others : List (List ℕ)) → are_known softints (cons_option o others) ≡ (are_known softints (cons_option o []) && are_known softints others)
-one_known softints None others = refl
-one_known softints (Some name) others = and_true (list_any (bytes_eq name) softints) (are_known softints others)
-
-pub known_more : (softints : List (List ℕ)) (kinds : List Kind) (xs : List NamedArgument) (i : ℕ) (a : NamedArgument) (b : Bool) → i < length kinds → i < length xs → a ≡ get_or xs i a
-    → b ≡ are_known softints (softints_among (get_or kinds i Value ∷ []) (named_argument_view a ∷ []))
-    → are_known softints (softints_among (drop i kinds) (map named_argument_view (drop i xs)))
-    ≡ (b && are_known softints (softints_among (drop (i + 1) kinds) (map named_argument_view (drop (i + 1) xs))))
-known_more softints kinds xs i a b few lt is known =
-    let others = softints_among (drop (i + 1) kinds) (map named_argument_view (drop (i + 1) xs)) in
-    ap (λ (ks : List Kind). are_known softints (softints_among ks (map named_argument_view (drop i xs)))) (drop_more kinds i Value few)
-    ∙ ap (λ (found : List NamedArgumentData). are_known softints (softints_among (get_or kinds i Value ∷ drop (i + 1) kinds) found)) (left_split xs i a lt is)
-    ∙ one_known softints (softint_named (get_or kinds i Value) (named_argument_view a)) others
-    ∙ ap (λ (c : Bool). c && are_known softints others) (sym known)

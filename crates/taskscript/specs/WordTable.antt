@@ -1,6 +1,6 @@
 -- What holds of each word, by the tables.
-use Rattle.std.proofs.Common.{◌≡◌, ◌≤◌, lit≤, false, nat_le, length, Some, refl}
-use Rattle.std.specs.Prelude.{slice_index}
+use Rattle.std.proofs.Common.{◌≡◌, ◌≤◌, lit≤, Bool, true, false, nat_le, length, Some, refl}
+use Rattle.std.specs.Prelude.{count_by, slice_index}
 use Rattle.taskscript.specs.declared.word.Word.{Word}
 use Rattle.taskscript.specs.declared.word.Word.TheVariants.{Plain, Signals, Nesting, Tasks, Lists, Memory, Ports, Semaphores, Interrupts, Libraries, Requests}
 use Rattle.taskscript.specs.declared.word.plain.PlainWord.TheVariants.{Set, Add, Sub, And, Or, Jump, JumpZ, JumpNZ, Print}
@@ -14,259 +14,121 @@ use Rattle.taskscript.specs.declared.word.semaphores.SemaphoreWord.TheVariants.{
 use Rattle.taskscript.specs.declared.word.interrupts.InterruptWord.TheVariants.{Cause}
 use Rattle.taskscript.specs.declared.word.libraries.LibraryWord.TheVariants.{OpenLibrary, CloseLibrary, RemLibrary, LibOpenCnt}
 use Rattle.taskscript.specs.declared.word.requests.RequestWord.TheVariants.{CreateIORequest, DeleteIORequest, OpenDevice, CloseDevice, SetIO, DoIO, SendIO, CheckIO, WaitIO, AbortIO, IOSecs, IOMicros, IOError, IOFlags}
+use Rattle.taskscript.specs.declared.word.row.Kind.{Kind}
+use Rattle.taskscript.specs.declared.word.row.Kind.TheVariants.{Value, Label, Name, NameOrNone, Softint}
 use Rattle.taskscript.specs.Words.{word_text, word_of, kinds}
 
--- no word has more than four arguments
+-- whether a name may be at a place of this kind
+abbrev pub may_be_name : Kind → Bool
+may_be_name Value = false
+may_be_name Label = false
+may_be_name Name = true
+may_be_name NameOrNone = true
+may_be_name Softint = true
+
+-- a word has at most four arguments and at most one place for a name; its text is no longer than a name may be, and begins with no small
+-- letter, and the word is the word of its text
+abbrev InTable : Word → Type 0
+InTable w =
+    (length (kinds w) ≤ 4)
+    × ((count_by may_be_name (kinds w) ≤ 1)
+    × ((length (word_text w) ≤ 31) × ((word_of (word_text w) ≡ Some w) × (nat_le 97 (slice_index (word_text w) 0) ≡ false))))
+
+in_table : (w : Word) → InTable w
+in_table (Plain Set) = (lit≤ tt, (lit≤ tt, (lit≤ tt, (refl, refl))))
+in_table (Plain Add) = (lit≤ tt, (lit≤ tt, (lit≤ tt, (refl, refl))))
+in_table (Plain Sub) = (lit≤ tt, (lit≤ tt, (lit≤ tt, (refl, refl))))
+in_table (Plain And) = (lit≤ tt, (lit≤ tt, (lit≤ tt, (refl, refl))))
+in_table (Plain Or) = (lit≤ tt, (lit≤ tt, (lit≤ tt, (refl, refl))))
+in_table (Plain Jump) = (lit≤ tt, (lit≤ tt, (lit≤ tt, (refl, refl))))
+in_table (Plain JumpZ) = (lit≤ tt, (lit≤ tt, (lit≤ tt, (refl, refl))))
+in_table (Plain JumpNZ) = (lit≤ tt, (lit≤ tt, (lit≤ tt, (refl, refl))))
+in_table (Plain Print) = (lit≤ tt, (lit≤ tt, (lit≤ tt, (refl, refl))))
+in_table (Signals AllocSignal) = (lit≤ tt, (lit≤ tt, (lit≤ tt, (refl, refl))))
+in_table (Signals FreeSignal) = (lit≤ tt, (lit≤ tt, (lit≤ tt, (refl, refl))))
+in_table (Signals SetSignal) = (lit≤ tt, (lit≤ tt, (lit≤ tt, (refl, refl))))
+in_table (Signals Signal) = (lit≤ tt, (lit≤ tt, (lit≤ tt, (refl, refl))))
+in_table (Signals Wait) = (lit≤ tt, (lit≤ tt, (lit≤ tt, (refl, refl))))
+in_table (Nesting Forbid) = (lit≤ tt, (lit≤ tt, (lit≤ tt, (refl, refl))))
+in_table (Nesting Permit) = (lit≤ tt, (lit≤ tt, (lit≤ tt, (refl, refl))))
+in_table (Nesting Disable) = (lit≤ tt, (lit≤ tt, (lit≤ tt, (refl, refl))))
+in_table (Nesting Enable) = (lit≤ tt, (lit≤ tt, (lit≤ tt, (refl, refl))))
+in_table (Tasks SetTaskPri) = (lit≤ tt, (lit≤ tt, (lit≤ tt, (refl, refl))))
+in_table (Tasks AddTask) = (lit≤ tt, (lit≤ tt, (lit≤ tt, (refl, refl))))
+in_table (Tasks RemTask) = (lit≤ tt, (lit≤ tt, (lit≤ tt, (refl, refl))))
+in_table (Tasks FindTask) = (lit≤ tt, (lit≤ tt, (lit≤ tt, (refl, refl))))
+in_table (Lists NewList) = (lit≤ tt, (lit≤ tt, (lit≤ tt, (refl, refl))))
+in_table (Lists FreeList) = (lit≤ tt, (lit≤ tt, (lit≤ tt, (refl, refl))))
+in_table (Lists NewNode) = (lit≤ tt, (lit≤ tt, (lit≤ tt, (refl, refl))))
+in_table (Lists FreeNode) = (lit≤ tt, (lit≤ tt, (lit≤ tt, (refl, refl))))
+in_table (Lists AddHead) = (lit≤ tt, (lit≤ tt, (lit≤ tt, (refl, refl))))
+in_table (Lists AddTail) = (lit≤ tt, (lit≤ tt, (lit≤ tt, (refl, refl))))
+in_table (Lists Enqueue) = (lit≤ tt, (lit≤ tt, (lit≤ tt, (refl, refl))))
+in_table (Lists Insert) = (lit≤ tt, (lit≤ tt, (lit≤ tt, (refl, refl))))
+in_table (Lists Remove) = (lit≤ tt, (lit≤ tt, (lit≤ tt, (refl, refl))))
+in_table (Lists RemHead) = (lit≤ tt, (lit≤ tt, (lit≤ tt, (refl, refl))))
+in_table (Lists RemTail) = (lit≤ tt, (lit≤ tt, (lit≤ tt, (refl, refl))))
+in_table (Lists First) = (lit≤ tt, (lit≤ tt, (lit≤ tt, (refl, refl))))
+in_table (Lists Last) = (lit≤ tt, (lit≤ tt, (lit≤ tt, (refl, refl))))
+in_table (Lists Succ) = (lit≤ tt, (lit≤ tt, (lit≤ tt, (refl, refl))))
+in_table (Lists Pred) = (lit≤ tt, (lit≤ tt, (lit≤ tt, (refl, refl))))
+in_table (Lists FindName) = (lit≤ tt, (lit≤ tt, (lit≤ tt, (refl, refl))))
+in_table (Memory AllocMem) = (lit≤ tt, (lit≤ tt, (lit≤ tt, (refl, refl))))
+in_table (Memory FreeMem) = (lit≤ tt, (lit≤ tt, (lit≤ tt, (refl, refl))))
+in_table (Memory AvailMem) = (lit≤ tt, (lit≤ tt, (lit≤ tt, (refl, refl))))
+in_table (Ports CreateMsgPort) = (lit≤ tt, (lit≤ tt, (lit≤ tt, (refl, refl))))
+in_table (Ports DeleteMsgPort) = (lit≤ tt, (lit≤ tt, (lit≤ tt, (refl, refl))))
+in_table (Ports AddPort) = (lit≤ tt, (lit≤ tt, (lit≤ tt, (refl, refl))))
+in_table (Ports RemPort) = (lit≤ tt, (lit≤ tt, (lit≤ tt, (refl, refl))))
+in_table (Ports FindPort) = (lit≤ tt, (lit≤ tt, (lit≤ tt, (refl, refl))))
+in_table (Ports PortSignal) = (lit≤ tt, (lit≤ tt, (lit≤ tt, (refl, refl))))
+in_table (Ports PortCause) = (lit≤ tt, (lit≤ tt, (lit≤ tt, (refl, refl))))
+in_table (Ports PortIgnore) = (lit≤ tt, (lit≤ tt, (lit≤ tt, (refl, refl))))
+in_table (Ports NewMsg) = (lit≤ tt, (lit≤ tt, (lit≤ tt, (refl, refl))))
+in_table (Ports FreeMsg) = (lit≤ tt, (lit≤ tt, (lit≤ tt, (refl, refl))))
+in_table (Ports MsgWord) = (lit≤ tt, (lit≤ tt, (lit≤ tt, (refl, refl))))
+in_table (Ports SetMsgWord) = (lit≤ tt, (lit≤ tt, (lit≤ tt, (refl, refl))))
+in_table (Ports MsgType) = (lit≤ tt, (lit≤ tt, (lit≤ tt, (refl, refl))))
+in_table (Ports PutMsg) = (lit≤ tt, (lit≤ tt, (lit≤ tt, (refl, refl))))
+in_table (Ports GetMsg) = (lit≤ tt, (lit≤ tt, (lit≤ tt, (refl, refl))))
+in_table (Ports WaitPort) = (lit≤ tt, (lit≤ tt, (lit≤ tt, (refl, refl))))
+in_table (Ports ReplyMsg) = (lit≤ tt, (lit≤ tt, (lit≤ tt, (refl, refl))))
+in_table (Semaphores NewSem) = (lit≤ tt, (lit≤ tt, (lit≤ tt, (refl, refl))))
+in_table (Semaphores FreeSem) = (lit≤ tt, (lit≤ tt, (lit≤ tt, (refl, refl))))
+in_table (Semaphores ObtainSemaphore) = (lit≤ tt, (lit≤ tt, (lit≤ tt, (refl, refl))))
+in_table (Semaphores AttemptSemaphore) = (lit≤ tt, (lit≤ tt, (lit≤ tt, (refl, refl))))
+in_table (Semaphores ReleaseSemaphore) = (lit≤ tt, (lit≤ tt, (lit≤ tt, (refl, refl))))
+in_table (Interrupts Cause) = (lit≤ tt, (lit≤ tt, (lit≤ tt, (refl, refl))))
+in_table (Libraries OpenLibrary) = (lit≤ tt, (lit≤ tt, (lit≤ tt, (refl, refl))))
+in_table (Libraries CloseLibrary) = (lit≤ tt, (lit≤ tt, (lit≤ tt, (refl, refl))))
+in_table (Libraries RemLibrary) = (lit≤ tt, (lit≤ tt, (lit≤ tt, (refl, refl))))
+in_table (Libraries LibOpenCnt) = (lit≤ tt, (lit≤ tt, (lit≤ tt, (refl, refl))))
+in_table (Requests CreateIORequest) = (lit≤ tt, (lit≤ tt, (lit≤ tt, (refl, refl))))
+in_table (Requests DeleteIORequest) = (lit≤ tt, (lit≤ tt, (lit≤ tt, (refl, refl))))
+in_table (Requests OpenDevice) = (lit≤ tt, (lit≤ tt, (lit≤ tt, (refl, refl))))
+in_table (Requests CloseDevice) = (lit≤ tt, (lit≤ tt, (lit≤ tt, (refl, refl))))
+in_table (Requests SetIO) = (lit≤ tt, (lit≤ tt, (lit≤ tt, (refl, refl))))
+in_table (Requests DoIO) = (lit≤ tt, (lit≤ tt, (lit≤ tt, (refl, refl))))
+in_table (Requests SendIO) = (lit≤ tt, (lit≤ tt, (lit≤ tt, (refl, refl))))
+in_table (Requests CheckIO) = (lit≤ tt, (lit≤ tt, (lit≤ tt, (refl, refl))))
+in_table (Requests WaitIO) = (lit≤ tt, (lit≤ tt, (lit≤ tt, (refl, refl))))
+in_table (Requests AbortIO) = (lit≤ tt, (lit≤ tt, (lit≤ tt, (refl, refl))))
+in_table (Requests IOSecs) = (lit≤ tt, (lit≤ tt, (lit≤ tt, (refl, refl))))
+in_table (Requests IOMicros) = (lit≤ tt, (lit≤ tt, (lit≤ tt, (refl, refl))))
+in_table (Requests IOError) = (lit≤ tt, (lit≤ tt, (lit≤ tt, (refl, refl))))
+in_table (Requests IOFlags) = (lit≤ tt, (lit≤ tt, (lit≤ tt, (refl, refl))))
+
 pub few_kinds : (w : Word) → length (kinds w) ≤ 4
-few_kinds (Plain Set) = lit≤ tt
-few_kinds (Plain Add) = lit≤ tt
-few_kinds (Plain Sub) = lit≤ tt
-few_kinds (Plain And) = lit≤ tt
-few_kinds (Plain Or) = lit≤ tt
-few_kinds (Plain Jump) = lit≤ tt
-few_kinds (Plain JumpZ) = lit≤ tt
-few_kinds (Plain JumpNZ) = lit≤ tt
-few_kinds (Plain Print) = lit≤ tt
-few_kinds (Signals AllocSignal) = lit≤ tt
-few_kinds (Signals FreeSignal) = lit≤ tt
-few_kinds (Signals SetSignal) = lit≤ tt
-few_kinds (Signals Signal) = lit≤ tt
-few_kinds (Signals Wait) = lit≤ tt
-few_kinds (Nesting Forbid) = lit≤ tt
-few_kinds (Nesting Permit) = lit≤ tt
-few_kinds (Nesting Disable) = lit≤ tt
-few_kinds (Nesting Enable) = lit≤ tt
-few_kinds (Tasks SetTaskPri) = lit≤ tt
-few_kinds (Tasks AddTask) = lit≤ tt
-few_kinds (Tasks RemTask) = lit≤ tt
-few_kinds (Tasks FindTask) = lit≤ tt
-few_kinds (Lists NewList) = lit≤ tt
-few_kinds (Lists FreeList) = lit≤ tt
-few_kinds (Lists NewNode) = lit≤ tt
-few_kinds (Lists FreeNode) = lit≤ tt
-few_kinds (Lists AddHead) = lit≤ tt
-few_kinds (Lists AddTail) = lit≤ tt
-few_kinds (Lists Enqueue) = lit≤ tt
-few_kinds (Lists Insert) = lit≤ tt
-few_kinds (Lists Remove) = lit≤ tt
-few_kinds (Lists RemHead) = lit≤ tt
-few_kinds (Lists RemTail) = lit≤ tt
-few_kinds (Lists First) = lit≤ tt
-few_kinds (Lists Last) = lit≤ tt
-few_kinds (Lists Succ) = lit≤ tt
-few_kinds (Lists Pred) = lit≤ tt
-few_kinds (Lists FindName) = lit≤ tt
-few_kinds (Memory AllocMem) = lit≤ tt
-few_kinds (Memory FreeMem) = lit≤ tt
-few_kinds (Memory AvailMem) = lit≤ tt
-few_kinds (Ports CreateMsgPort) = lit≤ tt
-few_kinds (Ports DeleteMsgPort) = lit≤ tt
-few_kinds (Ports AddPort) = lit≤ tt
-few_kinds (Ports RemPort) = lit≤ tt
-few_kinds (Ports FindPort) = lit≤ tt
-few_kinds (Ports PortSignal) = lit≤ tt
-few_kinds (Ports PortCause) = lit≤ tt
-few_kinds (Ports PortIgnore) = lit≤ tt
-few_kinds (Ports NewMsg) = lit≤ tt
-few_kinds (Ports FreeMsg) = lit≤ tt
-few_kinds (Ports MsgWord) = lit≤ tt
-few_kinds (Ports SetMsgWord) = lit≤ tt
-few_kinds (Ports MsgType) = lit≤ tt
-few_kinds (Ports PutMsg) = lit≤ tt
-few_kinds (Ports GetMsg) = lit≤ tt
-few_kinds (Ports WaitPort) = lit≤ tt
-few_kinds (Ports ReplyMsg) = lit≤ tt
-few_kinds (Semaphores NewSem) = lit≤ tt
-few_kinds (Semaphores FreeSem) = lit≤ tt
-few_kinds (Semaphores ObtainSemaphore) = lit≤ tt
-few_kinds (Semaphores AttemptSemaphore) = lit≤ tt
-few_kinds (Semaphores ReleaseSemaphore) = lit≤ tt
-few_kinds (Interrupts Cause) = lit≤ tt
-few_kinds (Libraries OpenLibrary) = lit≤ tt
-few_kinds (Libraries CloseLibrary) = lit≤ tt
-few_kinds (Libraries RemLibrary) = lit≤ tt
-few_kinds (Libraries LibOpenCnt) = lit≤ tt
-few_kinds (Requests CreateIORequest) = lit≤ tt
-few_kinds (Requests DeleteIORequest) = lit≤ tt
-few_kinds (Requests OpenDevice) = lit≤ tt
-few_kinds (Requests CloseDevice) = lit≤ tt
-few_kinds (Requests SetIO) = lit≤ tt
-few_kinds (Requests DoIO) = lit≤ tt
-few_kinds (Requests SendIO) = lit≤ tt
-few_kinds (Requests CheckIO) = lit≤ tt
-few_kinds (Requests WaitIO) = lit≤ tt
-few_kinds (Requests AbortIO) = lit≤ tt
-few_kinds (Requests IOSecs) = lit≤ tt
-few_kinds (Requests IOMicros) = lit≤ tt
-few_kinds (Requests IOError) = lit≤ tt
-few_kinds (Requests IOFlags) = lit≤ tt
+few_kinds w = (in_table w).0
 
--- a word is the word of its text
+pub one_name : (w : Word) → count_by may_be_name (kinds w) ≤ 1
+one_name w = (in_table w).1.0
+
+pub word_short : (w : Word) → length (word_text w) ≤ 31
+word_short w = (in_table w).1.1.0
+
 pub word_known : (w : Word) → word_of (word_text w) ≡ Some w
-word_known (Plain Set) = refl
-word_known (Plain Add) = refl
-word_known (Plain Sub) = refl
-word_known (Plain And) = refl
-word_known (Plain Or) = refl
-word_known (Plain Jump) = refl
-word_known (Plain JumpZ) = refl
-word_known (Plain JumpNZ) = refl
-word_known (Plain Print) = refl
-word_known (Signals AllocSignal) = refl
-word_known (Signals FreeSignal) = refl
-word_known (Signals SetSignal) = refl
-word_known (Signals Signal) = refl
-word_known (Signals Wait) = refl
-word_known (Nesting Forbid) = refl
-word_known (Nesting Permit) = refl
-word_known (Nesting Disable) = refl
-word_known (Nesting Enable) = refl
-word_known (Tasks SetTaskPri) = refl
-word_known (Tasks AddTask) = refl
-word_known (Tasks RemTask) = refl
-word_known (Tasks FindTask) = refl
-word_known (Lists NewList) = refl
-word_known (Lists FreeList) = refl
-word_known (Lists NewNode) = refl
-word_known (Lists FreeNode) = refl
-word_known (Lists AddHead) = refl
-word_known (Lists AddTail) = refl
-word_known (Lists Enqueue) = refl
-word_known (Lists Insert) = refl
-word_known (Lists Remove) = refl
-word_known (Lists RemHead) = refl
-word_known (Lists RemTail) = refl
-word_known (Lists First) = refl
-word_known (Lists Last) = refl
-word_known (Lists Succ) = refl
-word_known (Lists Pred) = refl
-word_known (Lists FindName) = refl
-word_known (Memory AllocMem) = refl
-word_known (Memory FreeMem) = refl
-word_known (Memory AvailMem) = refl
-word_known (Ports CreateMsgPort) = refl
-word_known (Ports DeleteMsgPort) = refl
-word_known (Ports AddPort) = refl
-word_known (Ports RemPort) = refl
-word_known (Ports FindPort) = refl
-word_known (Ports PortSignal) = refl
-word_known (Ports PortCause) = refl
-word_known (Ports PortIgnore) = refl
-word_known (Ports NewMsg) = refl
-word_known (Ports FreeMsg) = refl
-word_known (Ports MsgWord) = refl
-word_known (Ports SetMsgWord) = refl
-word_known (Ports MsgType) = refl
-word_known (Ports PutMsg) = refl
-word_known (Ports GetMsg) = refl
-word_known (Ports WaitPort) = refl
-word_known (Ports ReplyMsg) = refl
-word_known (Semaphores NewSem) = refl
-word_known (Semaphores FreeSem) = refl
-word_known (Semaphores ObtainSemaphore) = refl
-word_known (Semaphores AttemptSemaphore) = refl
-word_known (Semaphores ReleaseSemaphore) = refl
-word_known (Interrupts Cause) = refl
-word_known (Libraries OpenLibrary) = refl
-word_known (Libraries CloseLibrary) = refl
-word_known (Libraries RemLibrary) = refl
-word_known (Libraries LibOpenCnt) = refl
-word_known (Requests CreateIORequest) = refl
-word_known (Requests DeleteIORequest) = refl
-word_known (Requests OpenDevice) = refl
-word_known (Requests CloseDevice) = refl
-word_known (Requests SetIO) = refl
-word_known (Requests DoIO) = refl
-word_known (Requests SendIO) = refl
-word_known (Requests CheckIO) = refl
-word_known (Requests WaitIO) = refl
-word_known (Requests AbortIO) = refl
-word_known (Requests IOSecs) = refl
-word_known (Requests IOMicros) = refl
-word_known (Requests IOError) = refl
-word_known (Requests IOFlags) = refl
+word_known w = (in_table w).1.1.1.0
 
--- a word begins with no small letter
 pub word_is_capital : (w : Word) → nat_le 97 (slice_index (word_text w) 0) ≡ false
-word_is_capital (Plain Set) = refl
-word_is_capital (Plain Add) = refl
-word_is_capital (Plain Sub) = refl
-word_is_capital (Plain And) = refl
-word_is_capital (Plain Or) = refl
-word_is_capital (Plain Jump) = refl
-word_is_capital (Plain JumpZ) = refl
-word_is_capital (Plain JumpNZ) = refl
-word_is_capital (Plain Print) = refl
-word_is_capital (Signals AllocSignal) = refl
-word_is_capital (Signals FreeSignal) = refl
-word_is_capital (Signals SetSignal) = refl
-word_is_capital (Signals Signal) = refl
-word_is_capital (Signals Wait) = refl
-word_is_capital (Nesting Forbid) = refl
-word_is_capital (Nesting Permit) = refl
-word_is_capital (Nesting Disable) = refl
-word_is_capital (Nesting Enable) = refl
-word_is_capital (Tasks SetTaskPri) = refl
-word_is_capital (Tasks AddTask) = refl
-word_is_capital (Tasks RemTask) = refl
-word_is_capital (Tasks FindTask) = refl
-word_is_capital (Lists NewList) = refl
-word_is_capital (Lists FreeList) = refl
-word_is_capital (Lists NewNode) = refl
-word_is_capital (Lists FreeNode) = refl
-word_is_capital (Lists AddHead) = refl
-word_is_capital (Lists AddTail) = refl
-word_is_capital (Lists Enqueue) = refl
-word_is_capital (Lists Insert) = refl
-word_is_capital (Lists Remove) = refl
-word_is_capital (Lists RemHead) = refl
-word_is_capital (Lists RemTail) = refl
-word_is_capital (Lists First) = refl
-word_is_capital (Lists Last) = refl
-word_is_capital (Lists Succ) = refl
-word_is_capital (Lists Pred) = refl
-word_is_capital (Lists FindName) = refl
-word_is_capital (Memory AllocMem) = refl
-word_is_capital (Memory FreeMem) = refl
-word_is_capital (Memory AvailMem) = refl
-word_is_capital (Ports CreateMsgPort) = refl
-word_is_capital (Ports DeleteMsgPort) = refl
-word_is_capital (Ports AddPort) = refl
-word_is_capital (Ports RemPort) = refl
-word_is_capital (Ports FindPort) = refl
-word_is_capital (Ports PortSignal) = refl
-word_is_capital (Ports PortCause) = refl
-word_is_capital (Ports PortIgnore) = refl
-word_is_capital (Ports NewMsg) = refl
-word_is_capital (Ports FreeMsg) = refl
-word_is_capital (Ports MsgWord) = refl
-word_is_capital (Ports SetMsgWord) = refl
-word_is_capital (Ports MsgType) = refl
-word_is_capital (Ports PutMsg) = refl
-word_is_capital (Ports GetMsg) = refl
-word_is_capital (Ports WaitPort) = refl
-word_is_capital (Ports ReplyMsg) = refl
-word_is_capital (Semaphores NewSem) = refl
-word_is_capital (Semaphores FreeSem) = refl
-word_is_capital (Semaphores ObtainSemaphore) = refl
-word_is_capital (Semaphores AttemptSemaphore) = refl
-word_is_capital (Semaphores ReleaseSemaphore) = refl
-word_is_capital (Interrupts Cause) = refl
-word_is_capital (Libraries OpenLibrary) = refl
-word_is_capital (Libraries CloseLibrary) = refl
-word_is_capital (Libraries RemLibrary) = refl
-word_is_capital (Libraries LibOpenCnt) = refl
-word_is_capital (Requests CreateIORequest) = refl
-word_is_capital (Requests DeleteIORequest) = refl
-word_is_capital (Requests OpenDevice) = refl
-word_is_capital (Requests CloseDevice) = refl
-word_is_capital (Requests SetIO) = refl
-word_is_capital (Requests DoIO) = refl
-word_is_capital (Requests SendIO) = refl
-word_is_capital (Requests CheckIO) = refl
-word_is_capital (Requests WaitIO) = refl
-word_is_capital (Requests AbortIO) = refl
-word_is_capital (Requests IOSecs) = refl
-word_is_capital (Requests IOMicros) = refl
-word_is_capital (Requests IOError) = refl
-word_is_capital (Requests IOFlags) = refl
+word_is_capital w = (in_table w).1.1.1.1
