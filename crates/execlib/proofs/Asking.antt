@@ -6,7 +6,6 @@ use Rattle.std.specs.Option.{option_map, option_map_or}
 use Rattle.std.specs.Ordering.{nat_cmp}
 use Rattle.std.specs.FinMap.{nat_cmp-IsAntisymmetric}
 use Rattle.std.specs.FinMap.Entries.{find-where_key}
-use Rattle.std.proofs.lemmas.List.{length-set}
 use Rattle.execlist.proofs.Pools.{slot_known, slot_other, slot_same}
 use Rattle.memlist.specs.Blocks.{Blocks, block_at, freed}
 use Rattle.memlist.specs.Fit.{fit}
@@ -154,34 +153,12 @@ module _ (size reqs : ℕ) (l : Lent) where
   asking_known = asking_keeps (λ (n : Lent). n.libraries.known ≡ l.libraries.known)
       (λ i n same. ways (λ (n : Lent). n.libraries.known ≡ l.libraries.known) i n same (λ _ _. same) (λ _ _. same)) size reqs l refl
 
-  pub asking_asks : (after_asking size reqs l).libraries.asks ≡ l.libraries.asks
-  asking_asks = asking_keeps (λ (n : Lent). n.libraries.asks ≡ l.libraries.asks)
-      (λ i n same. ways (λ (n : Lent). n.libraries.asks ≡ l.libraries.asks) i n same (λ _ _. same) (λ _ _. same)) size reqs l refl
-
-  pub asking_each : length (after_asking size reqs l).libraries.loaded ≡ length l.libraries.loaded
-  asking_each = asking_keeps (λ (n : Lent). length n.libraries.loaded ≡ length l.libraries.loaded)
-      (λ i n same. ways (λ (n : Lent). length n.libraries.loaded ≡ length l.libraries.loaded) i n same
-      (λ _ _. length-set n.libraries.loaded i _ ∙ same) (λ _ _. length-set n.libraries.loaded i _ ∙ same)) size reqs l refl
-
   pub asking_regions : (after_asking size reqs l).memory.regions ≡ l.memory.regions
   asking_regions = asking_keeps (λ (n : Lent). n.memory.regions ≡ l.memory.regions)
       (λ i n same. ways (λ (n : Lent). n.memory.regions ≡ l.memory.regions) i n same (λ _ _. same) (λ _ _. same)) size reqs l refl
 
-  pub asking_lies : AreLent l → AreLent (after_asking size reqs l)
-  asking_lies = asking_keeps AreLent lies_giving size reqs l
-
   pub asking_absent : (i : ℕ) → IsAbsent i l → IsAbsent i (after_asking size reqs l)
   asking_absent i = asking_keeps (IsAbsent i) (λ j n absent. absent_giving i j n absent) size reqs l
-
-  -- none are asked
-  pub none_asked : l.libraries.asks && not (nat_eq size 0) ≡ false → after_asking size reqs l ≡ l
-  unfolding after_asking
-  none_asked off = ap (λ b. cond b (asked_each size reqs (numbers (length l.libraries.known)) l) l) off
-
-  -- all are asked
-  pub all_asked : l.libraries.asks && not (nat_eq size 0) ≡ true → after_asking size reqs l ≡ asked_each size reqs (numbers (length l.libraries.known)) l
-  unfolding after_asking
-  all_asked on = ap (λ b. cond b (asked_each size reqs (numbers (length l.libraries.known)) l) l) on
 
 -- once the block fits, no other is asked
 pub fitting_asked : (size reqs : ℕ) (asked : List ℕ) (l : Lent) → fits size reqs l.memory ≡ true → asked_each size reqs asked l ≡ l
@@ -221,13 +198,6 @@ module _ (i : ℕ) (l : Lent) where
         → loaded_at i (cond (is_some o) l (after_asking (library_at i l.libraries).size public_memory l)).libraries ≡ loaded_at i l.libraries
     by_loaded None absent = asking_absent (library_at i l.libraries).size public_memory l i absent ∙ sym absent
     by_loaded (Some loaded) is = refl
-
-  pub ready_known : (ready_to_load i l).libraries.known ≡ l.libraries.known
-  ready_known = elim (is_loaded i l.libraries)
-      as (λ b. (cond b l (after_asking (library_at i l.libraries).size public_memory l)).libraries.known ≡ l.libraries.known) [
-        | true ↦ refl
-        | false ↦ asking_known (library_at i l.libraries).size public_memory l
-      ]
 
   module _ (is : loaded_at i l.libraries ≡ None) where
     abbrev asked : Lent

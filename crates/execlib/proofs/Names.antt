@@ -1,5 +1,5 @@
 -- A name is found among the nodes of all libraries exactly if the first library of that name is; and how these nodes are made.
-use Rattle.std.proofs.Common.{◌≡◌, ℕ, zero, suc, ◌+◌, ◌<◌, ◌≤◌, Bool, cond, List, [], ◌∷◌, ◌++◌, length, map, replicate, slice_index_or, slice_set, take, refl, sym, ap, ◌∙◌, arith, Option, Some, None}
+use Rattle.std.proofs.Common.{◌≡◌, ℕ, zero, suc, ◌+◌, ◌<◌, ◌≤◌, Bool, cond, List, [], ◌∷◌, ◌++◌, length, map, slice_index_or, slice_set, take, refl, sym, ap, ◌∙◌, arith, Option, Some, None}
 use Rattle.std.specs.Prelude.{bytes_eq, find}
 use Rattle.std.specs.List.{position_from, range_with_len}
 use Rattle.std.proofs.lemmas.List.{get_or-map, get_or-set_other, take_more, take_more_set}
@@ -42,12 +42,6 @@ one_more n =
     let more : n + 1 ≡ suc n = omega arith in
     let place : 0 + n ≡ n = omega arith in
     ap (range_with_len 0) more ∙ one_more_from 0 n ∙ ap (λ k. range_with_len 0 n ++ k ∷ []) place
-
--- a node of no list is in none
-pub stands_nowhere : (n t : ℕ) → home (replicate n None) t ≡ None
-stands_nowhere zero t = refl
-stands_nowhere (suc n) zero = refl
-stands_nowhere (suc n) (suc t) = stands_nowhere n t
 
 -- the nodes after the one that is linked are where they were
 pub still_nowhere : (homes : List (Option ℕ)) (i : ℕ) → ((t : ℕ) → i ≤ t → home homes t ≡ None)
