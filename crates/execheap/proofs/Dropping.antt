@@ -4,7 +4,6 @@ use Rattle.std.specs.Prelude.{Option, Some, None, if◌then◌else◌, slice_set
 use Rattle.std.specs.List.{list_any}
 use Rattle.std.proofs.Math.Path.{fun_ext}
 use Rattle.std.proofs.lemmas.Simd.{map-map}
-use Rattle.std.proofs.lemmas.List.{length-set}
 use Rattle.execlist.specs.Order.{without}
 use Rattle.execlist.specs.Lists.{is_at, times}
 use Rattle.execlist.proofs.Pools.{item_of}
@@ -63,13 +62,6 @@ module _ {m : Semaphores} (held : sems.IsSound m) (t : ℕ) where
 
   pub sem_beside : (k : ℕ) → sem_at k (sems.dropped t m) ≡ sem_at k m
   sem_beside k = sem_from (waits_at t m) k
-
-  queues_from : (o : Option ℕ) → length (dropped_from o t m).queues ≡ length m.queues
-  queues_from None = refl
-  queues_from (Some j) = length-set m.queues j (without t (waiters_of j m))
-
-  pub queues_kept : length (sems.dropped t m).queues ≡ length m.queues
-  queues_kept = queues_from (waits_at t m)
 
 -- ---- a task that is dropped
 

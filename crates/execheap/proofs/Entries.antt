@@ -2,7 +2,7 @@
 use Rattle.std.proofs.Common.{◌≡◌, ℕ, ◌+◌, ◌<◌, List, [], ◌∷◌, Bool, true, false, cond, map, refl, ap, sym, ◌∙◌, subst, arith}
 use Rattle.std.specs.Prelude.{Option, Some, is_some, unwrap_or}
 use Rattle.std.specs.Option.{option_map}
-use Rattle.std.specs.List.{AllByRecursion, filter}
+use Rattle.std.specs.List.{AllByRecursion}
 use Rattle.std.specs.Ordering.{nat_cmp, eq_by_cmp, is_eq}
 use Rattle.std.specs.declared.cmp.Ordering.{Ordering}
 use Rattle.std.specs.declared.cmp.Ordering.TheVariants.{Less, Equal, Greater}
@@ -66,10 +66,6 @@ module _ {A : Type 0} where
   map_same f g [] all = refl
   map_same f g (x ∷ xs) all = ap (λ y. y ∷ map f xs) all.0 ∙ ap (λ ys. g x ∷ ys) (map_same f g xs all.1)
 
-  pub filter_same : (p q : A → Bool) (xs : List A) → AllByRecursion (λ x. p x ≡ q x) xs → filter p xs ≡ filter q xs
-  filter_same p q [] all = refl
-  filter_same p q (x ∷ xs) all = ap (λ b. cond b (x ∷ filter p xs) (filter p xs)) all.0 ∙ ap (λ ys. cond (q x) (x ∷ ys) ys) (filter_same p q xs all.1)
-
 -- ---- entries whose values are shown as others
 
 module _ {V W : Type 0} (g : V → W) where
@@ -108,26 +104,6 @@ module _ {V W : Type 0} (g : V → W) where
       ap (λ z. cond (p e.0) ((e.0, g e.1) ∷ z) z) (where_key_shown p rest) ∙ kept_in (p e.0) e (where_key nat_cmp p rest)
 
 -- ---- what holds of every entry
-
-module _ {V : Type 0} (P : ℕ × V → Type 0) where
-  all_in : (o : Ordering) (a : ℕ) (v : V) (e : ℕ × V) (rest tail : List (ℕ × V)) → P (a, v) → P (e.0, v) → AllByRecursion P (e ∷ rest) → AllByRecursion P (e ∷ tail)
-      → AllByRecursion P (by_order o ((a, v) ∷ e ∷ rest) ((e.0, v) ∷ rest) (e ∷ tail))
-  all_in Less a v e rest tail here there all more = (here, all)
-  all_in Equal a v e rest tail here there all more = (there, all.1)
-  all_in Greater a v e rest tail here there all more = more
-
-  -- an entry that is put, wherever it goes
-  pub all_put : (a : ℕ) (v : V) (entries : List (ℕ × V)) → ((b : ℕ) → P (b, v)) → AllByRecursion P entries → AllByRecursion P (put nat_cmp a v entries)
-  all_put a v [] here all = (here a, tt)
-  all_put a v (e ∷ rest) here all = all_in (nat_cmp a e.0) a v e rest (put nat_cmp a v rest) (here a) (here e.0) all (all.0, all_put a v rest here all.1)
-
-  all_kept : (b : Bool) (e : ℕ × V) (rest : List (ℕ × V)) → P e → AllByRecursion P rest → AllByRecursion P (cond b (e ∷ rest) rest)
-  all_kept true e rest here all = (here, all)
-  all_kept false e rest here all = all
-
-  pub all_where_key : (p : ℕ → Bool) (entries : List (ℕ × V)) → AllByRecursion P entries → AllByRecursion P (where_key nat_cmp p entries)
-  all_where_key p [] all = tt
-  all_where_key p (e ∷ rest) all = all_kept (p e.0) e (where_key nat_cmp p rest) all.0 (all_where_key p rest all.1)
 
 -- the entry that an address finds
 module _ {V : Type 0} (P : ℕ × V → Type 0) where

@@ -1,7 +1,7 @@
 -- The first numbers of a pool, and the messages of the table among them.
 use Rattle.std.proofs.Common.{◌≡◌, ℕ, zero, suc, ◌<◌, List, [], ◌∷◌, map, slice_set, refl, ap, sym, ◌∙◌, arith}
 use Rattle.std.specs.Prelude.{Some, None, Option, is_some, take, IsTrue, IsSome}
-use Rattle.execlist.specs.Pool.{Pooled, given, given_at, next_number, released, slot, written}
+use Rattle.execlist.specs.Pool.{Pooled, given, given_at, next_number, released, slot}
 use Rattle.execlist.proofs.Pools.{item_of, slot_known}
 use Rattle.msgport.specs.declared.message.Message.{Message}
 use Rattle.msgport.specs.Ports.{is_message}
@@ -29,9 +29,6 @@ module _ {A : Type 0} where
   slot_front (suc k) [] n small = refl
   slot_front (suc k) (x ∷ xs) zero small = refl
   slot_front (suc k) (x ∷ xs) (suc n) small = slot_front k xs n (omega (arith, small))
-
-  pub front_written : (k : ℕ) (q : Pooled A) (n : ℕ) (x : A) → front k (written n x q) ≡ written n x (front k q)
-  front_written k q n x = ap (λ slots. record { slots = slots; free = q.free }) (take_written k q.slots n (Some x))
 
   front_given_at : (k : ℕ) (o : Option ℕ) (x : A) (q : Pooled A) → front k (given_at o x q) ≡ given_at o x (front k q)
   front_given_at k None x q = refl

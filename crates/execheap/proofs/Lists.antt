@@ -1,12 +1,11 @@
 -- Lists made and freed.
-use Rattle.std.proofs.Common.{◌≡◌, ℕ, suc, List, [], ◌∷◌, Bool, true, false, cond, map, refl, ap, sym, ◌∙◌, arith}
+use Rattle.std.proofs.Common.{◌≡◌, ℕ, suc, List, [], ◌∷◌, true, false, cond, map, refl, ap, sym, ◌∙◌, arith}
 use Rattle.std.specs.Prelude.{Some, None, Option, is_some, if◌then◌else◌, nat_eq}
 use Rattle.memlist.proofs.Answered.{nat_eq-same}
 use Rattle.execlist.specs.Lists.{home, is_at, sequence, times}
 use Rattle.execmodel.specs.State.{ListHead}
 use Rattle.execmodel.specs.Memory.{freed, placed}
 use Rattle.execheap.proofs.Tagging.{either_number}
-use Rattle.execheap.specs.declared.tag.Kind.{Kind}
 use Rattle.execheap.specs.declared.tag.Kind.TheVariants as variant
 use Rattle.execheap.specs.Table.{Tabled, slots_of}
 use Rattle.execheap.specs.Numbered.{Numbered, IsKept, address_in, shown_memory}
@@ -17,10 +16,6 @@ use Rattle.execheap.proofs.Made.{IsMade, IsFreed, IsLoose, own_kept, vacant, apa
 -- what every list space reports of sequences and homes
 abbrev pub Stands : Numbered → Type 0
 Stands s = (h n : ℕ) → times n (sequence s.sequences h) ≡ (if is_at (home s.homes n) h then 1 else 0)
-
-abbrev is_node_kind : Kind → Bool
-is_node_kind variant.Node = true
-is_node_kind _ = false
 
 -- a sequence without a number is empty
 pub none_there : (xs : List ℕ) → ((m : ℕ) → times m xs ≡ 0) → xs ≡ []

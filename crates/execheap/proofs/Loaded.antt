@@ -7,7 +7,7 @@ use Rattle.std.proofs.lemmas.Bool.{le-ltb}
 use Rattle.std.proofs.lemmas.List.{length-set}
 use Rattle.memlist.proofs.Answered.{cases_eq}
 use Rattle.execlib.specs.declared.library.Loaded.{Loaded}
-use Rattle.execlib.specs.Libraries.{Description, Libraries, base_of, can_open, is_loaded, library_tag, library_to_open, loaded_at, number_of, only_if, with_loaded}
+use Rattle.execlib.specs.Libraries.{Description, Libraries, base_of, can_open, library_tag, library_to_open, loaded_at, number_of, only_if, with_loaded}
 use Rattle.execlist.proofs.Pools.{slot_known, slot_other, slot_same}
 use Rattle.execheap.proofs.Counting.{tally}
 use Rattle.execheap.proofs.Entries.{some_same}
@@ -36,9 +36,6 @@ loaded_of None base is = let bad : false ≡ true = ap is_some is in cc
 loaded_of (Some l) base is = (l, (refl, some_same is))
 
 module _ (i : ℕ) (m : Libraries) where
-  pub lies_loaded : (base : ℕ) → base_at i m ≡ Some base → is_loaded i m ≡ true
-  lies_loaded base lies = ap is_some (loaded_of (loaded_at i m) base lies).1.0
-
   pub lies_at : (base : ℕ) → base_at i m ≡ Some base → base_of i m ≡ base
   lies_at base lies = let l = loaded_of (loaded_at i m) base lies in ap (λ o. option_map_or (λ (l : Loaded). l.base) o 0) l.1.0 ∙ l.1.1
 

@@ -126,15 +126,6 @@ without_absent n (x ∷ xs) none =
 
 -- ---- each member of a sequence
 
--- each member is another node than one that is not there
-pub others_than_absent : (n : ℕ) (xs : List ℕ) → times n xs ≡ 0 → AllByRecursion (λ x. (x == n) ≡ false) xs
-others_than_absent n [] t = tt
-others_than_absent n (x ∷ xs) t = by_case (x == n) t (others_than_absent n xs) where
-  by_case : (b : Bool) → cond b (suc (times n xs)) (times n xs) ≡ 0 → (times n xs ≡ 0 → AllByRecursion (λ y. (y == n) ≡ false) xs)
-      → (b ≡ false) × AllByRecursion (λ y. (y == n) ≡ false) xs
-  by_case true t rest = absurd (omega arith)
-  by_case false t rest = (refl, rest t)
-
 -- what holds of each node that is in the sequence
 pub members : (P : ℕ → Type 0) (xs : List ℕ) → ((x : ℕ) → list_any (λ other. other == x) xs ≡ true → P x) → AllByRecursion P xs
 members P [] holds = tt

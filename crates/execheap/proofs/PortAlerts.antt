@@ -59,10 +59,6 @@ module _ (message : ℕ) (heap : Heap) where
   unfolding loose_alert message_alert
   past_message there = ap (λ b. handle_unless b (link_if (model.is_queued message heap) None)) (is_there (is_message_at message heap) there)
 
-  -- the tests of ReplyMsg after the one of the message
-  abbrev after_message : Option (List ℕ)
-  after_message = link_if (model.is_queued message heap) (reply_port_alert (content_of message heap).reply heap)
-
   -- a message that is refused is so by ReplyMsg
   replied_by_handle : (there linked : Bool) {why : List ℕ} (next : Option (List ℕ)) → handle_unless there (link_if linked None) ≡ Some why
       → handle_unless there (link_if linked next) ≡ Some why

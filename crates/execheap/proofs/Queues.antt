@@ -110,9 +110,6 @@ module _ {s : Numbered} (sound : IsSound s) (space : IsSpace s) (h : ℕ) where
   abbrev nodes : List ℕ
   nodes = map (address_in (places variant.Node s)) (sequence s.sequences h)
 
-  pub first_node : first (part_from None nodes) ≡ option_map (address_in (places variant.Node s)) (first (part_from None (sequence s.sequences h)))
-  first_node = first-map (address_in (places variant.Node s)) (sequence s.sequences h)
-
   pub next_node : (n a : ℕ) → slot (places variant.Node s) n ≡ Some a
       → first (part_from (Some a) nodes) ≡ option_map (address_in (places variant.Node s)) (first (part_from (Some n) (sequence s.sequences h)))
   next_node n a here = after_number (address_in (places variant.Node s)) n a (sequence s.sequences h) (ap (λ o. unwrap_or o 0) here)
@@ -146,9 +143,6 @@ placed_if sound held p (Some m) there = home_placed sound held p m there
 module _ {s : Numbered} (sound : IsSound s) (held : ports.IsSound s.ports) where
   abbrev messages : ℕ → List ℕ
   messages p = map (address_in (message_places s)) (messages_of p s.ports)
-
-  pub first_message : (p : ℕ) → first (part_from None (messages p)) ≡ option_map (address_in (message_places s)) (first (part_from None (messages_of p s.ports)))
-  first_message p = first-map (address_in (message_places s)) (messages_of p s.ports)
 
   pub next_message : (p m a : ℕ) → slot (message_places s) m ≡ Some a
       → first (part_from (Some a) (messages p)) ≡ option_map (address_in (message_places s)) (first (part_from (Some m) (messages_of p s.ports)))

@@ -26,7 +26,7 @@ use Rattle.execheap.specs.Tags.{is_of, is_same, number_in, size_of, tag_of, tagg
 use Rattle.execheap.specs.Table.{Tabled, IsSound, IsTagged, counted, next_object, number_at, object_at_next, place_of, pool_of, slots_of, with_object, without_object}
 use Rattle.execheap.specs.Numbered.{Numbered, object_of, shown_block, shown_entry, shown_heap, shown_library, shown_memory, shown_public, shown_tagged, shown_timer, test_of}
 use Rattle.execheap.proofs.Counting.{all_freed}
-use Rattle.execheap.proofs.Matching.{number_small, other_object}
+use Rattle.execheap.proofs.Matching.{other_object}
 use Rattle.execheap.proofs.Tagging.{cases_kind, read_tag, same_other, same_self}
 use Rattle.execheap.proofs.Blocks.{fit_shown}
 
@@ -106,17 +106,6 @@ object_numbered s kind a number is = object_at_shown s a ∙ by_block (block_at 
       → option_map (λ (block : ℕ × ℕ). shown_tagged s (tagged block.1)) found ≡ Some (object_of kind number s)
   by_block None e = let bad : false ≡ true = ap is_some e in cc
   by_block (Some block) e = ap Some (by_tag (tagged block.1) e)
-
--- the object of a number that lives is what begins at its address
-pub object_shown : (s : Numbered) → IsSound s.table → (kind : Kind) (number a : ℕ) → slot (slots_of kind s.table) number ≡ Some a
-    → object_at a (shown_heap s) ≡ Some (object_of kind number s)
-object_shown s sound kind number a live = object_at_shown s a ∙ by_block (block_at a s.table.memory.blocks) (sound.matched.complete kind number a live) where
-  by_block : (found : Option (ℕ × ℕ)) → option_map (λ (block : ℕ × ℕ). block.1) found ≡ Some (tag_of kind number)
-      → option_map (λ (block : ℕ × ℕ). shown_tagged s (tagged block.1)) found ≡ Some (object_of kind number s)
-  by_block None e = let bad : false ≡ true = ap is_some e in cc
-  by_block (Some block) e =
-      ap (λ tag. Some (shown_tagged s (tagged tag))) (some_same e)
-      ∙ ap (λ x. Some (shown_tagged s x)) (read_tag kind number (number_small sound kind number a live))
 
 -- ---- where an object goes
 

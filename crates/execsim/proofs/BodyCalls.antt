@@ -1,9 +1,8 @@
 -- How the machine follows the body of a software interrupt or of a server.
-use Rattle.std.proofs.Common.{◌≡◌, ℕ, zero, suc, ◌+◌, ◌≤◌, true, false, List, [], ◌∷◌, length, take, Option, None, Some, refl, ap, sym, ◌∙◌, subst, add-one, map}
+use Rattle.std.proofs.Common.{◌≡◌, ℕ, zero, suc, ◌+◌, false, List, [], ◌∷◌, take, Option, None, Some, refl, ap, sym, ◌∙◌, subst, add-one, map}
 use Rattle.std.specs.Prelude.{IfSome, codes, slice_get}
 use Rattle.std.specs.Option.{option_map}
 use Rattle.std.proofs.lemmas.Option.{slice_get-map}
-use Rattle.std.proofs.lemmas.List.{take_all}
 use Rattle.exectrace.specs.Sink.{Tape, Puts}
 use Rattle.exectrace.specs.Trace.{printed_line, Server, Softint}
 use Rattle.exectrace.specs.Trace as trace
@@ -22,7 +21,7 @@ use Rattle.execsim.specs.declared.bodies.Body.{Body}
 use Rattle.execsim.specs.Actions.{does_at_place, softint_body}
 use Rattle.execsim.specs.Agreement.{Seen, Agrees, Follows}
 use Rattle.execsim.specs.Views.{code_of_body}
-use Rattle.execsim.proofs.Following.{andthen-assoc, andthen-quiet, andthen-second, follows_as, follows_known, follows_nothing, follows_quietly, follows_says, follows_then, guarded_going, guarded_stopped, moves_scripts, reads_scripts}
+use Rattle.execsim.proofs.Following.{andthen-assoc, andthen-quiet, andthen-second, follows_as, follows_known, follows_nothing, follows_quietly, follows_says, follows_then, guarded_going, moves_scripts, reads_scripts}
 use Rattle.execsim.proofs.Keeping.{body_keeps}
 
 -- ---- one command
@@ -67,12 +66,6 @@ printed_as {m} {a} {b} name command is puts =
     (follows_says _ (subst (λ w. Puts a b (printed_line (trace.Call name (word_text w) call.arguments trace.Done))) (sym is) puts)))
 
 module _ {m : Seen} (name : List ℕ) (here : Option CommandData) where
-  pub place_stopped : (t : Tape) → m.stopped ≡ true → Follows (does_at_place name here) m m t t
-  place_stopped t stopped = by_case here where
-    by_case : (command : Option CommandData) → Follows (does_at_place name command) m m t t
-    by_case None = follows_nothing m t
-    by_case (Some command) = guarded_stopped t stopped
-
   pub place_empty : (t : Tape) → None ≡ here → Follows (does_at_place name here) m m t t
   place_empty t none = subst (λ command. Follows (does_at_place name command) m m t t) none (follows_nothing m t)
 
@@ -114,11 +107,6 @@ more_commands {m} {n} {o} {a} {b} {c} body name code place is before last = rw a
 
     same_code : (s : State) → Agrees m s → code_of_body body n.bodies ≡ code
     same_code s e = ap (code_of_body body) (same_bodies s e) ∙ sym is
-
-pub all_commands : {m n : Seen} {a b : Tape} (name : List ℕ) (code : List CommandData) (place : ℕ) → length code ≤ place
-    → Follows (runs_body name (take place code)) m n a b → Follows (runs_body name code) m n a b
-all_commands {m} {n} {a} {b} name code place all follows =
-    subst (λ (x : List CommandData). Follows (runs_body name x) m n a b) (take_all place code all) follows
 
 -- ---- a software interrupt, and a server
 

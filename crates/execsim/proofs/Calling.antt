@@ -1,6 +1,6 @@
 -- The calls that commands are.
 use Rattle.std.proofs.Common.{◌≡◌, ℕ, ◌+◌, ◌<◌, List, [], ◌∷◌, ◌++◌, None, Some, refl, ap, sym, ◌∙◌, get_or, length, map, take}
-use Rattle.std.proofs.lemmas.List.{map_push, take-map, take_more, take_more_set}
+use Rattle.std.proofs.lemmas.List.{map_push, take_more, take_more_set}
 use Rattle.std.proofs.Math.ListN.{set}
 use Rattle.std.specs.Prelude.{slice_get}
 use Rattle.taskscript.specs.Commands.{CommandData}
@@ -25,12 +25,6 @@ pub shown_one_more : {A B C : Type 0} (value : B → C) (shown : A → C) (argum
 shown_one_more value shown arguments values k argument made below room there is before =
     ap (map shown) (take_more_set values k made room)
     ∙ shown_more value shown arguments (take k values) made k argument below there is before
-
--- the first of some values, if all of them are shown as the values of all arguments
-pub first_shown : {A B C D : Type 0} (shown : A → C) (value : D → C) (view : B → D) (n : ℕ) (values : List A) (arguments : List B)
-    → map shown values ≡ map (λ a. value (view a)) arguments → map shown (take n values) ≡ map value (map view (take n arguments))
-first_shown shown value view n values arguments e =
-    sym (take-map shown n values) ∙ ap (take n) e ∙ take-map (λ a. value (view a)) n arguments ∙ map-map_as value view (take n arguments)
 
 pub next-kept : (t : ℕ) (scripts : Scripts) (call : Call) → (program_of scripts t).kept ≡ Some call → next_call t scripts ≡ Some call
 unfolding next_call

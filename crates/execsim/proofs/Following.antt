@@ -128,9 +128,6 @@ moves_nowhere m = record { agrees = λ s a. a }
 pub moves_then : {f g : State → State} {m n o : Seen} → Moves f m n → Moves g n o → Moves (λ s. g (f s)) m o
 moves_then {f} p q = record { agrees = λ s a. q.agrees (f s) (p.agrees s a) }
 
-pub moves_as : {f g : State → State} {m n : Seen} → ((s : State) → Agrees m s → f s ≡ g s) → Moves g m n → Moves f m n
-moves_as is moves = record { agrees = λ s a. rw (is s a) (moves.agrees s a) }
-
 -- Actions.
 
 pub follows_as : {f g : State → Outcome} {m n : Seen} {a b : Tape} → ((s : State) → Agrees m s → f s ≡ g s) → Follows g m n a b → Follows f m n a b

@@ -52,9 +52,6 @@ causes_known i m bodies of known =
     by_case true = refl
     by_case false = ap (λ pris. record { caused = enqueue (pri_at pris) m.caused i; latches = m.latches }) of.priorities
 
-pub causes_unknown : (i : ℕ) (m : Seen) → nat_lt i (length m.bodies.softints) ≡ false → m.pending ≡ with_caused by_priority i m.bodies.softints m.pending
-causes_unknown i m unknown = ap (λ (b : Bool). cond (b && not (is_caused i m.pending)) (record m.pending { caused = enqueue (softint_pri m.bodies.softints) m.pending.caused i }) m.pending) (sym unknown)
-
 -- ---- which one is next
 
 module _ {m : Seen} (s : State) (a : Agrees m s) where

@@ -4,7 +4,7 @@ use Rattle.std.proofs.lemmas.List.{take_more}
 use Rattle.std.specs.Prelude.{codes, if◌then◌else◌}
 use Rattle.execlist.specs.Disciplines.{by_arrival, by_priority}
 use Rattle.exectrace.specs.Sink.{Tape, Puts}
-use Rattle.exectrace.specs.Trace.{printed_line, Switch, Idle, Value, Done}
+use Rattle.exectrace.specs.Trace.{printed_line, Value, Done}
 use Rattle.exectrace.specs.Trace as trace
 use Rattle.taskscript.specs.declared.event.Event.{Event}
 use Rattle.taskscript.specs.declared.word.Word.{Word}
@@ -39,13 +39,6 @@ switches_as {m} choice due is follows = follows_as
     (λ s e. ap (λ c. announced c (on_schedule (rescheduled by_arrival) s))
     (sym (switch_of-in_order s.schedule) ∙ ap (switch_of by_priority) (sym e.schedule) ∙ sym due))
     (follows_change (moves_schedule (rescheduled by_arrival) (rescheduled by_priority) rescheduled-in_order is) follows)
-
-pub announces_task : {m : Seen} {a b : Tape} (t : ℕ) → Puts a b (printed_line (Switch (name_of m.schedule t))) → Follows (announced (Some (switch.To t))) m m a b
-announces_task {m} t puts = follows_saying (Switch (name_of m.schedule t))
-    (λ s e. ap Switch (reads_schedule (λ y. name_of y t) (λ y. refl) refl s e)) puts (moves_nowhere m)
-
-pub announces_idle : {m : Seen} {a b : Tape} → Puts a b (printed_line Idle) → Follows (announced (Some switch.Idle)) m m a b
-announces_idle {m} puts = follows_saying Idle (λ s e. refl) puts (moves_nowhere m)
 
 pub announces_none : (m : Seen) (t : Tape) → Follows (announced None) m m t t
 announces_none m t = follows_nothing m t
@@ -121,13 +114,6 @@ step_as acted settled = follows_then acted settled
 pub no_steps : (m : Seen) (t : Tape) → FollowsWhileGood (steps 0) m m t t
 unfolding steps
 no_steps m t = follows_nothing_yet m t
-
-suc_steps : {m n o : Seen} {a b c : Tape} (i : ℕ) → FollowsWhileGood (steps i) m n a b → FollowsWhileGood step n o b c → FollowsWhileGood (steps (suc i)) m o a c
-unfolding steps
-suc_steps i before last = while_good_then before last
-
-pub more_steps : {m n o : Seen} {a b c : Tape} (i : ℕ) → FollowsWhileGood (steps i) m n a b → FollowsWhileGood step n o b c → FollowsWhileGood (steps (i + 1)) m o a c
-more_steps i before last = rw add-one (suc_steps i before last)
 
 -- Run
 

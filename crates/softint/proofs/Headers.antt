@@ -1,5 +1,5 @@
 -- The caused interrupts, kept in a header for each priority, are one sequence by priority.
-use Rattle.std.proofs.Common.{◌≡◌, ◌≢◌, ℕ, zero, suc, ◌+◌, ◌<◌, ◌≤◌, Bool, true, false, cond, not, eqb, List, [], ◌∷◌, ◌++◌, length, replicate, slice_set, refl, sym, ap, ◌∙◌, subst, arith, inl, inr, Option, Some, None, IfSome, map, append_assoc}
+use Rattle.std.proofs.Common.{◌≡◌, ◌≢◌, ℕ, zero, suc, ◌+◌, ◌<◌, ◌≤◌, Bool, true, false, cond, not, eqb, List, [], ◌∷◌, ◌++◌, length, slice_set, refl, sym, ap, ◌∙◌, subst, arith, inl, inr, Option, Some, None, IfSome, map, append_assoc}
 use Rattle.std.specs.Prelude.{◌⊎◌, ℤ, drop, int_lt, is_none, is_some, IsSome}
 use Rattle.std.proofs.lemmas.Bool.{cond-true, cond-false, eq-eqb, ne_eqb, cases_eq}
 use Rattle.std.proofs.lemmas.Int.{ints}
@@ -126,10 +126,6 @@ none_found [] none = refl
 none_found ([] ∷ rest) none = none_found rest (λ k before. none (suc k) (omega (arith, before)))
 none_found ((x ∷ xs) ∷ rest) none = none 0 (omega arith)
 
-pub empty_joined : (n : ℕ) → joined (replicate n []) ≡ []
-empty_joined zero = refl
-empty_joined (suc n) = empty_joined n
-
 -- ---- what comes after one
 
 after_here : (i : ℕ) (xs ys : List ℕ) → 1 ≤ times i xs → part_after i (xs ++ ys) ≡ part_after i xs ++ ys
@@ -182,16 +178,6 @@ below_none (xs ∷ rest) zero none = sym (none_found rest (λ j b. none (suc j) 
 below_none (xs ∷ rest) (suc h) none = below_none rest h (λ j a b. none (suc j) (omega (arith, a)) (omega (arith, b)))
 
 -- ---- homes
-
-pub homeless : (n i : ℕ) → home (replicate n None) i ≡ None
-homeless zero i = refl
-homeless (suc n) zero = refl
-homeless (suc n) (suc i) = homeless n i
-
-pub home_known : (homes : List (Option ℕ)) (i h : ℕ) → home homes i ≡ Some h → i < length homes
-home_known [] i h e = cc
-home_known (x ∷ homes) zero h e = omega arith
-home_known (x ∷ homes) (suc i) h e = omega (arith, home_known homes i h e)
 
 some_is : {h k : ℕ} → Some h ≡ Some k → h ≡ k
 some_is e = cc

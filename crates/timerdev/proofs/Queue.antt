@@ -1,7 +1,7 @@
 -- The requests of a header are by their times, and the first of them is due if any is.
-use Rattle.std.proofs.Common.{◌≡◌, ℕ, suc, ◌<◌, ◌≤◌, Bool, true, false, cond, eqb, List, [], ◌∷◌, slice_set, refl, sym, ap, ◌∙◌, arith, inl, inr, Some, None}
+use Rattle.std.proofs.Common.{◌≡◌, ℕ, suc, ◌<◌, ◌≤◌, Bool, true, false, cond, eqb, List, [], ◌∷◌, slice_set, refl, ap, ◌∙◌, arith, inl, inr, Some, None}
 use Rattle.std.specs.Prelude.{◌⊎◌, ℤ, pos, neg_ℤ, int_lt, nat_le, find, fold, filter}
-use Rattle.std.proofs.lemmas.Bool.{cond-true, cond-false}
+use Rattle.std.proofs.lemmas.Bool.{cond-false}
 use Rattle.std.proofs.lemmas.Int.{ints}
 use Rattle.std.proofs.lemmas.List.{get_or-set_other}
 use Rattle.execlist.specs.Order.{enqueue, first, is_lower, order}
@@ -91,15 +91,6 @@ late dues time least (x ∷ xs) past none =
     let after : time < due_at dues x = omega (arith, past, none x (stands_here x xs)) in
     let no_le : nat_le (due_at dues x) time ≡ false = grind arith in
     cond-false _ _ _ no_le ∙ late dues time least xs past (λ t here. none t (omega (arith, here, stands_later t x xs)))
-
--- the first of those that are due is the first, or there is none
-pub first_found : (dues : List ℕ) (time r : ℕ) (xs : List ℕ) → Some r ≡ first xs → due_at dues r ≤ time
-    → find (λ r. nat_le (due_at dues r) time) xs ≡ Some r
-first_found dues time r [] e l = cc
-first_found dues time r (x ∷ xs) e l =
-    let same : r ≡ x = cc in
-    let due : nat_le (due_at dues r) time ≡ true = grind arith in
-    cond-true _ _ _ (ap (λ k. nat_le (due_at dues k) time) (sym same) ∙ due) ∙ ap Some (sym same)
 
 pub none_found : (dues : List ℕ) (time r : ℕ) (xs : List ℕ) → Rises (due_at dues) xs → Some r ≡ first xs → time < due_at dues r
     → find (λ r. nat_le (due_at dues r) time) xs ≡ None
