@@ -4,28 +4,28 @@ ghost use Rattle.std.specs.Prelude.{◌≡◌, ◌+◌, ◌*◌, ◌≤◌, ◌�
 use std::marker::Model;
 
 /// How many bytes the longest line has of which one argument is quoted.
-const ROOM: usize = 160;
+pub(crate) const ROOM: usize = 160;
 
 /// A text has no room in a line that is being built.
 #[derive(Clone, Copy)]
 pub(crate) struct NoRoom;
 
-/// What is built of a line and is not yet handed over.
+/// What is built of a line and is not yet handed over. Its cells are lent, so that its length can be kept in a register.
 #[derive(Drop)]
-pub(crate) struct Draft {
-    cells: [u8; ROOM],
+pub(crate) struct Draft<'a> {
+    cells: &'a mut [u8; ROOM],
     len: usize,
 }
 
-impl Model for Draft {
+impl<'a> Model for Draft<'a> {
     ghost use Rattle.std.specs.Prelude.{◌≡◌, ℕ, ◌≤◌, length, take};
     ghost use Rattle.arrayvec.specs.ArrayVec.{ArrayVec as Items};
 
     ghost Value = { Items ℕ };
 
-    ghost view = { λ d. record { items = take d.len d.cells } };
+    ghost view = { λ d. record { items = take d.len d.cells.now } };
 
-    ghost invariant = { λ d. d.len ≤ 160 };
+    ghost invariant = { λ d. (d.len ≤ 160) × (d.len ≤ length d.cells.now) };
 }
 
 /// Writes a text over the cells from a place on.
@@ -86,16 +86,13 @@ fn write_text(cells: &mut [u8; ROOM], at: usize, text: &[u8])
     }
 }
 
-impl Draft {
-    /// A line of which nothing is built.
+impl<'a> Draft<'a> {
+    /// A line of which nothing is built, to be built in these cells.
     #[inline(always)]
-    pub(crate) fn new() -> Self
+    pub(crate) fn new(cells: &'a mut [u8; ROOM]) -> Self
         ensures { result.items ≡ [] }
     {
-        Draft {
-            cells: [0; ROOM],
-            len: 0,
-        }
+        Draft { cells, len: 0 }
     }
 
     /// What is built.
@@ -127,7 +124,7 @@ impl Draft {
         requires { length self.old.items + length part.now ≤ 160 }
         ensures { self.new.items ≡ self.old.items ++ part.now }
     {
-        write_at(&mut self.cells, self.len, part);
+        write_at(&mut *self.cells, self.len, part);
         self.len += part.len();
     }
 
@@ -138,7 +135,7 @@ impl Draft {
         requires short { length text.now ≤ 32 }
         ensures { self.new.items ≡ self.old.items ++ text.now }
     {
-        write_short(&mut self.cells, self.len, text);
+        write_short(&mut *self.cells, self.len, text);
         self.len += text.len();
     }
 
@@ -151,7 +148,7 @@ impl Draft {
         if ROOM - self.len < part.len() {
             return Err(NoRoom);
         }
-        write_at(&mut self.cells, self.len, part);
+        write_at(&mut *self.cells, self.len, part);
         self.len += part.len();
         Ok(())
     }
@@ -165,7 +162,7 @@ impl Draft {
         if ROOM - self.len < text.len() {
             return Err(NoRoom);
         }
-        write_text(&mut self.cells, self.len, text);
+        write_text(&mut *self.cells, self.len, text);
         self.len += text.len();
         Ok(())
     }

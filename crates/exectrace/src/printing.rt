@@ -10,7 +10,7 @@ ghost use Rattle.exectrace.specs.Shown.{shown, shown_argument, shown_outcome, sh
 ghost use Rattle.exectrace.specs.Short.{short_argument};
 ghost use Rattle.exectrace.specs.declared.sinks.SinkState.{SinkState};
 
-use crate::draft::Draft;
+use crate::draft::{Draft, ROOM};
 use crate::lines::{Arg, CallLine, CallOutcome, Line, Name, ShortArg};
 use crate::sinks::{Sink, WriteFault, put, written};
 
@@ -125,7 +125,8 @@ fn hand_over<W: Sink>(line: &Draft, out: &mut W)
 fn put_long_between<W: Sink>(before: &[u8], text: &[u8], after: &[u8], out: &mut W)
     ensures { Puts (W.tape out.old) (W.tape out.new) (before.now ++ text.now ++ after.now) }
 {
-    let mut line = Draft::new();
+    let mut cells = [0; ROOM];
+    let mut line = Draft::new(&mut cells);
     add(&mut line, before, out);
     add_bytes(&mut line, text, out);
     add(&mut line, after, out);
@@ -152,7 +153,8 @@ fn try_between(line: &mut Draft, before: &[u8], text: &[u8], after: &[u8]) -> bo
 fn put_between<W: Sink>(before: &[u8], text: &[u8], after: &[u8], out: &mut W)
     ensures { Puts (W.tape out.old) (W.tape out.new) (before.now ++ text.now ++ after.now) }
 {
-    let mut line = Draft::new();
+    let mut cells = [0; ROOM];
+    let mut line = Draft::new(&mut cells);
     if try_between(&mut line, before, text, after) {
         hand_over(&line, out);
     } else {
@@ -419,7 +421,8 @@ pub fn put_call<W: Sink>(
     ensures { Puts (W.tape out.old) (W.tape out.new)
         (printed_line (Call name.now.bytes word.now (map shown_argument arguments.now) (shown_outcome outcome))) }
 {
-    let mut line = Draft::new();
+    let mut cells = [0; ROOM];
+    let mut line = Draft::new(&mut cells);
     add_name(&mut line, name, out);
     add(&mut line, b" ", out);
     add_text(&mut line, word, out);
@@ -442,7 +445,8 @@ fn put_long_call<W: Sink>(
     ensures { Puts (W.tape out.old) (W.tape out.new)
         (printed_line (Call name.now.bytes word.now (map (short_argument quoted.now.bytes) arguments.now) (shown_outcome outcome))) }
 {
-    let mut line = Draft::new();
+    let mut cells = [0; ROOM];
+    let mut line = Draft::new(&mut cells);
     add_name(&mut line, name, out);
     add(&mut line, b" ", out);
     add_text(&mut line, word, out);
@@ -464,7 +468,8 @@ pub fn put_short_call<W: Sink>(
     ensures { Puts (W.tape out.old) (W.tape out.new)
         (printed_line (Call name.now.bytes word.now (map (short_argument quoted.now.bytes) arguments.now) (shown_outcome outcome))) }
 {
-    let mut line = Draft::new();
+    let mut cells = [0; ROOM];
+    let mut line = Draft::new(&mut cells);
     if try_call(&mut line, name, word, arguments, quoted, outcome) {
         hand_over(&line, out);
     } else {
@@ -511,7 +516,8 @@ pub fn put_softint<W: Sink>(name: &Name, out: &mut W)
 pub fn put_alert<W: Sink>(code: &str, name: &Name, word: &str, out: &mut W)
     ensures { Puts (W.tape out.old) (W.tape out.new) (printed_line (Alert code.now name.now.bytes word.now)) }
 {
-    let mut line = Draft::new();
+    let mut cells = [0; ROOM];
+    let mut line = Draft::new(&mut cells);
     add(&mut line, b"alert ", out);
     add_text(&mut line, code, out);
     add(&mut line, b" ", out);
