@@ -1,90 +1,13 @@
--- What two calls of `arg` make of a command.
-use Rattle.std.proofs.Common.{◌≡◌, ◌<◌, ◌∙◌, Bool, ℕ, zero, suc, List, [], ◌∷◌, true, false, Option, refl, sym, ap, ap₂, subst, inl, inr, arith, slice_index, codes, is_some}
-use Rattle.std.specs.List.{All}
-use Rattle.clap.specs.Words.{IsPlainArg, Text, app_of, args_of, first_of, first_value, found_of, groups_of, is_simple, is_simple_and_free, matches_of, rule_of, with_rule, AddsArg, HasMatchesOf}
-use Rattle.clap.specs.Built.{FitsChain, HasDistinctIds, TakesValue}
-use Rattle.clap.specs.declared.builder.arg.Arg.{Arg}
-use Rattle.clap.specs.declared.builder.command.Command.{Command}
-use Rattle.clap.specs.declared.builder.command.Command.TheViews.{out-Command}
-use Rattle.clap.specs.declared.parser.matches.ArgMatches.{ArgMatches}
-use Rattle.clap.proofs.CallerLemmas.{required_in_chain}
+-- What clap's own account of a parse needs of the command.
+use Rattle.std.proofs.Common.{◌≡◌, true, refl}
+use Rattle.clap.specs.Words.{is_simple, is_simple_and_free}
 use Rattle.clap.proofs.OnLiterals.{clap_on_literals}
-use Rattle.clap.proofs.WalkLemmas.{first_value-rows}
-use Rattle.execrun.specs.CommandLine.{nameless_app, path_rule}
-use Rattle.checker.specs.CommandLine.{TakesPaths, one_path_or_two}
+use Rattle.checker.specs.CommandLine.{one_path_or_two}
 
--- the argument of that name, which has to be given if it is required
-pub record IsPath (name : Text) (required : Bool) (a : Arg) : Type 0 where
-  pub id : a.id.now ≡ name
-  pub rule : rule_of a ≡ path_rule name required
-  pub plain : IsPlainArg a × (a.global ≡ false)
-  pub value : required ≡ true → TakesValue a
-
-abbrev pub IsMachine : Arg → Type 0
-IsMachine = IsPath (codes "MACHINE") true
-
-abbrev pub IsEvents : Arg → Type 0
-IsEvents = IsPath (codes "EVENTS") false
-
--- a command with no argument yet, whose words begin with no name of the program
-pub record IsBare (c : Command) : Type 0 where
-  pub app : app_of c ≡ nameless_app (codes "execcheck")
-  pub args : args_of c ≡ []
-  pub groups : groups_of c ≡ []
-  pub globals : (out-Command c).has_globals ≡ false
-  pub negates : (out-Command c).subcommand_negates_reqs ≡ false
-
-fits : (name : Text) (required : Bool) (a : Arg) (n : ℕ) → IsPath name required a → slice_index name 0 ≡ n → 0 < n → n < 104 → FitsChain a
-fits name required a n p is least most =
-    let first : (t : Text) → a.id.now ≡ t → slice_index t 0 ≡ n = λ t e. rw (← e, p.id) is in (
-      p.plain.0,
-      p.plain.1,
-      (λ e. let bad : 0 ≡ n = first [] e in absurd (omega arith)),
-      (λ auto. elim auto [
-        | inl h ↦ let bad : 104 ≡ n = first _ h in absurd (omega arith)
-        | inr h ↦ let bad : 118 ≡ n = first _ h in absurd (omega arith)
-      ]),
-    )
-
-all_fit : (a b : Arg) → FitsChain a → FitsChain b → All FitsChain (a ∷ b ∷ [])
-all_fit a b fa fb zero d lt = fa
-all_fit a b fa fb (suc zero) d lt = fb
-all_fit a b fa fb (suc (suc k)) d lt = absurd (omega arith)
-
-distinct : (a b : Arg) → IsMachine a → IsEvents b → HasDistinctIds (a ∷ b ∷ [])
-distinct a b p q zero zero d e lt lt' same = refl
-distinct a b p q (suc zero) (suc zero) d e lt lt' same = refl
-distinct a b p q zero (suc zero) d e lt lt' same =
-    let bad : false ≡ true = rw (p.id, q.id) at same in
-    cc
-distinct a b p q (suc zero) zero d e lt lt' same =
-    let bad : false ≡ true = rw (p.id, q.id) at same in
-    cc
-distinct a b p q (suc (suc j)) k d e lt lt' same = absurd (omega arith)
-distinct a b p q j (suc (suc k)) d e lt lt' same = absurd (omega arith)
-
-pub takes_paths : (start mid cmd : Command) (a b : Arg) → IsBare start → IsMachine a → IsEvents b → AddsArg start a mid → AddsArg mid b cmd
-    → TakesPaths cmd
-takes_paths start mid cmd a b bare p q first second = record {
-  app = second.shape q.plain.1 ∙ ap₂ with_rule (first.shape p.plain.1 ∙ ap₂ with_rule bare.app p.rule) q.rule;
-  machine = λ m parsed. subst (λ (id : Text). is_some (first_value (found_of m) id) ≡ true) p.id
-      (required_in_chain start cmd (a ∷ b ∷ []) 0 a m (mid, first, (cmd, second, refl)) bare.args bare.groups bare.globals bare.negates
-      (all_fit a b (fits _ _ a 77 p refl (omega arith) (omega arith)) (fits _ _ b 69 q refl (omega arith) (omega arith))) (distinct a b p q)
-      (omega arith) (p.value refl) parsed);
-}
-
--- clap's own account of a parse holds of this command
-is_simple_here : is_simple one_path_or_two ≡ true
+pub is_simple_here : is_simple one_path_or_two ≡ true
 unfolding clap_on_literals
 is_simple_here = refl
 
 pub is_simple_and_free_here : is_simple_and_free one_path_or_two ≡ true
 unfolding clap_on_literals
 is_simple_and_free_here = refl
-
--- the value of a name is the one that the words give it
-pub given_value : (cmd : Command) (m : ArgMatches) (words : List Text) (name : Text) (value : Option Text) → app_of cmd ≡ one_path_or_two
-    → HasMatchesOf (app_of cmd) words m → value ≡ first_value (found_of m) name → first_of name (matches_of one_path_or_two words) ≡ value
-given_value cmd m words name value app matches same =
-    sym (ap (λ a. first_of name (matches_of a words)) app)
-    ∙ (sym (ap (first_of name) (matches (ap is_simple app ∙ is_simple_here)).0) ∙ (sym (first_value-rows (found_of m) name) ∙ sym same))

@@ -1,5 +1,5 @@
 -- The lemma files of `execrun`.
-mod CommandLemmas
+pub mod CommandLemmas
 mod LentLemmas
 mod ReadLemmas
 mod RunLemmas
