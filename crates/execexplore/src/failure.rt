@@ -1,7 +1,7 @@
 //! Why there is no answer, what the command says of it, and the status that it ends with.
 ghost use Rattle.std.specs.Prelude.{◌≤◌};
 
-use execsim::ReadFault;
+use execrun::Fault;
 use std::alloc::{AllocError, AllocFailed};
 use std::fmt;
 use std::io::Write;
@@ -60,17 +60,19 @@ impl From<SearchFault> for Failure<'_> {
     }
 }
 
-impl<'a> Failure<'a> {
-    /// What a fault of reading the file at this path is to the command.
-    ///
-    /// Source: project rule.
-    pub fn at(path: &'a str, fault: ReadFault) -> Failure<'a> {
+impl<'a> From<Fault<'a>> for Failure<'a> {
+    fn from(fault: Fault<'a>) -> Self {
         match fault {
-            ReadFault::OutOfMemory => Failure::NoMemory,
-            ReadFault::Failed | ReadFault::TooLong => Failure::CannotRead(path),
+            Fault::Machine(fault) => Failure::Machine(fault),
+            Fault::Events(fault) => Failure::Events(fault),
+            Fault::NoMemory => Failure::NoMemory,
+            Fault::CannotRead(path) => Failure::CannotRead(path),
+            Fault::WriteFailed => Failure::WriteFailed,
         }
     }
+}
 
+impl Failure<'_> {
     /// The status that the command ends with.
     ///
     /// Source: project rule.

@@ -11,8 +11,7 @@ use crate::failure::Failure;
 use crate::frame::{Frame, MOST_ACTIONS, MOST_WAYS, check_ticks, kinds_for, number_of};
 use crate::options::{Options, kinds_text};
 use crate::stretch::{Stretch, stretch_window};
-use execrun::Texts;
-use execsim::{ReadFault, read_limited};
+use execrun::{Texts, read_text};
 use sha2::{Digest, Sha256};
 use std::alloc::{AllocError, Global};
 use taskscript::{Event, EventFault, Events, FileFault, MachineFile, read_events, read_machine};
@@ -42,21 +41,6 @@ impl<'a> Paths<'a> {
             machine: name_in(self.machine),
             events: name_in(self.events),
         }
-    }
-}
-
-/// The bytes of the text at a path.
-fn read_text<'a, T: Texts>(
-    texts: &T,
-    alloc: Global,
-    path: &'a str,
-) -> Result<Vec<u8>, Failure<'a>> {
-    match texts.open_text(path) {
-        Err(error) => Err(Failure::at(path, ReadFault::from(error))),
-        Ok(mut text) => match read_limited(alloc, &mut text) {
-            Ok(bytes) => Ok(bytes),
-            Err(fault) => Err(Failure::at(path, fault)),
-        },
     }
 }
 

@@ -3,7 +3,7 @@ ghost use Rattle.std.specs.Prelude.{◌≤◌};
 
 use execlog::LogFault;
 use execpicture::PictureFault;
-use execsim::ReadFault;
+use execrun::Fault;
 use std::alloc::{AllocError, AllocFailed};
 use std::fmt;
 use std::io::Write;
@@ -88,17 +88,19 @@ impl From<EventFault> for Failure<'_> {
     }
 }
 
-impl<'a> Failure<'a> {
-    /// What a fault of reading the file at this path is to the command.
-    ///
-    /// Source: project rule.
-    pub fn at(path: &'a str, fault: ReadFault) -> Failure<'a> {
+impl<'a> From<Fault<'a>> for Failure<'a> {
+    fn from(fault: Fault<'a>) -> Self {
         match fault {
-            ReadFault::OutOfMemory => Failure::NoMemory,
-            ReadFault::Failed | ReadFault::TooLong => Failure::CannotRead(path),
+            Fault::Machine(fault) => Failure::Machine(fault),
+            Fault::Events(fault) => Failure::Events(fault),
+            Fault::NoMemory => Failure::NoMemory,
+            Fault::CannotRead(path) => Failure::CannotRead(path),
+            Fault::WriteFailed => Failure::WriteFailed,
         }
     }
+}
 
+impl Failure<'_> {
     /// The status that the command ends with.
     ///
     /// Source: project rule.

@@ -2,26 +2,10 @@
 
 use crate::command_line::Paths;
 use crate::failure::Failure;
-use execrun::Texts;
-use execsim::{ReadFault, read_limited};
+use execrun::{Texts, read_text};
 use logforms::{Run, book_of};
 use std::alloc::Global;
 use taskscript::{read_events, read_listed};
-
-/// The bytes of the text at a path.
-fn read_text<'a, T: Texts>(
-    texts: &T,
-    alloc: Global,
-    path: &'a str,
-) -> Result<Vec<u8>, Failure<'a>> {
-    match texts.open_text(path) {
-        Err(error) => Err(Failure::at(path, ReadFault::from(error))),
-        Ok(mut text) => match read_limited(alloc, &mut text) {
-            Ok(bytes) => Ok(bytes),
-            Err(fault) => Err(Failure::at(path, fault)),
-        },
-    }
-}
 
 /// The run of the bytes of a machine file and of an event text.
 ///
