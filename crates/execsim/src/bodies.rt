@@ -210,11 +210,34 @@ fn reset_servers(servers: &mut Vec<Server>, file: &[ServerRecord]) -> bool
     true
 }
 
-/// Whether a software interrupt has this name.
+/// Whether two texts have the same bytes, which are compared one after another.
+#[tactic(auto, using(std::proofs::lemmas::List::take_more_same))]
+#[inline(always)]
+fn same_bytes(one: &[u8], other: &[u8]) -> bool
+    ensures { result ≡ true → one.now ≡ other.now }
+{
+    if one.len() != other.len() {
+        return false;
+    }
+    for k in 0..one.len() {
+        if one[k] != other[k] {
+            return false;
+        }
+    }
+    true
+}
+
+/// Whether a software interrupt has this name. A short name is compared byte by byte, with no call.
+#[inline(always)]
 fn is_called(softint: &Softint, name: &Name) -> bool
     ensures { result ≡ true → softint.now.name.bytes ≡ name.now.bytes }
 {
-    softint.name.as_str() == name.as_str()
+    let own = softint.name.as_str();
+    if own.len() < 8 {
+        same_bytes(own.as_bytes(), name.as_str().as_bytes())
+    } else {
+        own == name.as_str()
+    }
 }
 
 /// Whether software interrupt i has this name.
