@@ -28,6 +28,7 @@ fn first_name(call: &Call) -> Option<&Name>
 
 impl<S: ListSpace> Kernel<S> {
     /// The number of the software interrupt of the name that is the first argument of a call.
+    #[inline(always)]
     fn softint_of_call(&self, call: &Call) -> IntId
         ensures { result ≡ softint_named (unwrap_or (name_argument 0 (call_view call.now)) []) self.now.bodies.softints }
     {

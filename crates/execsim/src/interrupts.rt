@@ -72,6 +72,7 @@ impl<S: ListSpace> Kernel<S> {
     // ---- software interrupts
 
     /// The software interrupt that runs next, if interrupts are allowed and one is caused. It is not caused any more.
+    #[inline(always)]
     pub(crate) fn take_softint(&mut self) -> Option<IntId>
         ensures answer { result ≡ softint_seen self.old }
         ensures next { self.new ≡ record self.old { pending = without_softint result self.old.pending } }
