@@ -1,5 +1,5 @@
 -- How the machine follows the body of a software interrupt or of a server.
-use Rattle.std.proofs.Common.{◌≡◌, ℕ, zero, suc, ◌+◌, false, List, [], ◌∷◌, take, Option, None, Some, refl, ap, sym, ◌∙◌, subst, add-one, map}
+use Rattle.std.proofs.Common.{◌≡◌, ℕ, zero, suc, ◌+◌, ◌-◌, true, false, List, [], ◌∷◌, take, Option, None, Some, refl, ap, sym, ◌∙◌, subst, add-one, map}
 use Rattle.std.specs.Prelude.{IfSome, codes, slice_get}
 use Rattle.std.specs.Option.{option_map}
 use Rattle.std.proofs.lemmas.Option.{slice_get-map}
@@ -8,14 +8,16 @@ use Rattle.exectrace.specs.Trace.{printed_line, Server, Softint}
 use Rattle.exectrace.specs.Trace as trace
 use Rattle.taskscript.specs.declared.command.Command.{Command}
 use Rattle.taskscript.specs.declared.variable.Variable.{Variable}
-use Rattle.taskscript.specs.declared.word.Word.TheVariants.{Plain}
+use Rattle.taskscript.specs.declared.word.Word.TheVariants.{Plain, Signals}
+use Rattle.taskscript.specs.declared.word.task_signals.SignalWord.TheVariants as signals
 use Rattle.taskscript.specs.declared.word.plain.PlainWord.{PlainWord}
 use Rattle.taskscript.specs.declared.word.plain.PlainWord.TheVariants as plain
 use Rattle.taskscript.specs.Words.{word_text}
 use Rattle.taskscript.specs.Commands.{CommandData, command_view}
 use Rattle.execmodel.specs.State.{Timer as Clock, Bodies, Call, State, quiet, says, andthen, unless_stopped, on_scripts}
 use Rattle.execmodel.specs.Bodies.{body_step, does_in_body, does_plain_by, does_word_by, runs_body}
-use Rattle.execmodel.specs.Calls.{Caller, ByBody, call_in_body, done_by, silent_by, stored_shared}
+use Rattle.execmodel.specs.Calls.{Caller, ByBody, argument, call_in_body, done_by, silent_by, stored_shared}
+use Rattle.execmodel.specs.Signals.{is_mask, is_task, does_signal_by}
 use Rattle.execmodel.specs.Interrupts.{runs_server, server_at, softint_at}
 use Rattle.execsim.specs.declared.bodies.Body.{Body}
 use Rattle.execsim.specs.Actions.{does_at_place, softint_body}
@@ -23,6 +25,9 @@ use Rattle.execsim.specs.Agreement.{Seen, Agrees, Follows}
 use Rattle.execsim.specs.Views.{code_of_body}
 use Rattle.execsim.proofs.Following.{andthen-assoc, andthen-quiet, andthen-second, follows_as, follows_known, follows_nothing, follows_quietly, follows_says, follows_then, guarded_going, moves_scripts, reads_scripts}
 use Rattle.execsim.proofs.Keeping.{body_keeps}
+use Rattle.execsim.proofs.Signalling.{signal_sent}
+use Rattle.execlist.specs.Disciplines.{by_priority}
+use Rattle.scheduler.specs.Dispatch.{signalled}
 
 -- ---- one command
 
@@ -63,6 +68,17 @@ unfolding does_in_body
 printed_as {m} {a} {b} name command is puts =
     let call = call_in_body command m.scripts in
     step_as name command call refl (follows_as {g = done_by (ByBody name) call} (λ s e. ap (λ w. does_word_by w (ByBody name) call s) is)
+    (follows_says _ (subst (λ w. Puts a b (printed_line (trace.Call name (word_text w) call.arguments trace.Done))) (sym is) puts)))
+
+-- Signal, which is not refused, prints the line of its call, and the task receives the signals
+pub signalled_as : {m n : Seen} {a b : Tape} (name : List ℕ) (call : Call) → call.word ≡ Signals signals.Signal
+    → is_task (argument 0 call) m.scripts ≡ true → is_mask (argument 1 call) ≡ true
+    → Puts a b (printed_line (trace.Call name (codes "Signal") call.arguments trace.Done))
+    → n ≡ record m { schedule = signalled by_priority (argument 0 call - 1) (argument 1 call) m.schedule } → Follows (does_in_body name call) m n a b
+unfolding does_in_body
+signalled_as {m} {n} {a} {b} name call is known masked puts moved = follows_as {g = does_signal_by (ByBody name) call}
+    (λ s e. ap (λ w. does_word_by w (ByBody name) call s) is)
+    (signal_sent (ByBody name) call known masked moved
     (follows_says _ (subst (λ w. Puts a b (printed_line (trace.Call name (word_text w) call.arguments trace.Done))) (sym is) puts)))
 
 module _ {m : Seen} (name : List ℕ) (here : Option CommandData) where

@@ -1,19 +1,22 @@
 //! The calls that a body makes, how they end, and a whole body. A body has the shared variables alone, prints under its own name, and runs to
 //! its end at once, or to an alert.
-ghost use Rattle.std.specs.Prelude.{◌≡◌, ◌≤◌, ℕ, List, IfSome, Some, true, codes, map, slice_get, take};
+ghost use Rattle.std.specs.Prelude.{◌≡◌, ◌≤◌, ℕ, List, IfSome, None, Some, true, map, slice_get, take};
+ghost use Rattle.execlist.specs.Disciplines.{by_priority};
 ghost use Rattle.exectrace.specs.Short.{short_argument};
 ghost use Rattle.exectrace.specs.Sink.{Puts, Tape};
 ghost use Rattle.exectrace.specs.Shown.{shown_outcome};
 ghost use Rattle.exectrace.specs.Trace.{printed_line};
 ghost use Rattle.exectrace.specs.Trace as trace;
 ghost use Rattle.taskscript.specs.Words.{word_text};
+ghost use Rattle.scheduler.specs.Dispatch.{signalled};
 ghost use Rattle.execmodel.specs.Bodies.{does_in_body, does_interrupts_by, does_plain_by, does_ports_by, does_signals_by, runs_body};
 ghost use Rattle.execmodel.specs.State.{State};
 ghost use Rattle.execmodel.specs.State as model;
 ghost use Rattle.execmodel.specs.Calls.{ByBody, alerted_by, answered_by, argument, call_in_body, done_by, evaluated_in_body, number_in, silent_by, stored_shared};
 ghost use Rattle.execmodel.specs.Calls as calls;
 ghost use Rattle.execsim.specs.Actions.{does_at_place};
-ghost use Rattle.execsim.specs.Agreement.{Follows};
+ghost use Rattle.execsim.specs.Agreement.{Follows, Seen};
+ghost use Rattle.execsim.specs.Callers.{HasTask};
 ghost use Rattle.taskscript.specs.Commands.{argument_view, command_view};
 ghost use Rattle.execsim.specs.Views.{call_view, code_of_body};
 
@@ -23,13 +26,32 @@ use crate::change::argument_at;
 use crate::kernel::Kernel;
 use crate::plain::{all_bits, common_bits, difference, sum};
 use crate::program::command_at;
+use crate::task_signals::is_mask;
 use execlist::space::ListSpace;
 use exectrace::lines::CallOutcome;
 use exectrace::printing::{put_alert, put_short_call};
 use exectrace::{Name, ShortArg, Sink};
+use taskq::TaskId;
 use taskscript::{
     Argument, Command, InterruptWord, PlainWord, PortWord, SignalWord, Variable, Word,
 };
+
+/// A signalling that a body makes: the task receives the signals of the mask.
+#[derive(Clone, Copy)]
+struct Sent {
+    task: TaskId,
+    mask: u32,
+}
+
+/// Whether it is the word Signal.
+fn is_signal(word: Word) -> bool
+    ensures { result ≡ true → word ≡ Word.Signals SignalWord.Signal }
+{
+    match word {
+        Word::Signals(SignalWord::Signal) => true,
+        _ => false,
+    }
+}
 
 /// Whether it is the word Print.
 fn is_print(word: Word) -> bool
@@ -223,6 +245,7 @@ impl<S: ListSpace> Kernel<S> {
         }
     }
 
+    #[inline(always)]
     fn does_signals_in_body<W: Sink>(
         &mut self,
         word: SignalWord,
@@ -265,6 +288,7 @@ impl<S: ListSpace> Kernel<S> {
 
     /// A call of the body of that name, by the group of its word.
     #[tactic(auto, unfolding(execmodel::specs::Bodies::does_in_body))]
+    #[inline(always)]
     fn does_in_body<W: Sink>(&mut self, name: &Name, call: &Call, out: &mut W)
         ensures { Follows (does_in_body name.now.bytes (call_view call.now)) self.old self.new (W.tape out.old) (W.tape out.new) }
     {
@@ -277,23 +301,100 @@ impl<S: ListSpace> Kernel<S> {
         }
     }
 
-    /// Prints the line of Print in the body of that name, from its command: no call is made of it.
+    /// Prints the line of a call that answers nothing, of the body of that name, from its command, whose word has this text: no call is made of it.
     #[inline(always)]
-    fn print_in_body<W: Sink>(&self, command: &Command, name: &Name, out: &mut W)
+    fn line_in_body<W: Sink>(&self, text: &str, command: &Command, name: &Name, out: &mut W)
         ensures { Puts (W.tape out.old) (W.tape out.new) (printed_line
-            (trace.Call name.now.bytes (codes "Print") (call_in_body (command_view command.now) self.now.scripts).arguments trace.Done)) }
+            (trace.Call name.now.bytes text.now (call_in_body (command_view command.now) self.now.scripts).arguments trace.Done)) }
     {
         let count = command.count as usize;
         let mut values = [ShortArg::Value(0); 4];
         self.evaluate_all_in_body(&command.arguments, count, &mut values);
         let shown = &values[..count];
-        put_short_call(name, "Print", shown, &command.name, CallOutcome::Done, out);
+        put_short_call(name, text, shown, &command.name, CallOutcome::Done, out);
+    }
+
+    /// The signalling of a command of the body of that name, if it is of the word Signal and is not refused. Then its line is printed.
+    #[inline(always)]
+    fn signalling_in_body<W: Sink>(
+        &self,
+        command: &Command,
+        name: &Name,
+        out: &mut W,
+    ) -> Option<Sent>
+        ensures known { IfSome result (λ sent. HasTask sent.task self.now) }
+        ensures sent { IfSome result (λ sent. (n : Seen) → n ≡ record self.now { schedule = signalled by_priority sent.task sent.mask self.now.schedule }
+            → Follows (does_in_body name.now.bytes (call_in_body (command_view command.now) self.now.scripts)) self.now n (W.tape out.old) (W.tape out.new)) }
+        ensures nothing { result ≡ None → W.tape out.new ≡ W.tape out.old }
+    {
+        if !is_signal(command.word) {
+            return None;
+        }
+        let other = self.number_at_in_body(command, 0);
+        let mask = self.number_at_in_body(command, 1);
+        if !self.is_task(other) {
+            return None;
+        }
+        if !is_mask(mask) {
+            return None;
+        }
+        self.line_in_body("Signal", command, name, out);
+        Some(Sent {
+            task: other as usize - 1,
+            mask,
+        })
     }
 
     // ---- a whole body
 
-    /// The command at a place of a body is done, unless an alert has stopped the machine. A plain word that prints nothing is done at once,
-    /// and no call is made of it.
+    /// The command at a place of a body is done by its call, unless an alert has stopped the machine.
+    #[inline(never)]
+    fn call_at_place<W: Sink>(&mut self, body: Body, place: usize, name: &Name, out: &mut W)
+        ensures { Follows (does_at_place name.now.bytes (slice_get (code_of_body body self.old.bodies) place))
+            self.old self.new (W.tape out.old) (W.tape out.new) }
+    {
+        if self.stopped {
+            return;
+        }
+        match command_at(self.bodies.code(body), place) {
+            None => {}
+            Some(command) => {
+                let count = command.count as usize;
+                let mut call = Call {
+                    word: command.word,
+                    target: command.target,
+                    arguments: [ShortArg::Value(0); 4],
+                    count,
+                    quoted: command.name,
+                    next: 0,
+                    awaited: 0,
+                };
+                self.evaluate_all_in_body(&command.arguments, count, &mut call.arguments);
+                self.does_in_body(name, &call, out);
+            }
+        }
+    }
+
+    /// The command at a place of a body is done, unless an alert has stopped the machine. A Signal is done at once if it is not refused.
+    #[inline(never)]
+    fn ask_at_place<W: Sink>(&mut self, body: Body, place: usize, name: &Name, out: &mut W)
+        ensures { Follows (does_at_place name.now.bytes (slice_get (code_of_body body self.old.bodies) place))
+            self.old self.new (W.tape out.old) (W.tape out.new) }
+    {
+        if self.stopped {
+            return;
+        }
+        match command_at(self.bodies.code(body), place) {
+            None => {}
+            Some(command) => match self.signalling_in_body(command, name, out) {
+                Some(sent) => self.signal_task(sent.task, sent.mask),
+                None => self.call_at_place(body, place, name, out),
+            },
+        }
+    }
+
+    /// The command at a place of a body is done, unless an alert has stopped the machine. A plain word that prints nothing, and Print, are done at
+    /// once: no call is made of them, and none has room here.
     #[inline(always)]
     fn do_place<W: Sink>(&mut self, body: Body, place: usize, name: &Name, out: &mut W)
         ensures { Follows (does_at_place name.now.bytes (slice_get (code_of_body body self.old.bodies) place))
@@ -311,21 +412,10 @@ impl<S: ListSpace> Kernel<S> {
                 }
                 None => {
                     if is_print(command.word) {
-                        self.print_in_body(command, name, out);
+                        self.line_in_body("Print", command, name, out);
                         return;
                     }
-                    let count = command.count as usize;
-                    let mut call = Call {
-                        word: command.word,
-                        target: command.target,
-                        arguments: [ShortArg::Value(0); 4],
-                        count,
-                        quoted: command.name,
-                        next: 0,
-                        awaited: 0,
-                    };
-                    self.evaluate_all_in_body(&command.arguments, count, &mut call.arguments);
-                    self.does_in_body(name, &call, out);
+                    self.ask_at_place(body, place, name, out);
                 }
             },
         }

@@ -18,7 +18,7 @@ use taskq::TaskId;
 use taskscript::SignalWord;
 
 /// Whether the mask holds only signals that scripts may name: 12 to 31.
-fn is_mask(mask: u32) -> bool
+pub(crate) fn is_mask(mask: u32) -> bool
     ensures { result ≡ is_mask mask }
 {
     mask & 0xfff == 0
