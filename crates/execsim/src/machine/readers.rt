@@ -67,6 +67,7 @@ impl<S: ListSpace> Machine<S> {
     /// Answers what is seen of a task, by its number from 0 in the order of the file; none past the last.
     ///
     /// Source: RKM Libraries, Exec Tasks: `struct Task`.
+    #[inline(always)]
     pub fn task(&self, t: TaskId) -> Option<TaskView>
         ensures { result ≡ task_seen t self.now.seen }
     {
@@ -139,6 +140,7 @@ impl<S: ListSpace> Machine<S> {
     /// the machine.
     ///
     /// Source: RKM Libraries, Exec Tasks and Exec Interrupts.
+    #[inline(always)]
     pub fn next_actor(&self) -> Option<TaskId>
         ensures { result ≡ actor_seen self.now.seen }
     {
