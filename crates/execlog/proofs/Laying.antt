@@ -1,12 +1,13 @@
 -- How rows follow one another.
-use Rattle.std.proofs.Common.{◌≡◌, ◌≢◌, ◌≤◌, ◌<◌, ◌-◌, ◌^◌, ℕ, take, drop, length, replicate, Bool, true, List, [], ◌∷◌, ◌++◌, refl, ap, sym, ◌∙◌, subst, append-nil, append_assoc, arith}
-use Rattle.std.specs.Prelude.{◌&&◌, codes, decimal, Option}
+use Rattle.std.proofs.Common.{◌≡◌, ◌≢◌, ◌≤◌, ◌<◌, ◌-◌, ◌^◌, ◌/◌, ◌%◌, ◌+◌, ℕ, zero, suc, take, drop, length, replicate, Bool, true, List, [], ◌∷◌, ◌++◌, refl, ap, sym, ◌∙◌, subst, append-nil, append_assoc, length-drop, arith}
+use Rattle.std.specs.Prelude.{◌&&◌, codes, decimal, Option, None}
 use Rattle.std.specs.List.{flat_map, list_all}
-use Rattle.std.proofs.lemmas.Fmt.{length-decimal-le}
-use Rattle.std.proofs.lemmas.List.{drop-append-le, drop-replicate, length-replicate, nil_from_length, take-append-drop, take-replicate, take-take}
+use Rattle.std.proofs.lemmas.Fmt.{decimal_digit, decimal_step, length-decimal-le}
+use Rattle.std.proofs.lemmas.List.{drop-append-le, drop-replicate, length-append, length-replicate, length-take-le, nil_from_length, take-append-drop, take-replicate, take-take}
+use Rattle.execlog.proofs.Columns.{digit_replaced}
 use Rattle.execlog.specs.declared.moment.Moment.{Moment}
 use Rattle.execlog.specs.Log.{Gains}
-use Rattle.execlog.specs.Rows.{FollowsRows, IsBlank, IsFrame, IsPart, IsRow, LaysOut, Row, gap_of, laid, line_column, padded, row_with, source_column, time_columns, traced}
+use Rattle.execlog.specs.Rows.{FollowsRows, IsBlank, IsCut, IsFrame, IsHead, IsPart, IsRow, LaysOut, Row, columns, digit, gap_of, laid, line_column, millis, padded, row_with, source_column, stem, time_columns, traced}
 
 -- ---- spaces
 
@@ -62,6 +63,22 @@ cut_spaces w n rest =
     drop-append-le (w - (w - n)) (replicate {A = ℕ} w 32) rest few
     ∙ ap (λ (l : List ℕ). l ++ rest) (drop-replicate (w - (w - n)) w 32 ∙ ap (λ (k : ℕ). replicate {A = ℕ} k 32) many)
 
+gap_short : (source : List ℕ) → gap_of source ≤ length (source_column 0 source ++ 10 ∷ [])
+gap_short [] = omega arith
+gap_short (c ∷ source) =
+    let spaces : List ℕ = replicate {A = ℕ} 43 32 in
+    omega (
+      arith,
+      length-append ((spaces ++ codes "  ") ++ c ∷ source) (10 ∷ []),
+      length-append (spaces ++ codes "  ") (c ∷ source),
+      length-append spaces (codes "  "),
+      length-replicate {A = ℕ} 43 32,
+    )
+
+-- the spaces that a line takes the place of are there
+pub gap_within : {line : Option ℕ} {source before after : List ℕ} {gap : ℕ} → IsFrame line source before after gap → gap ≤ length after
+gap_within {line} {source} {before} {after} {gap} frame = omega (arith, frame.gap_is, ap length frame.after_is, gap_short source)
+
 four_parts : (r x y z : List ℕ) → ((r ++ x) ++ y) ++ z ≡ r ++ (x ++ (y ++ z))
 four_parts r x y z = append_assoc (r ++ x) y z ∙ append_assoc r x (y ++ z)
 
@@ -96,6 +113,93 @@ row_framed {line} {source} {before} {after} {gap} m head text frame told =
     ∙ ap (λ (l : List ℕ). time_columns m ++ ((line_column line ++ codes "  ") ++ (text ++ l))) e
     ∙ row_parts (time_columns m) (line_column line) (codes "  ") text (source_column (length text) source) (10 ∷ [])
 
+-- a line of the trace that is of no command
+pub row_bare : (m : Moment) (head text : List ℕ) → head ≡ time_columns m → head ++ (replicate {A = ℕ} 8 32 ++ (text ++ 10 ∷ [])) ≡ row_with m None text []
+row_bare m head text told =
+    ap (λ (h : List ℕ). h ++ (replicate {A = ℕ} 8 32 ++ (text ++ 10 ∷ []))) told
+    ∙ row_parts (time_columns m) (line_column None) (codes "  ") text [] (10 ∷ [])
+
+-- the columns are those of an entry
+pub told_by : (m : Moment) {number clock : ℕ} → number ≡ m.number → clock ≡ m.clock → columns number clock ≡ time_columns m
+told_by m {number} {clock} n c = ap (λ (k : ℕ). columns k clock) n ∙ ap (λ (k : ℕ). columns m.number k) c
+
+-- ---- the columns
+
+padded_by : (n tens : ℕ) → n / 10 ≡ tens → n < 2 ^ 64 → padded 5 (decimal n) ≡ stem tens ++ digit n ∷ []
+padded_by n zero e small =
+    let few : n < 10 = omega (arith, e) in
+    let same : n ≡ n % 10 = omega (arith, few) in
+    ap (padded 5) (decimal_digit n few ∙ ap (λ (k : ℕ). (48 + k) ∷ []) same)
+padded_by n (suc tens) e small =
+    let many : 10 ≤ n = omega (arith, e) in
+    let d : List ℕ = decimal (suc tens) in
+    let last : List ℕ = (48 + n % 10) ∷ [] in
+    let long : 5 - length (d ++ last) ≡ 4 - length d = omega (arith, length-append d last) in
+    ap (padded 5) (decimal_step n many small ∙ ap (λ (k : ℕ). decimal k ++ last) e)
+    ∙ ap (λ (j : ℕ). replicate {A = ℕ} j 32 ++ (d ++ last)) long
+    ∙ sym (append_assoc (replicate {A = ℕ} (4 - length d) 32) d last)
+
+-- a number at the right of a column is what is before its last digit, and this digit
+pub padded_stem : (n : ℕ) → n < 2 ^ 64 → padded 5 (decimal n) ≡ stem (n / 10) ++ digit n ∷ []
+padded_stem n small = padded_by n (n / 10) refl small
+
+-- the columns by what is before the last digit of the number
+pub columns_stem : (n clock : ℕ) → n < 2 ^ 64 → columns n clock ≡ stem (n / 10) ++ digit n ∷ millis clock
+columns_stem n clock small = ap (λ (l : List ℕ). l ++ millis clock) (padded_stem n small) ∙ append_assoc (stem (n / 10)) (digit n ∷ []) (millis clock)
+
+-- with spaces after them
+pub columns_room : (n clock : ℕ) (rest : List ℕ) → n < 2 ^ 64 → columns n clock ++ rest ≡ stem (n / 10) ++ digit n ∷ (millis clock ++ rest)
+columns_room n clock rest small = ap (λ (l : List ℕ). l ++ rest) (columns_stem n clock small) ∙ append_assoc (stem (n / 10)) (digit n ∷ millis clock) rest
+
+-- the columns, as they were put one after the other
+pub head_made : (number clock from start : ℕ) (mid room : List ℕ) → number < 2 ^ 64 → length mid ≡ 128 → length room ≡ 128
+    → drop from mid ≡ millis clock ++ replicate {A = ℕ} 64 32 → drop start room ≡ padded 5 (decimal number) ++ drop from mid
+    → IsHead number clock (number / 10) start (from - 1) room
+head_made number clock from start mid room small many roomy time put =
+    let spaces : List ℕ = replicate {A = ℕ} 64 32 in
+    let s : List ℕ = stem (number / 10) in
+    let whole : drop start room ≡ s ++ digit number ∷ (millis clock ++ spaces) =
+    put
+    ∙ ap (λ (l : List ℕ). padded 5 (decimal number) ++ l) time
+    ∙ ap (λ (l : List ℕ). l ++ (millis clock ++ spaces)) (padded_stem number small)
+    ∙ append_assoc s (digit number ∷ []) (millis clock ++ spaces) in
+    let long : 64 ≤ length (millis clock ++ spaces) = omega (arith, length-append (millis clock) spaces, length-replicate {A = ℕ} 64 32) in
+    let after : 128 - from ≡ length (millis clock ++ spaces) = omega (arith, many, length-drop from mid, ap length time) in
+    let parts : length (s ++ digit number ∷ (millis clock ++ spaces)) ≡ length s + suc (length (millis clock ++ spaces)) =
+    length-append s (digit number ∷ (millis clock ++ spaces)) in
+    let before : 128 - start ≡ length s + suc (length (millis clock ++ spaces)) = omega (arith, roomy, length-drop start room, ap length whole, parts) in
+    record {
+      small = small;
+      roomy = roomy;
+      tens_are = refl;
+      starts = omega (arith, long, after, before);
+      at_last = omega (arith, long, after, before);
+      within = omega (arith, long, after, before);
+      shows = whole;
+    }
+
+-- another last digit
+pub head_counted : {n clock tens start last : ℕ} {room : List ℕ} (m : ℕ) (new : List ℕ) → IsHead n clock tens start last room → m / 10 ≡ tens → m < 2 ^ 64
+    → new ≡ take last room ++ digit m ∷ drop (last + 1) room → IsHead m clock tens start last new
+head_counted {n} {clock} {tens} {start} {last} {room} m new head same small put =
+    let rest : List ℕ = millis clock ++ replicate {A = ℕ} 64 32 in
+    let tens' : n / 10 ≡ m / 10 = sym head.tens_are ∙ sym same in
+    let inside : start ≤ length room = omega (arith, head.starts, head.roomy) in
+    let within : last ≤ length room = omega (arith, head.within, head.roomy) in
+    let parts : length (take last room ++ digit m ∷ drop (last + 1) room) ≡ length (take last room) + suc (length (drop (last + 1) room)) =
+    length-append (take last room) (digit m ∷ drop (last + 1) room) in
+    record {
+      small = small;
+      roomy = omega (arith, ap length put, parts, length-take-le last room within, length-drop (last + 1) room, head.roomy, head.within);
+      tens_are = sym same;
+      starts = head.starts;
+      at_last = head.at_last ∙ ap (λ (k : ℕ). start + length (stem k)) tens';
+      within = head.within;
+      shows = ap (drop start) put
+          ∙ digit_replaced room (stem (n / 10)) rest (digit n) (digit m) start last inside head.at_last head.shows
+          ∙ ap (λ (k : ℕ). stem k ++ digit m ∷ rest) tens';
+    }
+
 -- the spaces before the text of a command, by a test
 pub gap_tested : (source : List ℕ) (gap : ℕ) → (length source ≡ 0 → gap ≡ 0) → (length source ≢ 0 → gap ≡ 43) → gap ≡ gap_of source
 gap_tested [] gap none some = none refl
@@ -108,27 +212,28 @@ all_shown c d first rest = rw (first) rest
 
 -- a row, and the rows of what is after its line
 pub row_follows : {All : Type 0} {m : Moment} {line : Option ℕ} {text after : List ℕ} (x y : List ℕ)
-    → IsRow All m line text x → FollowsRows All m after y → FollowsRows All m (text ++ 10 ∷ after) (x ++ y)
-row_follows {All} {m} {line} {text} {after} x y one rest =
+    → IsPart text → IsRow All m line text x → FollowsRows All m after y → FollowsRows All m (text ++ 10 ∷ after) (x ++ y)
+row_follows {All} {m} {line} {text} {after} x y part one rest =
     let r : Row = record { line = line; text = text; source = one.source; is_shown = one.is_shown } in
     record {
       rows = r ∷ rest.rows;
       left = rest.left;
       text_is = ap (λ (z : List ℕ). text ++ 10 ∷ z) rest.text_is ∙ sym (append_assoc text (10 ∷ flat_map traced rest.rows) rest.left) ∙ ap (λ (z : List ℕ). z ++ rest.left) (sym (append_assoc text (10 ∷ []) (flat_map traced rest.rows)));
       bytes_are = ap (λ (z : List ℕ). z ++ y) one.bytes_are ∙ ap (λ (z : List ℕ). laid m r ++ z) rest.bytes_are ∙ sym (append_assoc (laid m r) (flat_map (laid m) rest.rows) rest.left);
+      are_lines = (part, rest.are_lines);
       shown = λ all. all_shown one.is_shown (list_all (λ (r : Row). r.is_shown) rest.rows) (one.shown all) (rest.shown all);
       is_part = rest.is_part;
     }
 
 -- a text with no line feed
 pub part_follows : {All : Type 0} {m : Moment} (text : List ℕ) → IsPart text → FollowsRows All m text text
-part_follows text part = record { rows = []; left = text; text_is = refl; bytes_are = refl; shown = λ all. refl; is_part = part }
+part_follows text part = record { rows = []; left = text; text_is = refl; bytes_are = refl; are_lines = tt; shown = λ all. refl; is_part = part }
 
 -- the first row of an entry, and the others
 pub first_row : {All : Type 0} {m : Moment} {line : Option ℕ} {text after : List ℕ} (x y : List ℕ)
-    → IsRow All m line text x → FollowsRows All m after y → LaysOut All m line (text ++ 10 ∷ after) (x ++ y)
+    → IsPart text → IsRow All m line text x → FollowsRows All m after y → LaysOut All m line (text ++ 10 ∷ after) (x ++ y)
 unfolding row_follows
-first_row x y one rest = record { follows = row_follows x y one rest; begins = refl }
+first_row x y part one rest = record { follows = row_follows x y part one rest; begins = refl }
 
 pub no_row : {All : Type 0} {m : Moment} {line : Option ℕ} (text : List ℕ) → IsPart text → LaysOut All m line text text
 unfolding part_follows
@@ -146,12 +251,12 @@ goes_begin All m text page = record { added = []; page_is = sym (append-nil page
 
 -- one more
 pub goes_on : {All : Type 0} {m : Moment} {number : Option ℕ} {text rest line after before page next : List ℕ}
-    → Goes All m text rest before page → rest ≡ line ++ 10 ∷ after → Gains (IsRow All m number line) page next → Goes All m text after before next
+    → Goes All m text rest before page → IsCut rest line after → Gains (IsRow All m number line) page next → Goes All m text after before next
 goes_on {All} {m} {number} {text} {rest} {line} {after} {before} {page} {next} goes cut gains = record {
   added = goes.added ++ gains.bytes;
   page_is = gains.added ∙ ap (λ (z : List ℕ). z ++ gains.bytes) goes.page_is ∙ append_assoc before goes.added gains.bytes;
   then = λ y h. subst (λ (z : List ℕ). FollowsRows All m text z) (sym (append_assoc goes.added gains.bytes y))
-      (goes.then (gains.bytes ++ y) (subst (λ (r : List ℕ). FollowsRows All m r (gains.bytes ++ y)) (sym cut) (row_follows gains.bytes y gains.shows h)));
+      (goes.then (gains.bytes ++ y) (subst (λ (r : List ℕ). FollowsRows All m r (gains.bytes ++ y)) (sym cut.text_is) (row_follows gains.bytes y cut.is_part gains.shows h)));
 }
 
 -- what is left after the last line feed
@@ -165,11 +270,11 @@ goes_end {All} {m} {text} {rest} {before} {page} {next} goes part added = record
 
 -- the rows of an entry
 pub lays_rows : {All : Type 0} {m : Moment} {number : Option ℕ} {text line after page first next : List ℕ}
-    → text ≡ line ++ 10 ∷ after → Gains (IsRow All m number line) page first → Gains (FollowsRows All m after) first next
+    → IsCut text line after → Gains (IsRow All m number line) page first → Gains (FollowsRows All m after) first next
     → Gains (LaysOut All m number text) page next
 lays_rows {All} {m} {number} {text} {line} {after} {page} {first} {next} cut one others = record {
   bytes = one.bytes ++ others.bytes;
-  shows = subst (λ (t : List ℕ). LaysOut All m number t (one.bytes ++ others.bytes)) (sym cut) (first_row one.bytes others.bytes one.shows others.shows);
+  shows = subst (λ (t : List ℕ). LaysOut All m number t (one.bytes ++ others.bytes)) (sym cut.text_is) (first_row one.bytes others.bytes cut.is_part one.shows others.shows);
   added = others.added ∙ ap (λ (z : List ℕ). z ++ others.bytes) one.added ∙ append_assoc page one.bytes others.bytes;
 }
 

@@ -2,7 +2,7 @@
 ghost use Rattle.std.specs.Prelude.{◌≡◌, option_copied, string_bytes, IfOk};
 ghost use Rattle.execlog.specs.Rows.{IsFrame};
 
-use crate::frame::{Around, Frame};
+use crate::frame::Frame;
 use crate::index::Index;
 use crate::moment::Actor;
 use std::alloc::{AllocError, Global};
@@ -19,7 +19,7 @@ pub struct Place {
     pub is_silent: bool,
     /// What it says.
     pub command: Command,
-    frame: Frame,
+    pub(crate) frame: Frame,
     ghost framed: { IsFrame line (string_bytes source) frame.before.items frame.after.items frame.gap },
 }
 
@@ -71,20 +71,6 @@ impl Place {
             frame,
         })
     }
-
-    /// What is around the line of the command in its row.
-    #[inline(always)]
-    pub(crate) fn around(&self) -> Around<'_>
-        ensures { result.line ≡ self.now.line }
-    {
-        Around {
-            line: self.line,
-            source: self.source.as_str().as_bytes(),
-            before: &self.frame.before,
-            after: &self.frame.after,
-            gap: self.frame.gap,
-        }
-    }
 }
 
 impl Body {
@@ -122,6 +108,7 @@ impl Book {
     /// The command at which a task is, if it is at one.
     ///
     /// Source: project rule.
+    #[inline(always)]
     pub fn command_at(&self, actor: Actor) -> Option<&Place>
         ensures { option_copied result ≡ command_at self.now actor }
     {

@@ -37,6 +37,7 @@ impl Buffer {
 impl Sink for Buffer {
     ghost tape = { λ r. record { taken = Some r.bytes.items; state = r.state } };
 
+    #[inline(always)]
     fn write(&mut self, bytes: &[u8]) -> Result<usize, SinkFault> {
         match self.bytes.extend_from_slice(bytes) {
             Ok(()) => {

@@ -44,6 +44,7 @@ impl Filter {
     /// Whether a row is shown: that of an action at a line of the file, in an entry of that number.
     ///
     /// Source: project rule.
+    #[inline(always)]
     pub fn shows(&self, number: u64, line: Option<u32>, spot: Spot) -> bool
         ensures { ShowsAll self.now → result ≡ true }
     {

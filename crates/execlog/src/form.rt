@@ -2,6 +2,7 @@
 ghost use Rattle.std.specs.Prelude.{◌≡◌, [], false, List, OnOk, ℕ};
 ghost use Rattle.execlog.specs.Log.{Entry, Gains};
 
+use crate::head::Head;
 use crate::moment::{Actor, Moment};
 use execlist::space::ListSpace;
 use execsim::Machine;
@@ -14,6 +15,8 @@ pub struct Before {
     pub private: [u32; 32],
     /// What the shared variables held, by number.
     pub shared: [u32; 64],
+    /// The columns of the number, and of the time as it was, if the form has noted them.
+    pub(crate) head: Head,
 }
 
 impl Before {
@@ -24,6 +27,7 @@ impl Before {
         Before {
             private: [0; 32],
             shared: [0; 64],
+            head: Head::of(0, 0),
         }
     }
 }

@@ -1,9 +1,11 @@
 //! What a row has around the line of a command, prepared once for all its rows: the column of its line of the file, and after the line of the trace
 //! the text of the command and the line feed.
-ghost use Rattle.std.specs.Prelude.{◌≡◌, IfOk};
-ghost use Rattle.execlog.specs.Rows.{IsFrame};
+ghost use Rattle.std.specs.Prelude.{◌≡◌, IfOk, IfSome};
+ghost use Rattle.std.proofs.Props.{props};
+ghost use Rattle.execlog.specs.Rows.{IsFrame, IsSheet};
 
 use crate::rows::{push_line_column, push_source};
+use crate::sheet::Sheet;
 use std::alloc::{AllocError, Global};
 
 /// How many of the spaces before the text of a command a line of the trace takes the place of, at most.
@@ -18,29 +20,10 @@ pub(crate) struct Frame {
     pub(crate) after: Vec<u8>,
     /// How many bytes of that a longer line takes the place of, at most.
     pub(crate) gap: usize,
+    /// The same to be copied at once, if it is not too long.
+    pub(crate) sheet: Option<Sheet>,
+    ghost sheeted: { IfSome sheet (λ s. (s.most ≡ gap) × IsSheet before.items after.items s.cells s.at s.len) } by { Prim.hlevel props },
 }
-
-/// What a row has around its line, as it is lent.
-#[derive(Clone, Copy)]
-pub(crate) struct Around<'a> {
-    /// The line of the file.
-    pub(crate) line: Option<u32>,
-    /// The text of the command.
-    pub(crate) source: &'a [u8],
-    pub(crate) before: &'a [u8],
-    pub(crate) after: &'a [u8],
-    pub(crate) gap: usize,
-    ghost framed: { IsFrame line source.now before.now after.now gap },
-}
-
-/// What a row has around its line that is of no command.
-pub(crate) const BARE: Around<'static> = Around {
-    line: None,
-    source: b"",
-    before: b"        ",
-    after: b"\n",
-    gap: 0,
-};
 
 impl Frame {
     /// What a row has around the line of a command in that line of the file, with that text.
@@ -57,6 +40,12 @@ impl Frame {
         push_source(&mut after, 0, source)?;
         after.push(b'\n')?;
         let gap = if source.is_empty() { 0 } else { GAP };
-        Ok(Frame { before, after, gap })
+        let sheet = Sheet::new(&before, &after, gap);
+        Ok(Frame {
+            before,
+            after,
+            gap,
+            sheet,
+        })
     }
 }

@@ -6,15 +6,18 @@
 mod book;
 mod buffer;
 mod cursor;
+mod feed;
 mod filter;
 mod form;
 mod frame;
+mod head;
 mod index;
 pub mod laws;
 mod log;
 mod moment;
 mod plain;
 mod rows;
+mod sheet;
 
 pub use book::{Body, Book, Place};
 pub use cursor::{Cursor, Spot, place_at};

@@ -64,6 +64,7 @@ fn turn_page<W: Sink>(page: &mut Vec<u8>, out: &mut W)
 
 impl<'a, F: Form> Log<'a, F> {
     /// Adds the entry of what the machine has printed, with what the clock shows after it.
+    #[inline(always)]
     fn enter<W: Sink>(
         &mut self,
         clock: u64,

@@ -28,6 +28,7 @@ pub struct Moment {
 }
 
 /// The task whose command an event is, if it is a step of a task.
+#[inline(always)]
 pub(crate) fn actor_of<S: ListSpace>(machine: &Machine<S>, one: Event) -> Option<Actor>
     ensures { result ≡ actor_now one machine.now.seen }
 {
@@ -39,6 +40,7 @@ pub(crate) fn actor_of<S: ListSpace>(machine: &Machine<S>, one: Event) -> Option
 }
 
 /// The task that the next step is a command of, at that command.
+#[inline(always)]
 fn next_actor<S: ListSpace>(machine: &Machine<S>) -> Option<Actor>
     ensures { result ≡ actor_now (Event.Run 1) machine.now.seen }
 {

@@ -1,21 +1,20 @@
 //! The plain form of a log: a row for each line of the trace, with the number of the step, the time, the line of the command and its text.
-ghost use Rattle.std.specs.Prelude.{◌≡◌, ◌≤◌, ◌<◌, ◌++◌, length, slice_index, IfSome, List, None, OnOk, Some, ℕ};
+ghost use Rattle.std.specs.Prelude.{◌≡◌, ◌≤◌, ◌<◌, ◌++◌, length, slice_index, IfSome, List, None, OnOk, Option, Some, ℕ};
 ghost use Rattle.execlog.specs.Books.{ShowsAll, line_at};
 ghost use Rattle.execlog.specs.Log.{Entry, Gains};
-ghost use Rattle.execlog.specs.Rows.{FollowsRows, IsCutAt, IsRow, LaysOut, time_columns};
+ghost use Rattle.execlog.specs.Rows.{FollowsRows, IsCutAt, IsRow, LaysOut};
 
-use crate::book::Book;
+use crate::book::{Book, Place};
 use crate::cursor::{Cursor, Spot, place_at};
+use crate::feed::feed_of;
 use crate::filter::Filter;
 use crate::form::{Before, Form};
-use crate::frame::{Around, BARE};
+use crate::head::Head;
 use crate::moment::{Actor, Moment};
-use crate::rows::{BLANK, push_framed, put_head};
+use crate::rows::{push_bare, push_framed};
 use execlist::space::ListSpace;
 use execsim::Machine;
-use memchr::memchr;
 use std::alloc::AllocError;
-use std::simd::prelude::*;
 
 /// The plain form.
 #[derive(Clone, Copy)]
@@ -26,47 +25,13 @@ pub struct Plain<'a> {
     pub filter: Filter,
 }
 
-/// Which of the first 16 bytes of a text are line feeds, by bits.
-#[inline(always)]
-fn feeds_in(text: &[u8]) -> u64
-    requires { 16 ≤ length text.now }
-{
-    u8x16::from_slice(text)
-        .simd_eq(u8x16::splat(b'\n'))
-        .to_bitmask()
-}
-
-/// Where a line feed is in a text of one short line: the first one. None if the text is shorter or longer than such lines mostly are.
-#[inline(always)]
-fn feed_of_short(text: &[u8]) -> Option<usize>
-    ensures { IfSome result (λ at. (at < length text.now) × (slice_index text.now at ≡ 10)) }
-{
-    let len = text.len();
-    if len < 16 || len > 32 {
-        return None;
-    }
-    let feeds = feeds_in(text) | feeds_in(&text[len - 16..]) << (len - 16);
-    let at = feeds.trailing_zeros() as usize;
-    if at < len && text[at] == b'\n' {
-        Some(at)
-    } else {
-        None
-    }
-}
-
 /// The first line of a text, without its line feed, and what is after it; none if there is no line feed.
 ///
 /// Source: project rule.
 pub fn cut_line(text: &[u8]) -> Option<(&[u8], &[u8])>
     ensures { IsCutAt text.now result }
 {
-    if let Some(end) = feed_of_short(text) {
-        return Some((&text[..end], &text[end + 1..]));
-    }
-    if text.is_empty() {
-        return None;
-    }
-    match memchr(b'\n', text) {
+    match feed_of(text) {
         None => None,
         Some(end) => Some((&text[..end], &text[end + 1..])),
     }
@@ -92,15 +57,6 @@ pub fn line_of(book: &Book, spot: Spot) -> Option<u32> {
     }
 }
 
-/// What is around a line in its row.
-#[inline(always)]
-fn around_at(book: &Book, spot: Spot) -> Around<'_> {
-    match place_at(book, spot) {
-        None => BARE,
-        Some(place) => place.around(),
-    }
-}
-
 /// Adds what is after the last line feed, which is mostly nothing.
 fn push_rest(page: &mut Vec<u8>, rest: &[u8]) -> Result<(), AllocError>
     ensures { OnOk result (page.new.items ≡ page.old.items ++ rest.now) }
@@ -116,27 +72,63 @@ fn push_rest(page: &mut Vec<u8>, rest: &[u8]) -> Result<(), AllocError>
 struct Heading<'a> {
     moment: &'a Moment,
     /// The columns of its number and its time.
-    bytes: &'a [u8],
-    ghost told: { bytes.now ≡ time_columns moment.now },
+    head: &'a Head,
+    ghost number: { head.now.number ≡ moment.now.number },
+    ghost clock: { head.now.clock ≡ moment.now.clock },
 }
 
 impl Plain<'_> {
+    /// Adds the row of a line of the trace that is of a command, if it is shown.
+    #[inline(always)]
+    fn push_command(
+        &self,
+        heading: Heading<'_>,
+        spot: Spot,
+        place: &Place,
+        line: &[u8],
+        page: &mut Vec<u8>,
+    ) -> Result<(), AllocError>
+        ensures { OnOk result (Gains (IsRow (ShowsAll self.now.filter) heading.entry.moment.now place.now.line line.now) page.old.items page.new.items) }
+    {
+        if self.filter.shows(heading.moment.number, place.line, spot) {
+            push_framed(page, heading.head, &place.frame, line)
+        } else {
+            Ok(())
+        }
+    }
+
+    /// Adds the row of a line of the trace that is of no command, if it is shown.
+    #[inline(always)]
+    fn push_other(
+        &self,
+        heading: Heading<'_>,
+        spot: Spot,
+        line: &[u8],
+        page: &mut Vec<u8>,
+    ) -> Result<(), AllocError>
+        ensures { OnOk result (Gains (IsRow (ShowsAll self.now.filter) heading.entry.moment.now None line.now) page.old.items page.new.items) }
+    {
+        if self.filter.shows(heading.moment.number, None, spot) {
+            push_bare(page, heading.head, line)
+        } else {
+            Ok(())
+        }
+    }
+
     /// Adds the row of a line of the trace, if it is shown.
     #[inline(always)]
     fn push_line(
         &self,
         heading: Heading<'_>,
         spot: Spot,
-        around: Around<'_>,
         line: &[u8],
         page: &mut Vec<u8>,
     ) -> Result<(), AllocError>
-        ensures { OnOk result (Gains (IsRow (ShowsAll self.now.filter) heading.entry.moment.now around.entry.line line.now) page.old.items page.new.items) }
+        ensures { OnOk result ((number : Option ℕ) × Gains (IsRow (ShowsAll self.now.filter) heading.entry.moment.now number line.now) page.old.items page.new.items) }
     {
-        if self.filter.shows(heading.moment.number, around.line, spot) {
-            push_framed(page, heading.bytes, around, line)
-        } else {
-            Ok(())
+        match place_at(self.book, spot) {
+            None => self.push_other(heading, spot, line, page),
+            Some(place) => self.push_command(heading, spot, place, line, page),
         }
     }
 
@@ -156,8 +148,7 @@ impl Plain<'_> {
         let mut rest = text;
         while let Some((line, after)) = cut_line(rest) {
             let spot = cursor.next(self.book, line);
-            let around = around_at(self.book, spot);
-            self.push_line(heading, spot, around, line, page)?;
+            self.push_line(heading, spot, line, page)?;
             rest = after;
         }
         push_rest(page, rest)
@@ -197,29 +188,29 @@ impl Plain<'_> {
             Some((line, rest)) => {
                 let mut cursor = cursor;
                 let spot = cursor.next(self.book, line);
-                self.push_line(heading, spot, BARE, line, page)?;
+                self.push_other(heading, spot, line, page)?;
                 self.push_others(heading, cursor, rest, page)
             }
         }
     }
 
-    /// Adds the rows of the lines of a text whose first line has that around it, which is of a task's command.
+    /// Adds the rows of the lines of a text whose first line is of that command of a task.
     #[inline(always)]
     fn push_of_command(
         &self,
         heading: Heading<'_>,
         actor: Actor,
-        around: Around<'_>,
+        place: &Place,
         text: &[u8],
         page: &mut Vec<u8>,
     ) -> Result<(), AllocError>
-        ensures { OnOk result (Gains (LaysOut (ShowsAll self.now.filter) heading.entry.moment.now around.entry.line text.now) page.old.items page.new.items) }
+        ensures { OnOk result (Gains (LaysOut (ShowsAll self.now.filter) heading.entry.moment.now place.now.line text.now) page.old.items page.new.items) }
     {
         match cut_line(text) {
             None => push_rest(page, text),
             Some((line, rest)) => {
                 let spot = Spot::Task(actor.task, actor.place);
-                self.push_line(heading, spot, around, line, page)?;
+                self.push_command(heading, spot, place, line, page)?;
                 self.push_others(heading, Cursor::behind_task(), rest, page)
             }
         }
@@ -242,27 +233,40 @@ impl Plain<'_> {
                 if place.is_silent {
                     self.push_from(heading, Cursor::behind_task(), text, page)
                 } else {
-                    self.push_of_command(heading, actor, place.around(), text, page)
+                    self.push_of_command(heading, actor, place, text, page)
                 }
             }
         }
     }
 
-    /// Adds the rows of the lines of a text.
-    #[inline(never)]
-    fn push_rows(&self, moment: &Moment, text: &[u8], page: &mut Vec<u8>) -> Result<(), AllocError>
-        ensures { OnOk result (Gains (LaysOut (ShowsAll self.now.filter) moment.now (line_at self.now.book.now moment.now.actor) text.now) page.old.items page.new.items) }
+    /// Adds the rows of the lines of a text, with the columns of its number and its time.
+    #[inline(always)]
+    fn push_rows(
+        &self,
+        heading: Heading<'_>,
+        text: &[u8],
+        page: &mut Vec<u8>,
+    ) -> Result<(), AllocError>
+        ensures { OnOk result (Gains (LaysOut (ShowsAll self.now.filter) heading.entry.moment.now (line_at self.now.book.now heading.entry.moment.now.actor) text.now) page.old.items page.new.items) }
     {
-        let mut room = BLANK;
-        let start = put_head(&mut room, moment);
-        let heading = Heading {
-            moment,
-            bytes: &room[start..],
-        };
-        match moment.actor {
+        match heading.moment.actor {
             None => self.push_from(heading, Cursor::behind_task(), text, page),
             Some(actor) => self.push_step(heading, actor, text, page),
         }
+    }
+
+    /// Adds the rows of the lines of a text, whose number and time were not foreseen.
+    #[cold]
+    #[inline(never)]
+    fn push_anew(&self, moment: &Moment, text: &[u8], page: &mut Vec<u8>) -> Result<(), AllocError>
+        ensures { OnOk result (Gains (LaysOut (ShowsAll self.now.filter) moment.now (line_at self.now.book.now moment.now.actor) text.now) page.old.items page.new.items) }
+    {
+        let head = Head::of(moment.number, moment.clock);
+        let heading = Heading {
+            moment,
+            head: &head,
+        };
+        self.push_rows(heading, text, page)
     }
 }
 
@@ -272,21 +276,27 @@ impl Form for Plain<'_> {
 
     ghost shows = { λ f e bytes. LaysOut (ShowsAll f.filter) e.moment (line_at f.book.now e.moment.actor) e.text bytes };
 
+    #[inline(always)]
     fn note<S: ListSpace>(
         &self,
-        _machine: &Machine<S>,
-        _number: u64,
-        _actor: Option<Actor>,
-        _before: &mut Before,
-    ) {}
+        machine: &Machine<S>,
+        number: u64,
+        actor: Option<Actor>,
+        before: &mut Before,
+    ) {
+        before
+            .head
+            .foresee(number, machine.view().clock, actor.is_some());
+    }
 
     fn shows_silent(&self) -> bool {
         false
     }
 
+    #[inline(always)]
     fn push_entry(
         &self,
-        _before: &Before,
+        before: &Before,
         moment: &Moment,
         text: &[u8],
         page: &mut Vec<u8>,
@@ -294,6 +304,14 @@ impl Form for Plain<'_> {
         if text.is_empty() {
             return Ok(());
         }
-        self.push_rows(moment, text, page)
+        if before.head.number == moment.number && before.head.clock == moment.clock {
+            let heading = Heading {
+                moment,
+                head: &before.head,
+            };
+            self.push_rows(heading, text, page)
+        } else {
+            self.push_anew(moment, text, page)
+        }
     }
 }

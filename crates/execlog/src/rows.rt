@@ -1,9 +1,11 @@
 //! The rows of a log: columns before and after a line of the trace. The columns before it are put into room of a fixed size, the last one first.
-ghost use Rattle.std.specs.Prelude.{◌≡◌, ◌∷◌, ◌≤◌, ◌<◌, ◌++◌, ◌+◌, ◌-◌, ◌/◌, codes, decimal, drop, length, replicate, take, OnOk};
-ghost use Rattle.execlog.specs.Rows.{IsBlank, digit, front, line_column, millis, padded, row_with, source_column, time_columns};
+ghost use Rattle.std.specs.Prelude.{◌≡◌, ◌∷◌, ◌≤◌, ◌<◌, ◌++◌, ◌+◌, ◌-◌, ◌/◌, [], codes, decimal, drop, length, replicate, take, OnOk};
+ghost use Rattle.execlog.specs.Rows.{IsBlank, IsSheet, columns, digit, front, line_column, millis, padded, row_with, source_column};
 
-use crate::frame::Around;
+use crate::frame::Frame;
+use crate::head::Head;
 use crate::moment::Moment;
+use crate::sheet::{Sheet, WIDTH, push_over};
 use itoa::write_digits;
 use std::alloc::AllocError;
 
@@ -13,8 +15,11 @@ pub(crate) const ROOM: usize = 64;
 /// Blank room.
 pub(crate) const BLANK: [u8; ROOM] = [b' '; ROOM];
 
-/// The most spaces between a line of the trace and the text of its command.
-const SPACES: [u8; 45] = [b' '; 45];
+/// Spaces, more than there are between a line of the trace and the text of its command.
+const SPACES: [u8; WIDTH] = [b' '; WIDTH];
+
+/// The most bytes of a line of no command that are written over spaces.
+const MOST_BARE: usize = WIDTH - 8;
 
 /// Puts a byte before a place in room that is blank up to there, and answers where it is.
 fn put_byte(room: &mut [u8], end: usize, byte: u8) -> usize
@@ -44,7 +49,7 @@ fn put_digits(room: &mut [u8], end: usize, n: u64) -> usize
 }
 
 /// Puts a number at the right of a column that ends at a place in room that is blank up to there, and answers where the column begins.
-fn put_column(room: &mut [u8], end: usize, n: u64) -> usize
+pub(crate) fn put_column(room: &mut [u8], end: usize, n: u64) -> usize
     requires within { (25 ≤ end) × (end ≤ length room.old) }
     requires blank { IsBlank end room.old }
     ensures few { end ≤ result + 25 }
@@ -57,7 +62,8 @@ fn put_column(room: &mut [u8], end: usize, n: u64) -> usize
 }
 
 /// The last digit of a number.
-fn digit(n: u64) -> u8
+#[inline(always)]
+pub(crate) fn digit(n: u64) -> u8
     ensures { result ≡ digit n }
 {
     b'0' + (n % 10) as u8
@@ -79,7 +85,7 @@ fn put_places(room: &mut [u8], end: usize, micros: u64) -> usize
 }
 
 /// Puts microseconds as milliseconds.
-fn put_millis(room: &mut [u8], end: usize, micros: u64) -> usize
+pub(crate) fn put_millis(room: &mut [u8], end: usize, micros: u64) -> usize
     requires within { (29 ≤ end) × (end ≤ length room.old) }
     requires blank { IsBlank end room.old }
     ensures few { end ≤ result + 29 }
@@ -125,18 +131,6 @@ fn put_line(room: &mut [u8], end: usize, line: Option<u32>) -> usize
     }
 }
 
-/// Puts the number and the time at the end of blank room, and answers where they begin.
-#[inline(always)]
-pub(crate) fn put_head(room: &mut [u8], moment: &Moment) -> usize
-    requires { room.old ≡ replicate 64 32 }
-    ensures within { result ≤ 64 }
-    ensures put { drop result room.new ≡ time_columns moment.now }
-    ensures room { length room.new ≡ 64 }
-{
-    let from_time = put_millis(room, ROOM, moment.clock);
-    put_column(room, from_time, moment.number)
-}
-
 /// Adds the column of a line, and the two spaces after it.
 pub(crate) fn push_line_column(page: &mut Vec<u8>, line: Option<u32>) -> Result<(), AllocError>
     ensures { OnOk result (page.new.items ≡ page.old.items ++ (line_column line ++ codes "  ")) }
@@ -150,9 +144,7 @@ pub(crate) fn push_line_column(page: &mut Vec<u8>, line: Option<u32>) -> Result<
 fn push_front(page: &mut Vec<u8>, line: Option<u32>, moment: &Moment) -> Result<(), AllocError>
     ensures { OnOk result (page.new.items ≡ page.old.items ++ front line moment.now) }
 {
-    let mut room = BLANK;
-    let start = put_head(&mut room, moment);
-    page.extend_from_slice(&room[start..])?;
+    Head::of(moment.number, moment.clock).push(page)?;
     push_line_column(page, line)
 }
 
@@ -193,19 +185,88 @@ pub fn push_row(
     Ok(())
 }
 
+/// Adds a row: the number and the time, and a line of the trace that takes the place of no more than the spaces after it.
+#[inline(always)]
+fn push_on_sheet(
+    page: &mut Vec<u8>,
+    head: &Head,
+    frame: &Frame,
+    sheet: &Sheet,
+    text: &[u8],
+) -> Result<(), AllocError>
+    requires short { length text.now ≤ sheet.now.most }
+    requires sheet { (sheet.now.most ≡ frame.now.gap) × IsSheet frame.now.before.items frame.now.after.items sheet.now.cells sheet.now.at sheet.now.len }
+    ensures { OnOk result (page.new.items ≡ page.old.items ++ (columns head.now.number head.now.clock ++ (frame.now.before.items
+        ++ (text.now ++ drop (frame.now.gap - (frame.now.gap - length text.now)) frame.now.after.items)))) }
+{
+    head.push(page)?;
+    push_over(page, &sheet.cells, sheet.at, sheet.len, text)
+}
+
 /// Adds a row: the number and the time, and a line of the trace within what is around it.
+#[cold]
+#[inline(never)]
+fn push_around(
+    page: &mut Vec<u8>,
+    head: &Head,
+    frame: &Frame,
+    text: &[u8],
+) -> Result<(), AllocError>
+    requires { frame.now.gap ≤ length frame.now.after.items }
+    ensures { OnOk result (page.new.items ≡ page.old.items ++ (columns head.now.number head.now.clock ++ (frame.now.before.items
+        ++ (text.now ++ drop (frame.now.gap - (frame.now.gap - length text.now)) frame.now.after.items)))) }
+{
+    head.push(page)?;
+    page.extend_from_slice(&frame.before)?;
+    page.extend_from_slice(text)?;
+    let taken = frame.gap - frame.gap.saturating_sub(text.len());
+    page.extend_from_slice(&frame.after[taken..])
+}
+
+/// Adds a row: the number and the time, and a line of the trace that is of a command.
 #[inline(never)]
 pub(crate) fn push_framed(
     page: &mut Vec<u8>,
-    head: &[u8],
-    around: Around<'_>,
+    head: &Head,
+    frame: &Frame,
     text: &[u8],
 ) -> Result<(), AllocError>
-    ensures { OnOk result (page.new.items ≡ page.old.items ++ (head.now ++ (around.entry.before.now ++ (text.now ++ drop (around.entry.gap - (around.entry.gap - length text.now)) around.entry.after.now)))) }
+    requires { frame.now.gap ≤ length frame.now.after.items }
+    ensures { OnOk result (page.new.items ≡ page.old.items ++ (columns head.now.number head.now.clock ++ (frame.now.before.items
+        ++ (text.now ++ drop (frame.now.gap - (frame.now.gap - length text.now)) frame.now.after.items)))) }
 {
-    page.extend_from_slice(head)?;
-    page.extend_from_slice(around.before)?;
-    page.extend_from_slice(text)?;
-    let taken = around.gap - around.gap.saturating_sub(text.len());
-    page.extend_from_slice(&around.after[taken..])
+    match &frame.sheet {
+        Some(sheet) => {
+            if text.len() <= sheet.most {
+                push_on_sheet(page, head, frame, sheet, text)
+            } else {
+                push_around(page, head, frame, text)
+            }
+        }
+        None => push_around(page, head, frame, text),
+    }
+}
+
+/// Adds an empty column of a line, and a line of the trace.
+#[inline(always)]
+fn push_text(page: &mut Vec<u8>, text: &[u8]) -> Result<(), AllocError>
+    ensures { OnOk result (page.new.items ≡ page.old.items ++ (replicate 8 32 ++ text.now)) }
+{
+    let len = text.len();
+    if len <= MOST_BARE {
+        return push_over(page, &SPACES, 8, 8 + len, text);
+    }
+    page.extend_from_slice(&SPACES[..8])?;
+    page.extend_from_slice(text)
+}
+
+/// Adds a row: the number and the time, and a line of the trace that is of no command.
+#[inline(never)]
+pub(crate) fn push_bare(page: &mut Vec<u8>, head: &Head, text: &[u8]) -> Result<(), AllocError>
+    ensures { OnOk result (page.new.items ≡ page.old.items ++ (columns head.now.number head.now.clock ++ (replicate 8 32 ++ (text.now ++ 10 ∷ [])))) }
+{
+    head.push(page)?;
+    push_text(page, text)?;
+    page.push(b'\n')?;
+    Ok(())
 }

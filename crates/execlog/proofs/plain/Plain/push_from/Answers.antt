@@ -6,5 +6,5 @@ use Rattle.execlog.proofs.plain.Plain.push_from.Goals as goal
 pub returns-in-None : goal.returns-in-None
 returns-in-None c = whole_then c.push_rest.result (λ added. lays_none c.in-None.ensures added) c.push_rest.ensures
 
-pub returns-in_ok-push_line-in-Some : goal.returns-in_ok-push_line-in-Some
-returns-in_ok-push_line-in-Some c = whole_then c.push_others.result (λ others. lays_rows c.in-Some.ensures c.in_ok-push_line-in-Some.ensures others) c.push_others.ensures
+pub returns-in_ok-push_other-in-Some : goal.returns-in_ok-push_other-in-Some
+returns-in_ok-push_other-in-Some c = whole_then c.push_others.result (λ others. lays_rows c.in-Some.ensures c.in_ok-push_other-in-Some.ensures others) c.push_others.ensures

@@ -1,0 +1,95 @@
+//! The columns of the number and the time of an entry. They are kept from one entry to the next, of which mostly one digit differs.
+ghost use Rattle.std.specs.Prelude.{◌≡◌, ◌∷◌, ◌<◌, ◌++◌, ◌+◌, ◌/◌, drop, length, take, OnOk};
+ghost use Rattle.execlog.specs.Rows.{IsHead, columns};
+
+use crate::rows::{digit, put_column, put_millis};
+use std::alloc::AllocError;
+
+/// How many bytes there is room for.
+const ROOM: usize = 128;
+
+/// Where the columns end, so that there is room for the longest, and after which there are spaces.
+const END: usize = 64;
+
+/// How many bytes are copied at once; nearly all columns are shorter.
+const WIDTH: usize = 32;
+
+/// The columns of a number and a time, with spaces after them.
+#[derive(Clone, Copy)]
+pub(crate) struct Head {
+    pub(crate) number: u64,
+    pub(crate) clock: u64,
+    /// The number without its last digit.
+    tens: u64,
+    room: [u8; ROOM],
+    /// Where the columns begin.
+    start: usize,
+    /// Where the last digit of the number is.
+    last: usize,
+    ghost is_head: { IsHead number clock tens start last room },
+}
+
+/// Puts a byte in the place of another.
+#[inline(always)]
+fn replace(room: &mut [u8], at: usize, byte: u8)
+    requires { at < length room.old }
+    ensures { room.new ≡ take at room.old ++ byte ∷ drop (at + 1) room.old }
+{
+    room[at] = byte;
+}
+
+impl Head {
+    /// The columns of a number and a time, in microseconds.
+    pub(crate) fn of(number: u64, clock: u64) -> Head
+        ensures number { result.number ≡ number }
+        ensures clock { result.clock ≡ clock }
+    {
+        let mut room = [b' '; ROOM];
+        let from_time = put_millis(&mut room, END, clock);
+        let start = put_column(&mut room, from_time, number);
+        Head {
+            number,
+            clock,
+            tens: number / 10,
+            room,
+            start,
+            last: from_time - 1,
+        }
+    }
+
+    /// Goes on to a number, if it differs in no more than the last digit, and the time is the same.
+    #[inline(always)]
+    fn count_to(&mut self, number: u64)
+        requires { number / 10 ≡ self.old.tens }
+        ensures number { self.new.number ≡ number }
+        ensures clock { self.new.clock ≡ self.old.clock }
+    {
+        replace(&mut self.room, self.last, digit(number));
+        self.number = number;
+    }
+
+    /// Goes on to a number and a time. If more than a digit differs, nothing is done but `in_any_case`.
+    #[inline(always)]
+    pub(crate) fn foresee(&mut self, number: u64, clock: u64, in_any_case: bool) {
+        if number / 10 == self.tens && clock == self.clock {
+            self.count_to(number);
+        } else if in_any_case {
+            *self = Head::of(number, clock);
+        }
+    }
+
+    /// Adds the columns.
+    #[inline(always)]
+    pub(crate) fn push(&self, page: &mut Vec<u8>) -> Result<(), AllocError>
+        ensures { OnOk result (page.new.items ≡ page.old.items ++ columns self.now.number self.now.clock) }
+    {
+        let len = END - self.start;
+        if len > WIDTH {
+            return page.extend_from_slice(&self.room[self.start..END]);
+        }
+        let from = page.len();
+        page.extend_from_slice(&self.room[self.start..self.start + WIDTH])?;
+        page.truncate(from + len);
+        Ok(())
+    }
+}

@@ -1,0 +1,119 @@
+//! What is before and after a line in its row, in cells that are copied at once; the line is then written over the spaces.
+ghost use Rattle.std.specs.Prelude.{◌≡◌, ◌≤◌, ◌++◌, ◌+◌, ◌-◌, drop, length, take, IfSome, OnOk};
+ghost use Rattle.execlog.specs.Rows.{IsSheet};
+
+use std::alloc::AllocError;
+
+/// How many cells there are.
+pub(crate) const WIDTH: usize = 96;
+
+/// Cells that begin with what is before and after a line that has no byte.
+#[derive(Clone, Copy)]
+pub(crate) struct Sheet {
+    pub(crate) cells: [u8; WIDTH],
+    /// Where the line begins.
+    pub(crate) at: usize,
+    /// How many cells are used.
+    pub(crate) len: usize,
+    /// How many bytes of a line are written over spaces, at most.
+    pub(crate) most: usize,
+    ghost within: { len ≤ 96 },
+    ghost fits: { at + most ≤ len },
+}
+
+/// Writes a text over bytes from a place on.
+#[inline(always)]
+fn write_over(room: &mut [u8], at: usize, text: &[u8])
+    requires { at + length text.now ≤ length room.old }
+    ensures before { take (at + length text.now) room.new ≡ take at room.old ++ text.now }
+    ensures after { drop (at + length text.now) room.new ≡ drop (at + length text.now) room.old }
+    ensures room { length room.new ≡ length room.old }
+{
+    room[at..at + text.len()].copy_from_slice(text);
+}
+
+/// Writes a text over bytes from a place on, by its first bytes and by its last ones, of that width.
+#[inline(always)]
+fn write_ends(room: &mut [u8], at: usize, text: &[u8], width: usize)
+    requires within { at + length text.now ≤ length room.old }
+    requires wide { width ≤ length text.now }
+    requires narrow { length text.now ≤ width + width }
+    ensures before { take (at + length text.now) room.new ≡ take at room.old ++ text.now }
+    ensures after { drop (at + length text.now) room.new ≡ drop (at + length text.now) room.old }
+    ensures room { length room.new ≡ length room.old }
+{
+    let rest = text.len() - width;
+    write_over(room, at, &text[..width]);
+    write_over(room, at + rest, &text[rest..]);
+}
+
+/// Writes a text over bytes from a place on. Most are short.
+#[inline(always)]
+fn write_text(room: &mut [u8], at: usize, text: &[u8])
+    requires { at + length text.now ≤ length room.old }
+    ensures before { take (at + length text.now) room.new ≡ take at room.old ++ text.now }
+    ensures after { drop (at + length text.now) room.new ≡ drop (at + length text.now) room.old }
+    ensures room { length room.new ≡ length room.old }
+{
+    let len = text.len();
+    if len >= 16 {
+        if len <= 32 {
+            write_ends(room, at, text, 16);
+        } else if len <= 64 {
+            write_ends(room, at, text, 32);
+        } else {
+            write_over(room, at, text);
+        }
+    } else if len >= 8 {
+        write_ends(room, at, text, 8);
+    } else {
+        write_over(room, at, text);
+    }
+}
+
+/// Adds the first cells, that many, with a text over those from a place on.
+#[inline(always)]
+pub(crate) fn push_over(
+    page: &mut Vec<u8>,
+    cells: &[u8; WIDTH],
+    at: usize,
+    len: usize,
+    text: &[u8],
+) -> Result<(), AllocError>
+    requires within { at + length text.now ≤ len }
+    requires few { len ≤ 96 }
+    ensures { OnOk result (page.new.items ≡ page.old.items ++ (take at cells.now ++ (text.now ++ take (len - (at + length text.now)) (drop (at + length text.now) cells.now)))) }
+{
+    let from = page.len();
+    page.extend_from_slice(cells)?;
+    write_text(&mut page[from..], at, text);
+    page.truncate(from + len);
+    Ok(())
+}
+
+impl Sheet {
+    /// The cells of what is before a line, and after it if it has no byte; none if they are too long. A line takes the place of `gap` bytes at most.
+    pub(crate) fn new(before: &[u8], after: &[u8], gap: usize) -> Option<Sheet>
+        ensures { IfSome result (λ s. (s.most ≡ gap) × IsSheet before.now after.now s.cells s.at s.len) }
+    {
+        let at = before.len();
+        if at > WIDTH {
+            return None;
+        }
+        if after.len() > WIDTH - at {
+            return None;
+        }
+        if gap > after.len() {
+            return None;
+        }
+        let mut cells = [b' '; WIDTH];
+        write_over(&mut cells, 0, before);
+        write_over(&mut cells, at, after);
+        Some(Sheet {
+            cells,
+            at,
+            len: at + after.len(),
+            most: gap,
+        })
+    }
+}
