@@ -35,6 +35,49 @@ fn write_at(cells: &mut [u8; PAGE], at: usize, bytes: &[u8])
     cells[at..at + bytes.len()].copy_from_slice(bytes);
 }
 
+/// Writes bytes, as many as that width, over the cells from a place on. All are read before the first is written, so that nothing
+/// asks at run time whether they overlap.
+#[inline(always)]
+fn write_block<const WIDTH: usize>(cells: &mut [u8; PAGE], at: usize, bytes: &[u8])
+    requires room { at + WIDTH ≤ PAGE }
+    requires whole { length bytes.now ≡ WIDTH }
+    ensures { take (at + length bytes.now) cells.new ≡ take at cells.old ++ bytes.now }
+{
+    if let Ok(block) = <[u8; WIDTH]>::try_from(bytes) {
+        write_at(cells, at, &block);
+    }
+}
+
+/// Writes bytes over the cells from a place on, by the first of them and by the last ones, of that width.
+#[inline(always)]
+fn write_ends<const WIDTH: usize>(cells: &mut [u8; PAGE], at: usize, bytes: &[u8])
+    requires room { at + length bytes.now ≤ PAGE }
+    requires wide { WIDTH ≤ length bytes.now }
+    requires narrow { length bytes.now ≤ WIDTH + WIDTH }
+    ensures { take (at + length bytes.now) cells.new ≡ take at cells.old ++ bytes.now }
+{
+    let rest = bytes.len() - WIDTH;
+    write_block::<WIDTH>(cells, at, &bytes[..WIDTH]);
+    write_block::<WIDTH>(cells, at + rest, &bytes[rest..]);
+}
+
+/// Writes a line of 8 to 64 bytes over the cells from a place on, in two moves of one width, which may overlap.
+#[inline(always)]
+fn write_line(cells: &mut [u8; PAGE], at: usize, line: &[u8])
+    requires room { at + length line.now ≤ PAGE }
+    requires long { 8 ≤ length line.now }
+    requires short { length line.now ≤ 64 }
+    ensures { take (at + length line.now) cells.new ≡ take at cells.old ++ line.now }
+{
+    if line.len() > 32 {
+        write_ends::<32>(cells, at, line);
+    } else if line.len() > 16 {
+        write_ends::<16>(cells, at, line);
+    } else {
+        write_ends::<8>(cells, at, line);
+    }
+}
+
 impl Page {
     /// An empty page.
     fn new() -> Self
@@ -54,7 +97,6 @@ impl Page {
     }
 
     /// Adds bytes, if there is room for them, and answers whether there was.
-    #[inline(always)]
     fn add(&mut self, bytes: &[u8]) -> bool
         ensures added { result ≡ true → self.new ≡ self.old ++ bytes.now }
         ensures kept { result ≡ false → self.new ≡ self.old }
@@ -65,6 +107,21 @@ impl Page {
         }
         write_at(&mut self.cells, len, bytes);
         self.len = len + bytes.len();
+        true
+    }
+
+    /// Adds a line of 8 to 64 bytes, as most have, if there is room for it, and answers whether it did.
+    #[inline(always)]
+    fn add_line(&mut self, line: &[u8]) -> bool
+        ensures added { result ≡ true → self.new ≡ self.old ++ line.now }
+        ensures kept { result ≡ false → self.new ≡ self.old }
+    {
+        let len = self.len;
+        if line.len() > PAGE - len || line.len() < 8 || line.len() > 64 {
+            return false;
+        }
+        write_line(&mut self.cells, len, line);
+        self.len = len + line.len();
         true
     }
 
@@ -137,16 +194,20 @@ impl<W: Write> Paged<W> {
         self.page.as_slice().is_empty()
     }
 
-    /// Hands the page over, and then the bytes, and answers how many of these were taken, or none if a write failed.
+    /// Adds bytes of any length to the page. If they have no room there, hands the page over, and then the bytes. Answers how many of
+    /// these were taken, or none if a write failed.
     #[cold]
     #[inline(never)]
-    fn write_past(&mut self, bytes: &[u8]) -> Option<usize>
+    fn write_any(&mut self, bytes: &[u8]) -> Option<usize>
         ensures within { IfSome result (λ n. n ≤ length bytes.now) }
         ensures some { IfSome result (λ n. Appends (append_known (W.contents self.old.writer) self.old.page)
             (append_known (W.contents self.new.writer) self.new.page) (take n bytes.now)) }
         ensures none { IfNone result (Keeps (append_known (W.contents self.old.writer) self.old.page)
             (append_known (W.contents self.new.writer) self.new.page)) }
     {
+        if self.page.add(bytes) {
+            return Some(bytes.len());
+        }
         if !self.hand_over() {
             return None;
         }
@@ -164,10 +225,10 @@ impl<W: Write> Write for Paged<W> {
 
     #[inline(always)]
     fn write(&mut self, buf: &[u8]) -> io::Result<usize> {
-        if self.page.add(buf) {
+        if self.page.add_line(buf) {
             return Ok(buf.len());
         }
-        match self.write_past(buf) {
+        match self.write_any(buf) {
             Some(count) => Ok(count),
             None => Err(io::Error::from(ErrorKind::Other)),
         }
