@@ -44,6 +44,7 @@ impl<S: ListSpace> Kernel<S> {
         self.announce(choice, out);
     }
 
+    #[inline(always)]
     fn reschedule(&mut self) -> Option<Switch>
         ensures answer { result ≡ switch_of by_priority self.old.schedule }
         ensures next { self.new ≡ record self.old { schedule = rescheduled by_priority self.old.schedule } }

@@ -37,17 +37,30 @@ fn write_at(cells: &mut [u8; ROOM], at: usize, text: &[u8])
     cells[at..at + text.len()].copy_from_slice(text);
 }
 
-/// Writes a text over the cells from a place on, by its first bytes and by its last ones, of that width.
+/// Writes a text, as long as that width, over the cells from a place on. All of it is read before the first byte is written, so that nothing
+/// asks at run time whether they overlap.
 #[inline(always)]
-fn write_ends(cells: &mut [u8; ROOM], at: usize, text: &[u8], width: usize)
-    requires room { at + length text.now ≤ ROOM }
-    requires wide { width ≤ length text.now }
-    requires narrow { length text.now ≤ width + width }
+fn write_block<const WIDTH: usize>(cells: &mut [u8; ROOM], at: usize, text: &[u8])
+    requires room { at + WIDTH ≤ ROOM }
+    requires whole { length text.now ≡ WIDTH }
     ensures { take (at + length text.now) cells.new ≡ take at cells.old ++ text.now }
 {
-    let rest = text.len() - width;
-    write_at(cells, at, &text[..width]);
-    write_at(cells, at + rest, &text[rest..]);
+    if let Ok(block) = <[u8; WIDTH]>::try_from(text) {
+        write_at(cells, at, &block);
+    }
+}
+
+/// Writes a text over the cells from a place on, by its first bytes and by its last ones, of that width.
+#[inline(always)]
+fn write_ends<const WIDTH: usize>(cells: &mut [u8; ROOM], at: usize, text: &[u8])
+    requires room { at + length text.now ≤ ROOM }
+    requires wide { WIDTH ≤ length text.now }
+    requires narrow { length text.now ≤ WIDTH + WIDTH }
+    ensures { take (at + length text.now) cells.new ≡ take at cells.old ++ text.now }
+{
+    let rest = text.len() - WIDTH;
+    write_block::<WIDTH>(cells, at, &text[..WIDTH]);
+    write_block::<WIDTH>(cells, at + rest, &text[rest..]);
 }
 
 /// Writes a text of at most 32 bytes over the cells from a place on: a name, or a word.
@@ -60,14 +73,14 @@ fn write_short(cells: &mut [u8; ROOM], at: usize, text: &[u8])
     let len = text.len();
     if len >= 4 {
         if len <= 8 {
-            write_ends(cells, at, text, 4);
+            write_ends::<4>(cells, at, text);
         } else if len <= 16 {
-            write_ends(cells, at, text, 8);
+            write_ends::<8>(cells, at, text);
         } else {
-            write_ends(cells, at, text, 16);
+            write_ends::<16>(cells, at, text);
         }
     } else if len >= 2 {
-        write_ends(cells, at, text, 2);
+        write_ends::<2>(cells, at, text);
     } else if len == 1 {
         write_at(cells, at, text);
     }

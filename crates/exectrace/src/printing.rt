@@ -12,7 +12,7 @@ ghost use Rattle.exectrace.specs.declared.sinks.SinkState.{SinkState};
 
 use crate::draft::{Draft, ROOM};
 use crate::lines::{Arg, CallLine, CallOutcome, Line, Name, ShortArg};
-use crate::sinks::{Sink, WriteFault, put, written};
+use crate::sinks::{Sink, WriteFault, put, put_here, written};
 
 /// The two digits of each number below 256.
 const PAIRS: &[u8; 512] =
@@ -119,6 +119,14 @@ fn hand_over<W: Sink>(line: &Draft, out: &mut W)
     put(line.as_slice(), out);
 }
 
+/// Does what `hand_over` does, where it is called.
+#[inline(always)]
+fn hand_over_here<W: Sink>(line: &Draft, out: &mut W)
+    ensures { Puts (W.tape out.old) (W.tape out.new) line.now.items }
+{
+    put_here(line.as_slice(), out);
+}
+
 /// Puts a text between two others, all of which may have no room in one piece.
 #[cold]
 #[inline(never)]
@@ -156,7 +164,7 @@ fn put_between<W: Sink>(before: &[u8], text: &[u8], after: &[u8], out: &mut W)
     let mut cells = [0; ROOM];
     let mut line = Draft::new(&mut cells);
     if try_between(&mut line, before, text, after) {
-        hand_over(&line, out);
+        hand_over_here(&line, out);
     } else {
         put_long_between(before, text, after, out);
     }
@@ -471,7 +479,7 @@ pub fn put_short_call<W: Sink>(
     let mut cells = [0; ROOM];
     let mut line = Draft::new(&mut cells);
     if try_call(&mut line, name, word, arguments, quoted, outcome) {
-        hand_over(&line, out);
+        hand_over_here(&line, out);
     } else {
         put_long_call(name, word, arguments, quoted, outcome, out);
     }

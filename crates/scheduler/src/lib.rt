@@ -311,7 +311,7 @@ impl<S: ListSpace> Sched<S> {
     }
 
     // Does what `reschedule` does if something may have changed, and finds out whether that was nothing.
-    #[inline(never)]
+    #[inline(always)]
     fn decide(&mut self) -> Option<Switch>
         ensures answer { result ≡ switch_of by_priority self.old }
         ensures next { self.new ≡ rescheduled by_priority self.old }
@@ -341,7 +341,7 @@ impl<S: ListSpace> Sched<S> {
     fn begins_anew(&self) -> bool
         ensures { result ≡ begins_anew self.now.running self.now }
     {
-        self.running.is_some() && self.may_switch() && self.left == 0
+        self.left == 0 && self.running.is_some() && self.may_switch()
     }
 
     // The switch that is due, if any.
@@ -397,6 +397,7 @@ impl<S: ListSpace> Sched<S> {
     }
 
     // Makes a switch, or if there is none lets a quantum that has ended begin anew.
+    #[inline(never)]
     fn turn(&mut self, switch: Option<Switch>)
         requires { IsToReady switch self.old.queue.states }
         ensures next { self.new ≡ after_switch by_priority switch self.old }

@@ -4,7 +4,7 @@ use Rattle.exectrace.proofs.Drafts.{both_ends}
 use Rattle.exectrace.proofs.draft.write_ends.Goals as goal
 
 pub returns : goal.returns
-returns c =
+returns g c =
     let inside : c.args.at ≤ length c.args.cells.now = search rules in
-    both_ends c.args.cells.now c.write_at.new.cells c.write_at-2.new.cells c.args.text.now c.args.at c.args.width _ inside c.requires.wide c.requires.narrow refl
-    c.write_at.ensures c.write_at-2.ensures
+    both_ends c.args.cells.now c.write_block.new.cells c.write_block-2.new.cells c.args.text.now c.args.at _ _ inside c.requires.wide c.requires.narrow refl
+    c.write_block.ensures c.write_block-2.ensures

@@ -1,7 +1,7 @@
--- The proof of `put`: writes all the bytes to a good sink, and nothing to one that is not good.
+-- The proof of `put_here`: writes all the bytes to a good sink, and nothing to one that is not good.
 use Rattle.std.proofs.Common.{sym, ◌∙◌}
 use Rattle.exectrace.proofs.Pieces.{puts_rest}
-use Rattle.exectrace.proofs.sinks.put.Goals as goal
+use Rattle.exectrace.proofs.sinks.put_here.Goals as goal
 
 pub returns-then-count-bytes : goal.returns-then-count-bytes
 returns-then-count-bytes g c =
