@@ -9,6 +9,9 @@ ghost use Rattle.execlist.specs.Lists.{part_after, part_from, times};
 ghost use Rattle.taskq.specs.Tasks.{state_at, name_at, is_ready, is_live, is_live_named, pris_of};
 ghost use Rattle.execlist.specs.Disciplines.{pri_at};
 
+mod names;
+
+use crate::names::Names;
 use execlist::key::Name;
 use execlist::space::ListSpace;
 use execlist::walk::next_node;
@@ -56,7 +59,7 @@ pub enum TaskState {
 pub struct TaskQ<S: ListSpace> {
     space: S,
     states: Vec<TaskState>,
-    names: Vec<Name>,
+    names: Names,
 }
 
 impl<S: ListSpace> Model for TaskQ<S> {
@@ -70,11 +73,11 @@ impl<S: ListSpace> Model for TaskQ<S> {
       ready = sequence (S.sequences q.space) 0;
       states = q.states.items;
       pris = pris_of (S.keys q.space);
-      names = map (λ n. n.bytes) q.names.items;
+      names = q.names;
     } };
 
     ghost invariant = { λ q. IsSound
-        (length (S.sequences q.space)) (S.homes q.space) q.states.items (length q.names.items) };
+        (length (S.sequences q.space)) (S.homes q.space) q.states.items (length q.names) };
 }
 
 #[tactic(auto, using(crate::proofs::TaskLemmas::changes))]
@@ -90,7 +93,7 @@ impl<S: ListSpace> TaskQ<S> {
     {
         let mut space = S::new(alloc, 1, tasks.len())?;
         let states = Vec::from_elem(alloc, TaskState::Absent, tasks.len())?;
-        let names = names_of(alloc, tasks)?;
+        let names = Names::new(alloc, tasks)?;
         set_pris(&mut space, tasks);
         Ok(TaskQ {
             space,
@@ -112,7 +115,7 @@ impl<S: ListSpace> TaskQ<S> {
         self.space.reset();
         set_pris(&mut self.space, tasks);
         self.states.fill(TaskState::Absent);
-        set_names(&mut self.names, tasks);
+        self.names.set(tasks);
     }
 
     /// Answers the task that is to run next, which stays ready, or none if no task is ready.
@@ -235,8 +238,8 @@ impl<S: ListSpace> TaskQ<S> {
         ensures known { IfSome result (λ t. t < length self.now.states) }
         ensures live { IfSome result (λ t. IsTrue (is_live (state_at self.now.states t))) }
     {
-        for t in 0..self.states.len() {
-            if self.is_live(t) && self.names[t].as_str() == name {
+        for t in self.names.start(name)..self.states.len() {
+            if self.is_live(t) && self.names.get(t).as_str() == name {
                 return Some(t);
             }
         }
@@ -280,7 +283,7 @@ impl<S: ListSpace> TaskQ<S> {
         requires { t < length self.now.states }
         ensures { result.now.bytes ≡ name_at self.now.names t }
     {
-        &self.names[t]
+        self.names.get(t)
     }
 
     /// Answers the state of a task. RKM Libraries, Exec Tasks: `tc_State`.
@@ -290,17 +293,6 @@ impl<S: ListSpace> TaskQ<S> {
     {
         self.states[t]
     }
-}
-
-/// The names of the tasks, in their order.
-fn names_of(alloc: Global, tasks: &[TaskInit]) -> Result<Vec<Name>, AllocError>
-    ensures { IfOk result (λ v. v.items ≡ map (λ t. t.name) tasks.now) }
-{
-    let mut names = Vec::with_capacity(alloc, tasks.len())?;
-    for task in tasks {
-        names.push(task.name)?;
-    }
-    Ok(names)
 }
 
 /// Gives the tasks, none of which is ready, their priorities.
@@ -313,15 +305,5 @@ fn set_pris<S: ListSpace>(space: &mut S, tasks: &[TaskInit])
 {
     for t in 0..tasks.len() {
         space.set_key(t, tasks[t].pri, None);
-    }
-}
-
-/// Gives the tasks other names.
-fn set_names(names: &mut Vec<Name>, tasks: &[TaskInit])
-    requires { length tasks.now ≡ length names.old.items }
-    ensures { names.new.items ≡ map (λ t. t.name) tasks.now }
-{
-    for t in 0..tasks.len() {
-        names[t] = tasks[t].name;
     }
 }

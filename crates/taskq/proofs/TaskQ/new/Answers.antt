@@ -1,7 +1,6 @@
 -- With all priorities set, the tasks are as they were given.
 use Rattle.std.proofs.Common.{rules, ◌≡◌, length, map, replicate, sym, ap, ◌∙◌}
 use Rattle.std.proofs.lemmas.List.{length-map, length-replicate}
-use Rattle.std.proofs.lemmas.Simd.{map-map}
 use Rattle.taskq.proofs.TaskLemmas.{homes_absent}
 use Rattle.taskq.specs.declared.TaskState.TheVariants.{Absent}
 use Rattle.taskq.specs.Tasks.{home_for}
@@ -15,10 +14,6 @@ invariant_of-result g c =
     record {
       one_header = ap length c.set_pris.ensures.empty;
       ready_held = homes;
-      all_named = ap length c.in_ok-names.ensures ∙ length-map c.args.tasks.now (λ t. t.name)
+      all_named = ap length c.in_ok-names.ensures ∙ length-map c.args.tasks.now (λ t. t.name.bytes)
           ∙ sym (ap length absent ∙ length-replicate n Absent);
     }
-
-pub returns-clause-names : goal.returns-clause-names
-returns-clause-names g c =
-    ap (map (λ n. n.bytes)) c.in_ok-names.ensures ∙ map-map (λ n. n.bytes) (λ t. t.name) c.args.tasks.now

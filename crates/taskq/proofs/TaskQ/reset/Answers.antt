@@ -1,7 +1,6 @@
 -- With all priorities and names set anew, the tasks are as they were given.
 use Rattle.std.proofs.Common.{◌≡◌, length, map, replicate, sym, ap, ◌∙◌}
 use Rattle.std.proofs.lemmas.List.{length-map, length-replicate}
-use Rattle.std.proofs.lemmas.Simd.{map-map}
 use Rattle.taskq.proofs.TaskLemmas.{homes_absent}
 use Rattle.taskq.specs.declared.TaskState.TheVariants.{Absent}
 use Rattle.taskq.specs.Tasks.{Tasks, home_for}
@@ -16,9 +15,5 @@ invariant_of-self g c =
     record {
       one_header = ap length c.set_pris.ensures.empty;
       ready_held = c.set_pris.ensures.unlinked ∙ sym (homes_absent n) ∙ ap (map home_for) (sym absent);
-      all_named = ap length c.set_names.ensures ∙ length-map c.args.tasks.now (λ t. t.name) ∙ sym (ap length absent ∙ length-replicate n Absent);
+      all_named = ap length c.set.ensures ∙ length-map c.args.tasks.now (λ t. t.name.bytes) ∙ sym (ap length absent ∙ length-replicate n Absent);
     }
-
-pub returns-clause-names : goal.returns-clause-names
-returns-clause-names g c =
-    ap (map (λ n. n.bytes)) c.set_names.ensures ∙ map-map (λ n. n.bytes) (λ t. t.name) c.args.tasks.now

@@ -1,6 +1,6 @@
 -- The names so far are those of the tasks so far.
 use Rattle.std.proofs.Common.{◌≡◌, take, length, map}
-use Rattle.taskq.proofs.set_names.Given as goal
+use Rattle.taskq.proofs.names.set_names.Given as goal
 
 abbrev pub invariant-loop-t : goal.invariant-loop-t
 invariant-loop-t l = record {

@@ -2,7 +2,7 @@
 use Rattle.std.proofs.Common.{◌<◌, length, map, slice_index_or, sym, ◌∙◌, arith}
 use Rattle.std.proofs.lemmas.List.{get_or-map, length-map, length-set}
 use Rattle.taskq.proofs.TaskLemmas.{set_more}
-use Rattle.taskq.proofs.set_names.Goals as goal
+use Rattle.taskq.proofs.names.set_names.Goals as goal
 
 pub loop-t-preserved : goal.loop-t-preserved
 loop-t-preserved c =
