@@ -301,6 +301,7 @@ impl<S: ListSpace> Sched<S> {
     /// otherwise begins anew. A task that begins to run has a full quantum.
     ///
     /// Source: RKM Libraries, Exec Tasks: task scheduling. Project rule: when a quantum begins.
+    #[inline(always)]
     pub fn reschedule(&mut self) -> Option<Switch>
         ensures answer { result ≡ switch_of by_priority self.old }
         ensures next { self.new ≡ rescheduled by_priority self.old }
