@@ -1,20 +1,20 @@
 //! The calls that a body makes, how they end, and a whole body. A body has the shared variables alone, prints under its own name, and runs to
 //! its end at once, or to an alert.
-ghost use Rattle.std.specs.Prelude.{◌≡◌, ◌≤◌, ℕ, List, IfSome, None, Some, true, map, slice_get, take};
+ghost use Rattle.std.specs.Prelude.{◌≡◌, ◌≤◌, ℕ, List, [], ◌∷◌, IfSome, None, Some, true, map, slice_get, take};
 ghost use Rattle.execlist.specs.Disciplines.{by_priority};
 ghost use Rattle.exectrace.specs.Short.{short_argument};
 ghost use Rattle.exectrace.specs.Sink.{Puts, Tape};
 ghost use Rattle.exectrace.specs.Shown.{shown_outcome};
-ghost use Rattle.exectrace.specs.Trace.{printed_line};
+ghost use Rattle.exectrace.specs.Trace.{Quoted, printed_line};
 ghost use Rattle.exectrace.specs.Trace as trace;
 ghost use Rattle.taskscript.specs.Words.{word_text};
 ghost use Rattle.scheduler.specs.Dispatch.{signalled};
 ghost use Rattle.execmodel.specs.Bodies.{does_in_body, does_interrupts_by, does_plain_by, does_ports_by, does_signals_by, runs_body};
-ghost use Rattle.execmodel.specs.State.{State};
+ghost use Rattle.execmodel.specs.State.{Scripts, State};
 ghost use Rattle.execmodel.specs.State as model;
 ghost use Rattle.execmodel.specs.Calls.{ByBody, alerted_by, answered_by, argument, call_in_body, done_by, evaluated_in_body, number_in, silent_by, stored_shared};
 ghost use Rattle.execmodel.specs.Calls as calls;
-ghost use Rattle.execsim.specs.Actions.{does_at_place};
+ghost use Rattle.execsim.specs.Actions.{caused, does_at_place};
 ghost use Rattle.execsim.specs.Agreement.{Follows, Seen};
 ghost use Rattle.execsim.specs.Callers.{HasTask};
 ghost use Rattle.taskscript.specs.Commands.{argument_view, command_view};
@@ -31,6 +31,7 @@ use execlist::space::ListSpace;
 use exectrace::lines::CallOutcome;
 use exectrace::printing::{put_alert, put_short_call};
 use exectrace::{Name, ShortArg, Sink};
+use softint::caused::IntId;
 use taskq::TaskId;
 use taskscript::{
     Argument, Command, InterruptWord, PlainWord, PortWord, SignalWord, Variable, Word,
@@ -59,6 +60,31 @@ fn is_print(word: Word) -> bool
 {
     match word {
         Word::Plain(PlainWord::Print) => true,
+        _ => false,
+    }
+}
+
+/// Whether it is the word Cause.
+fn is_cause(word: Word) -> bool
+    ensures { result ≡ true → word ≡ Word.Interrupts InterruptWord.Cause }
+{
+    match word {
+        Word::Interrupts(InterruptWord::Cause) => true,
+        _ => false,
+    }
+}
+
+/// Whether a command has one argument, and that is a name.
+#[inline(always)]
+fn has_name_alone(command: &Command) -> bool
+    ensures { result ≡ true → (scripts : Scripts)
+        → (call_in_body (command_view command.now) scripts).arguments ≡ Quoted command.now.name.bytes ∷ [] }
+{
+    if command.count != 1 {
+        return false;
+    }
+    match argument_at(command, 0) {
+        Some(Argument::Quoted) => true,
         _ => false,
     }
 }
@@ -345,6 +371,33 @@ impl<S: ListSpace> Kernel<S> {
         })
     }
 
+    /// The number of the software interrupt that a command of the body of that name causes, if it is of the word Cause and its argument is a name.
+    /// Then its line is printed.
+    #[inline(always)]
+    fn causing_in_body<W: Sink>(&self, command: &Command, name: &Name, out: &mut W) -> Option<IntId>
+        ensures causes { IfSome result (λ i. (n : Seen) → n ≡ caused i self.now
+            → Follows (does_in_body name.now.bytes (call_in_body (command_view command.now) self.now.scripts)) self.now n (W.tape out.old) (W.tape out.new)) }
+        ensures nothing { result ≡ None → W.tape out.new ≡ W.tape out.old }
+    {
+        if !is_cause(command.word) {
+            return None;
+        }
+        if !has_name_alone(command) {
+            return None;
+        }
+        let own = &command.name;
+        let i = self.softint_named(own);
+        put_short_call(
+            name,
+            "Cause",
+            &[ShortArg::Quoted],
+            own,
+            CallOutcome::Done,
+            out,
+        );
+        Some(i)
+    }
+
     // ---- a whole body
 
     /// The command at a place of a body is done by its call, unless an alert has stopped the machine.
@@ -375,8 +428,9 @@ impl<S: ListSpace> Kernel<S> {
         }
     }
 
-    /// The command at a place of a body is done, unless an alert has stopped the machine. A Signal is done at once if it is not refused.
-    #[inline(never)]
+    /// The command at a place of a body is done, unless an alert has stopped the machine. A Signal is done at once if it is not refused, and
+    /// so is a Cause.
+    #[inline(always)]
     fn ask_at_place<W: Sink>(&mut self, body: Body, place: usize, name: &Name, out: &mut W)
         ensures { Follows (does_at_place name.now.bytes (slice_get (code_of_body body self.old.bodies) place))
             self.old self.new (W.tape out.old) (W.tape out.new) }
@@ -388,7 +442,10 @@ impl<S: ListSpace> Kernel<S> {
             None => {}
             Some(command) => match self.signalling_in_body(command, name, out) {
                 Some(sent) => self.signal_task(sent.task, sent.mask),
-                None => self.call_at_place(body, place, name, out),
+                None => match self.causing_in_body(command, name, out) {
+                    Some(i) => self.cause(i),
+                    None => self.call_at_place(body, place, name, out),
+                },
             },
         }
     }

@@ -47,6 +47,7 @@ impl<S: ListSpace> Kernel<S> {
 
     /// A software interrupt is caused: it is to run after the caused ones of its priority, unless it is caused already. A number that none
     /// has does nothing.
+    #[inline(always)]
     pub(crate) fn cause(&mut self, i: IntId)
         ensures { self.new ≡ caused i self.old }
     {
@@ -56,6 +57,7 @@ impl<S: ListSpace> Kernel<S> {
     }
 
     /// The number of the software interrupt of a name; if none has it, the number of all of them.
+    #[inline(always)]
     pub(crate) fn softint_named(&self, name: &Name) -> IntId
         ensures { result ≡ softint_named name.now.bytes self.now.bodies.softints }
     {
