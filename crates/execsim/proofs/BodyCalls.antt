@@ -6,6 +6,9 @@ use Rattle.std.proofs.lemmas.Option.{slice_get-map}
 use Rattle.exectrace.specs.Sink.{Tape, Puts}
 use Rattle.exectrace.specs.Trace.{printed_line, Quoted, Server, Softint}
 use Rattle.exectrace.specs.Trace as trace
+use Rattle.exectrace.specs.Short.{short_argument}
+use Rattle.exectrace.specs.declared.lines.ShortArg.{ShortArg}
+use Rattle.exectrace.specs.declared.lines.ShortArg.TheVariants as short
 use Rattle.taskscript.specs.declared.command.Command.{Command}
 use Rattle.taskscript.specs.declared.variable.Variable.{Variable}
 use Rattle.taskscript.specs.declared.word.Word.TheVariants.{Plain, Signals, Interrupts}
@@ -28,7 +31,7 @@ use Rattle.execsim.specs.declared.bodies.Body.{Body}
 use Rattle.execsim.specs.Actions.{caused, does_at_place, softint_body}
 use Rattle.execsim.specs.Agreement.{Seen, Agrees, Follows}
 use Rattle.execsim.specs.Views.{code_of_body}
-use Rattle.execsim.proofs.Caused.{caused_done}
+use Rattle.execsim.proofs.Caused.{caused_done, one_only}
 use Rattle.execsim.proofs.Following.{andthen-assoc, andthen-quiet, andthen-second, follows_as, follows_known, follows_nothing, follows_quietly, follows_says, follows_then, guarded_going, moves_scripts, reads_scripts}
 use Rattle.execsim.proofs.Keeping.{body_keeps}
 use Rattle.execsim.proofs.Signalling.{signal_sent}
@@ -87,16 +90,21 @@ signalled_as {m} {n} {a} {b} name call is known masked puts moved = follows_as {
     (signal_sent (ByBody name) call known masked moved
     (follows_says _ (subst (λ w. Puts a b (printed_line (trace.Call name (word_text w) call.arguments trace.Done))) (sym is) puts)))
 
--- a command whose only argument is a name
-one_only : (all : List Argument) (found : Argument) → slice_get (take 1 all) 0 ≡ Some found → take 1 all ≡ found ∷ []
-one_only [] found none = absurd cc
-one_only (x ∷ others) found some = ap (λ y. y ∷ []) cc
+-- a command with one argument
+pub argument_alone : (command : Command) (found : Argument) (value : ShortArg) (scripts : Scripts) → command.count ≡ 1
+    → slice_get (take command.count command.arguments) 0 ≡ Some found
+    → ((name : List ℕ) → short_argument name value ≡ evaluated_in_body scripts (argument_view name found))
+    → (call_in_body (command_view command) scripts).arguments ≡ short_argument command.name.bytes value ∷ []
+argument_alone command found value scripts one is same =
+    ap (λ (l : List Argument). map (evaluated_in_body scripts) (map (argument_view command.name.bytes) l))
+    (ap (λ n. take n command.arguments) one
+    ∙ one_only command.arguments found (ap (λ n. slice_get (take n command.arguments) 0) (sym one) ∙ is))
+    ∙ ap (λ x. x ∷ []) (sym (same command.name.bytes))
 
+-- a command whose only argument is a name
 pub named_alone : (command : Command) → command.count ≡ 1 → slice_get (take command.count command.arguments) 0 ≡ Some arguments.Quoted
     → (scripts : Scripts) → (call_in_body (command_view command) scripts).arguments ≡ Quoted command.name.bytes ∷ []
-named_alone command one is scripts = ap (λ (l : List Argument). map (evaluated_in_body scripts) (map (argument_view command.name.bytes) l))
-    (ap (λ n. take n command.arguments) one
-    ∙ one_only command.arguments arguments.Quoted (ap (λ n. slice_get (take n command.arguments) 0) (sym one) ∙ is))
+named_alone command one is scripts = argument_alone command arguments.Quoted short.Quoted scripts one is (λ name. refl)
 
 -- Cause, of a name, prints the line of its call, and the software interrupt of that name is caused
 pub caused_as : {m n : Seen} {a b : Tape} (name own : List ℕ) (call : Call) (i : ℕ) → call.word ≡ Interrupts interrupts.Cause

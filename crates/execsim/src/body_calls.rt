@@ -65,7 +65,7 @@ fn is_print(word: Word) -> bool
 }
 
 /// Whether it is the word Cause.
-fn is_cause(word: Word) -> bool
+pub(crate) fn is_cause(word: Word) -> bool
     ensures { result ≡ true → word ≡ Word.Interrupts InterruptWord.Cause }
 {
     match word {
@@ -340,6 +340,35 @@ impl<S: ListSpace> Kernel<S> {
         put_short_call(name, text, shown, &command.name, CallOutcome::Done, out);
     }
 
+    /// Prints the line of any call as `line_in_body` does.
+    #[cold]
+    #[inline(never)]
+    fn long_line_in_body<W: Sink>(&self, text: &str, command: &Command, name: &Name, out: &mut W)
+        ensures { Puts (W.tape out.old) (W.tape out.new) (printed_line
+            (trace.Call name.now.bytes text.now (call_in_body (command_view command.now) self.now.scripts).arguments trace.Done)) }
+    {
+        self.line_in_body(text, command, name, out);
+    }
+
+    /// Prints the line of a call that mostly has one argument, as `line_in_body` does. One argument is put in no list of values.
+    #[inline(always)]
+    fn short_line_in_body<W: Sink>(&self, text: &str, command: &Command, name: &Name, out: &mut W)
+        ensures { Puts (W.tape out.old) (W.tape out.new) (printed_line
+            (trace.Call name.now.bytes text.now (call_in_body (command_view command.now) self.now.scripts).arguments trace.Done)) }
+    {
+        if command.count != 1 {
+            self.long_line_in_body(text, command, name, out);
+            return;
+        }
+        match argument_at(command, 0) {
+            None => self.long_line_in_body(text, command, name, out),
+            Some(argument) => {
+                let value = self.evaluate_in_body(*argument);
+                put_short_call(name, text, &[value], &command.name, CallOutcome::Done, out);
+            }
+        }
+    }
+
     /// The signalling of a command of the body of that name, if it is of the word Signal and is not refused. Then its line is printed.
     #[inline(always)]
     fn signalling_in_body<W: Sink>(
@@ -469,7 +498,7 @@ impl<S: ListSpace> Kernel<S> {
                 }
                 None => {
                     if is_print(command.word) {
-                        self.line_in_body("Print", command, name, out);
+                        self.short_line_in_body("Print", command, name, out);
                         return;
                     }
                     self.ask_at_place(body, place, name, out);
