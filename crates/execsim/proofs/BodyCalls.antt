@@ -4,7 +4,7 @@ use Rattle.std.specs.Prelude.{IfSome, codes, slice_get}
 use Rattle.std.specs.Option.{option_map, unwrap_or}
 use Rattle.std.proofs.lemmas.Option.{slice_get-map}
 use Rattle.exectrace.specs.Sink.{Tape, Puts}
-use Rattle.exectrace.specs.Trace.{printed_line, Quoted, Server, Softint}
+use Rattle.exectrace.specs.Trace.{printed_line, Quoted, Server, Softint, Value}
 use Rattle.exectrace.specs.Trace as trace
 use Rattle.exectrace.specs.Short.{short_argument}
 use Rattle.exectrace.specs.declared.lines.ShortArg.{ShortArg}
@@ -22,7 +22,7 @@ use Rattle.taskscript.specs.Words.{word_text}
 use Rattle.taskscript.specs.Commands.{ArgumentData, CommandData, argument_view, command_view}
 use Rattle.execmodel.specs.State.{Timer as Clock, Bodies, Call, Scripts, State, quiet, says, andthen, unless_stopped, on_scripts}
 use Rattle.execmodel.specs.Bodies.{body_step, does_in_body, does_plain_by, does_word_by, runs_body}
-use Rattle.execmodel.specs.Calls.{Caller, ByBody, argument, call_in_body, done_by, evaluated_in_body, name_in, silent_by, stored_shared}
+use Rattle.execmodel.specs.Calls.{Caller, ByBody, argument, call_in_body, done_by, evaluated_in_body, name_in, number_in, silent_by, stored_shared}
 use Rattle.execmodel.specs.Causing.{does_cause_by}
 use Rattle.execmodel.specs.Pending.{softint_named}
 use Rattle.execmodel.specs.Signals.{is_mask, is_task, does_signal_by}
@@ -89,6 +89,45 @@ signalled_as {m} {n} {a} {b} name call is known masked puts moved = follows_as {
     (λ s e. ap (λ w. does_word_by w (ByBody name) call s) is)
     (signal_sent (ByBody name) call known masked moved
     (follows_says _ (subst (λ w. Puts a b (printed_line (trace.Call name (word_text w) call.arguments trace.Done))) (sym is) puts)))
+
+-- a list with no more than its first two
+two_only : {X : Type 0} (all : List X) (one two : X) → slice_get (take 2 all) 0 ≡ Some one → slice_get (take 2 all) 1 ≡ Some two → take 2 all ≡ one ∷ two ∷ []
+two_only [] one two first second = absurd cc
+two_only (x ∷ []) one two first second = absurd cc
+two_only (x ∷ y ∷ others) one two first second =
+    let e : x ≡ one = cc in
+    let f : y ≡ two = cc in
+    ap (λ z. z ∷ y ∷ []) e ∙ ap (λ z. one ∷ z ∷ []) f
+
+-- a command with two arguments, of which neither is a name
+pub pair_alone : (command : Command) (first second : Argument) (one two : ShortArg) (pair : Option (ℕ × ℕ)) (scripts : Scripts) → command.count ≡ 2
+    → slice_get (take command.count command.arguments) 0 ≡ Some first → slice_get (take command.count command.arguments) 1 ≡ Some second
+    → ((name : List ℕ) → short_argument name one ≡ evaluated_in_body scripts (argument_view name first))
+    → ((name : List ℕ) → short_argument name two ≡ evaluated_in_body scripts (argument_view name second))
+    → IfSome pair (λ p. one ≡ short.Value p.0) → IfSome pair (λ p. two ≡ short.Value p.1)
+    → IfSome pair (λ p. (call_in_body (command_view command) scripts).arguments ≡ Value p.0 ∷ Value p.1 ∷ [])
+pair_alone command first second one two None scripts count at next is also a b = _
+pair_alone command first second one two (Some p) scripts count at next is also a b =
+    ap (λ (l : List Argument). map (evaluated_in_body scripts) (map (argument_view command.name.bytes) l))
+    (ap (λ n. take n command.arguments) count
+    ∙ two_only command.arguments first second (ap (λ n. slice_get (take n command.arguments) 0) (sym count) ∙ at)
+    (ap (λ n. slice_get (take n command.arguments) 1) (sym count) ∙ next))
+    ∙ ap (λ x. x ∷ evaluated_in_body scripts (argument_view command.name.bytes second) ∷ [])
+    (sym (is command.name.bytes) ∙ ap (short_argument command.name.bytes) a)
+    ∙ ap (λ x. Value p.0 ∷ x ∷ []) (sym (also command.name.bytes) ∙ ap (short_argument command.name.bytes) b)
+
+-- Signal of a task and a mask, which is not refused
+pub signalled_pair : {m n : Seen} {a b : Tape} (name : List ℕ) (call : Call) (other mask : ℕ) → call.word ≡ Signals signals.Signal
+    → call.arguments ≡ Value other ∷ Value mask ∷ [] → is_task other m.scripts ≡ true → is_mask mask ≡ true
+    → Puts a b (printed_line (trace.Call name (codes "Signal") (Value other ∷ Value mask ∷ []) trace.Done))
+    → n ≡ record m { schedule = signalled by_priority (other - 1) mask m.schedule } → Follows (does_in_body name call) m n a b
+signalled_pair {m} {n} {a} {b} name call other mask is pair known masked puts moved =
+    let first : argument 0 call ≡ other = ap (λ (l : List trace.Argument). number_in (slice_get l 0)) pair in
+    let second : argument 1 call ≡ mask = ap (λ (l : List trace.Argument). number_in (slice_get l 1)) pair in
+    signalled_as name call is (ap (λ x. is_task x m.scripts) first ∙ known) (ap is_mask second ∙ masked)
+    (subst (λ (l : List trace.Argument). Puts a b (printed_line (trace.Call name (codes "Signal") l trace.Done))) (sym pair) puts)
+    (moved ∙ ap (λ x. record m { schedule = signalled by_priority (x - 1) mask m.schedule }) (sym first)
+    ∙ ap (λ x. record m { schedule = signalled by_priority (argument 0 call - 1) x m.schedule }) (sym second))
 
 -- a command with one argument
 pub argument_alone : (command : Command) (found : Argument) (value : ShortArg) (scripts : Scripts) → command.count ≡ 1

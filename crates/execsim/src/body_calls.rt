@@ -5,7 +5,7 @@ ghost use Rattle.execlist.specs.Disciplines.{by_priority};
 ghost use Rattle.exectrace.specs.Short.{short_argument};
 ghost use Rattle.exectrace.specs.Sink.{Puts, Tape};
 ghost use Rattle.exectrace.specs.Shown.{shown_outcome};
-ghost use Rattle.exectrace.specs.Trace.{Quoted, printed_line};
+ghost use Rattle.exectrace.specs.Trace.{Quoted, Value, printed_line};
 ghost use Rattle.exectrace.specs.Trace as trace;
 ghost use Rattle.taskscript.specs.Words.{word_text};
 ghost use Rattle.scheduler.specs.Dispatch.{signalled};
@@ -86,6 +86,21 @@ fn has_name_alone(command: &Command) -> bool
     match argument_at(command, 0) {
         Some(Argument::Quoted) => true,
         _ => false,
+    }
+}
+
+/// The numbers that two arguments are, if neither is a name.
+#[inline(always)]
+fn both(one: ShortArg, two: ShortArg) -> Option<(u32, u32)>
+    ensures first { IfSome result (λ pair. one ≡ ShortArg.Value pair.0) }
+    ensures second { IfSome result (λ pair. two ≡ ShortArg.Value pair.1) }
+{
+    match one {
+        ShortArg::Quoted => None,
+        ShortArg::Value(a) => match two {
+            ShortArg::Quoted => None,
+            ShortArg::Value(b) => Some((a, b)),
+        },
     }
 }
 
@@ -369,6 +384,28 @@ impl<S: ListSpace> Kernel<S> {
         }
     }
 
+    /// The two numbers that are the arguments of a command in a body, if it has two and neither is a name.
+    #[inline(always)]
+    fn pair_in_body(&self, command: &Command) -> Option<(u32, u32)>
+        ensures { IfSome result (λ pair.
+            (call_in_body (command_view command.now) self.now.scripts).arguments ≡ Value pair.0 ∷ Value pair.1 ∷ []) }
+    {
+        if command.count != 2 {
+            return None;
+        }
+        match argument_at(command, 0) {
+            None => None,
+            Some(first) => match argument_at(command, 1) {
+                None => None,
+                Some(second) => {
+                    let one = self.evaluate_in_body(*first);
+                    let two = self.evaluate_in_body(*second);
+                    both(one, two)
+                }
+            },
+        }
+    }
+
     /// The signalling of a command of the body of that name, if it is of the word Signal and is not refused. Then its line is printed.
     #[inline(always)]
     fn signalling_in_body<W: Sink>(
@@ -385,19 +422,25 @@ impl<S: ListSpace> Kernel<S> {
         if !is_signal(command.word) {
             return None;
         }
-        let other = self.number_at_in_body(command, 0);
-        let mask = self.number_at_in_body(command, 1);
-        if !self.is_task(other) {
-            return None;
+        match self.pair_in_body(command) {
+            None => None,
+            Some(pair) => {
+                let other = pair.0;
+                let mask = pair.1;
+                if !self.is_task(other) {
+                    return None;
+                }
+                if !is_mask(mask) {
+                    return None;
+                }
+                let shown = [ShortArg::Value(other), ShortArg::Value(mask)];
+                put_short_call(name, "Signal", &shown, &command.name, CallOutcome::Done, out);
+                Some(Sent {
+                    task: other as usize - 1,
+                    mask,
+                })
+            }
         }
-        if !is_mask(mask) {
-            return None;
-        }
-        self.line_in_body("Signal", command, name, out);
-        Some(Sent {
-            task: other as usize - 1,
-            mask,
-        })
     }
 
     /// The number of the software interrupt that a command of the body of that name causes, if it is of the word Cause and its argument is a name.
