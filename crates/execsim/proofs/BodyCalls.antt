@@ -19,7 +19,7 @@ use Rattle.taskscript.specs.declared.command.Argument.TheVariants as arguments
 use Rattle.taskscript.specs.declared.word.plain.PlainWord.{PlainWord}
 use Rattle.taskscript.specs.declared.word.plain.PlainWord.TheVariants as plain
 use Rattle.taskscript.specs.Words.{word_text}
-use Rattle.taskscript.specs.Commands.{ArgumentData, CommandData, argument_view, command_view}
+use Rattle.taskscript.specs.Commands.{CommandData, argument_view, command_view}
 use Rattle.execmodel.specs.State.{Timer as Clock, Bodies, Call, Scripts, State, quiet, says, andthen, unless_stopped, on_scripts}
 use Rattle.execmodel.specs.Bodies.{body_step, does_in_body, does_plain_by, does_word_by, runs_body}
 use Rattle.execmodel.specs.Calls.{Caller, ByBody, argument, call_in_body, done_by, evaluated_in_body, name_in, number_in, silent_by, stored_shared}

@@ -343,7 +343,8 @@ impl<S: ListSpace> Kernel<S> {
     }
 
     /// Prints the line of a call that answers nothing, of the body of that name, from its command, whose word has this text: no call is made of it.
-    #[inline(always)]
+    #[cold]
+    #[inline(never)]
     fn line_in_body<W: Sink>(&self, text: &str, command: &Command, name: &Name, out: &mut W)
         ensures { Puts (W.tape out.old) (W.tape out.new) (printed_line
             (trace.Call name.now.bytes text.now (call_in_body (command_view command.now) self.now.scripts).arguments trace.Done)) }
@@ -355,16 +356,6 @@ impl<S: ListSpace> Kernel<S> {
         put_short_call(name, text, shown, &command.name, CallOutcome::Done, out);
     }
 
-    /// Prints the line of any call as `line_in_body` does.
-    #[cold]
-    #[inline(never)]
-    fn long_line_in_body<W: Sink>(&self, text: &str, command: &Command, name: &Name, out: &mut W)
-        ensures { Puts (W.tape out.old) (W.tape out.new) (printed_line
-            (trace.Call name.now.bytes text.now (call_in_body (command_view command.now) self.now.scripts).arguments trace.Done)) }
-    {
-        self.line_in_body(text, command, name, out);
-    }
-
     /// Prints the line of a call that mostly has one argument, as `line_in_body` does. One argument is put in no list of values.
     #[inline(always)]
     fn short_line_in_body<W: Sink>(&self, text: &str, command: &Command, name: &Name, out: &mut W)
@@ -372,11 +363,11 @@ impl<S: ListSpace> Kernel<S> {
             (trace.Call name.now.bytes text.now (call_in_body (command_view command.now) self.now.scripts).arguments trace.Done)) }
     {
         if command.count != 1 {
-            self.long_line_in_body(text, command, name, out);
+            self.line_in_body(text, command, name, out);
             return;
         }
         match argument_at(command, 0) {
-            None => self.long_line_in_body(text, command, name, out),
+            None => self.line_in_body(text, command, name, out),
             Some(argument) => {
                 let value = self.evaluate_in_body(*argument);
                 put_short_call(name, text, &[value], &command.name, CallOutcome::Done, out);
@@ -434,7 +425,14 @@ impl<S: ListSpace> Kernel<S> {
                     return None;
                 }
                 let shown = [ShortArg::Value(other), ShortArg::Value(mask)];
-                put_short_call(name, "Signal", &shown, &command.name, CallOutcome::Done, out);
+                put_short_call(
+                    name,
+                    "Signal",
+                    &shown,
+                    &command.name,
+                    CallOutcome::Done,
+                    out,
+                );
                 Some(Sent {
                     task: other as usize - 1,
                     mask,
