@@ -93,8 +93,9 @@ impl<S: ListSpace> Kernel<S> {
     {
         let body = Body::Softint(i);
         let name = self.bodies.name(body);
-        put_softint(&name, out);
-        self.run_body(body, &name, out);
+        let own = &name;
+        put_softint(own, out);
+        self.run_body(body, own, out);
     }
 
     // ---- servers
@@ -105,8 +106,9 @@ impl<S: ListSpace> Kernel<S> {
     {
         let body = Body::Server(k);
         let name = self.bodies.name(body);
-        put_server(&name, out);
-        self.run_body(body, &name, out);
+        let own = &name;
+        put_server(own, out);
+        self.run_body(body, own, out);
     }
 
     /// The server at a place of the chain of a source, from 0, or none if the chain is shorter.
