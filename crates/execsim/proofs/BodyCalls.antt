@@ -1,28 +1,37 @@
 -- How the machine follows the body of a software interrupt or of a server.
 use Rattle.std.proofs.Common.{◌≡◌, ℕ, zero, suc, ◌+◌, ◌-◌, true, false, List, [], ◌∷◌, take, Option, None, Some, refl, ap, sym, ◌∙◌, subst, add-one, map}
 use Rattle.std.specs.Prelude.{IfSome, codes, slice_get}
-use Rattle.std.specs.Option.{option_map}
+use Rattle.std.specs.Option.{option_map, unwrap_or}
 use Rattle.std.proofs.lemmas.Option.{slice_get-map}
 use Rattle.exectrace.specs.Sink.{Tape, Puts}
-use Rattle.exectrace.specs.Trace.{printed_line, Server, Softint}
+use Rattle.exectrace.specs.Trace.{printed_line, Quoted, Server, Softint, Value}
 use Rattle.exectrace.specs.Trace as trace
+use Rattle.exectrace.specs.Short.{short_argument}
+use Rattle.exectrace.specs.declared.lines.ShortArg.{ShortArg}
+use Rattle.exectrace.specs.declared.lines.ShortArg.TheVariants as short
 use Rattle.taskscript.specs.declared.command.Command.{Command}
 use Rattle.taskscript.specs.declared.variable.Variable.{Variable}
-use Rattle.taskscript.specs.declared.word.Word.TheVariants.{Plain, Signals}
+use Rattle.taskscript.specs.declared.word.Word.TheVariants.{Plain, Signals, Interrupts}
 use Rattle.taskscript.specs.declared.word.task_signals.SignalWord.TheVariants as signals
+use Rattle.taskscript.specs.declared.word.interrupts.InterruptWord.TheVariants as interrupts
+use Rattle.taskscript.specs.declared.command.Argument.{Argument}
+use Rattle.taskscript.specs.declared.command.Argument.TheVariants as arguments
 use Rattle.taskscript.specs.declared.word.plain.PlainWord.{PlainWord}
 use Rattle.taskscript.specs.declared.word.plain.PlainWord.TheVariants as plain
 use Rattle.taskscript.specs.Words.{word_text}
-use Rattle.taskscript.specs.Commands.{CommandData, command_view}
-use Rattle.execmodel.specs.State.{Timer as Clock, Bodies, Call, State, quiet, says, andthen, unless_stopped, on_scripts}
+use Rattle.taskscript.specs.Commands.{CommandData, argument_view, command_view}
+use Rattle.execmodel.specs.State.{Timer as Clock, Bodies, Call, Scripts, State, quiet, says, andthen, unless_stopped, on_scripts}
 use Rattle.execmodel.specs.Bodies.{body_step, does_in_body, does_plain_by, does_word_by, runs_body}
-use Rattle.execmodel.specs.Calls.{Caller, ByBody, argument, call_in_body, done_by, silent_by, stored_shared}
+use Rattle.execmodel.specs.Calls.{Caller, ByBody, argument, call_in_body, done_by, evaluated_in_body, name_in, number_in, silent_by, stored_shared}
+use Rattle.execmodel.specs.Causing.{does_cause_by}
+use Rattle.execmodel.specs.Pending.{softint_named}
 use Rattle.execmodel.specs.Signals.{is_mask, is_task, does_signal_by}
 use Rattle.execmodel.specs.Interrupts.{runs_server, server_at, softint_at}
 use Rattle.execsim.specs.declared.bodies.Body.{Body}
-use Rattle.execsim.specs.Actions.{does_at_place, softint_body}
+use Rattle.execsim.specs.Actions.{caused, does_at_place, softint_body}
 use Rattle.execsim.specs.Agreement.{Seen, Agrees, Follows}
 use Rattle.execsim.specs.Views.{code_of_body}
+use Rattle.execsim.proofs.Caused.{caused_done, one_only}
 use Rattle.execsim.proofs.Following.{andthen-assoc, andthen-quiet, andthen-second, follows_as, follows_known, follows_nothing, follows_quietly, follows_says, follows_then, guarded_going, moves_scripts, reads_scripts}
 use Rattle.execsim.proofs.Keeping.{body_keeps}
 use Rattle.execsim.proofs.Signalling.{signal_sent}
@@ -80,6 +89,73 @@ signalled_as {m} {n} {a} {b} name call is known masked puts moved = follows_as {
     (λ s e. ap (λ w. does_word_by w (ByBody name) call s) is)
     (signal_sent (ByBody name) call known masked moved
     (follows_says _ (subst (λ w. Puts a b (printed_line (trace.Call name (word_text w) call.arguments trace.Done))) (sym is) puts)))
+
+-- a list with no more than its first two
+two_only : {X : Type 0} (all : List X) (one two : X) → slice_get (take 2 all) 0 ≡ Some one → slice_get (take 2 all) 1 ≡ Some two → take 2 all ≡ one ∷ two ∷ []
+two_only [] one two first second = absurd cc
+two_only (x ∷ []) one two first second = absurd cc
+two_only (x ∷ y ∷ others) one two first second =
+    let e : x ≡ one = cc in
+    let f : y ≡ two = cc in
+    ap (λ z. z ∷ y ∷ []) e ∙ ap (λ z. one ∷ z ∷ []) f
+
+-- a command with two arguments, of which neither is a name
+pub pair_alone : (command : Command) (first second : Argument) (one two : ShortArg) (pair : Option (ℕ × ℕ)) (scripts : Scripts) → command.count ≡ 2
+    → slice_get (take command.count command.arguments) 0 ≡ Some first → slice_get (take command.count command.arguments) 1 ≡ Some second
+    → ((name : List ℕ) → short_argument name one ≡ evaluated_in_body scripts (argument_view name first))
+    → ((name : List ℕ) → short_argument name two ≡ evaluated_in_body scripts (argument_view name second))
+    → IfSome pair (λ p. one ≡ short.Value p.0) → IfSome pair (λ p. two ≡ short.Value p.1)
+    → IfSome pair (λ p. (call_in_body (command_view command) scripts).arguments ≡ Value p.0 ∷ Value p.1 ∷ [])
+pair_alone command first second one two None scripts count at next is also a b = _
+pair_alone command first second one two (Some p) scripts count at next is also a b =
+    ap (λ (l : List Argument). map (evaluated_in_body scripts) (map (argument_view command.name.bytes) l))
+    (ap (λ n. take n command.arguments) count
+    ∙ two_only command.arguments first second (ap (λ n. slice_get (take n command.arguments) 0) (sym count) ∙ at)
+    (ap (λ n. slice_get (take n command.arguments) 1) (sym count) ∙ next))
+    ∙ ap (λ x. x ∷ evaluated_in_body scripts (argument_view command.name.bytes second) ∷ [])
+    (sym (is command.name.bytes) ∙ ap (short_argument command.name.bytes) a)
+    ∙ ap (λ x. Value p.0 ∷ x ∷ []) (sym (also command.name.bytes) ∙ ap (short_argument command.name.bytes) b)
+
+-- Signal of a task and a mask, which is not refused
+pub signalled_pair : {m n : Seen} {a b : Tape} (name : List ℕ) (call : Call) (other mask : ℕ) → call.word ≡ Signals signals.Signal
+    → call.arguments ≡ Value other ∷ Value mask ∷ [] → is_task other m.scripts ≡ true → is_mask mask ≡ true
+    → Puts a b (printed_line (trace.Call name (codes "Signal") (Value other ∷ Value mask ∷ []) trace.Done))
+    → n ≡ record m { schedule = signalled by_priority (other - 1) mask m.schedule } → Follows (does_in_body name call) m n a b
+signalled_pair {m} {n} {a} {b} name call other mask is pair known masked puts moved =
+    let first : argument 0 call ≡ other = ap (λ (l : List trace.Argument). number_in (slice_get l 0)) pair in
+    let second : argument 1 call ≡ mask = ap (λ (l : List trace.Argument). number_in (slice_get l 1)) pair in
+    signalled_as name call is (ap (λ x. is_task x m.scripts) first ∙ known) (ap is_mask second ∙ masked)
+    (subst (λ (l : List trace.Argument). Puts a b (printed_line (trace.Call name (codes "Signal") l trace.Done))) (sym pair) puts)
+    (moved ∙ ap (λ x. record m { schedule = signalled by_priority (x - 1) mask m.schedule }) (sym first)
+    ∙ ap (λ x. record m { schedule = signalled by_priority (argument 0 call - 1) x m.schedule }) (sym second))
+
+-- a command with one argument
+pub argument_alone : (command : Command) (found : Argument) (value : ShortArg) (scripts : Scripts) → command.count ≡ 1
+    → slice_get (take command.count command.arguments) 0 ≡ Some found
+    → ((name : List ℕ) → short_argument name value ≡ evaluated_in_body scripts (argument_view name found))
+    → (call_in_body (command_view command) scripts).arguments ≡ short_argument command.name.bytes value ∷ []
+argument_alone command found value scripts one is same =
+    ap (λ (l : List Argument). map (evaluated_in_body scripts) (map (argument_view command.name.bytes) l))
+    (ap (λ n. take n command.arguments) one
+    ∙ one_only command.arguments found (ap (λ n. slice_get (take n command.arguments) 0) (sym one) ∙ is))
+    ∙ ap (λ x. x ∷ []) (sym (same command.name.bytes))
+
+-- a command whose only argument is a name
+pub named_alone : (command : Command) → command.count ≡ 1 → slice_get (take command.count command.arguments) 0 ≡ Some arguments.Quoted
+    → (scripts : Scripts) → (call_in_body (command_view command) scripts).arguments ≡ Quoted command.name.bytes ∷ []
+named_alone command one is scripts = argument_alone command arguments.Quoted short.Quoted scripts one is (λ name. refl)
+
+-- Cause, of a name, prints the line of its call, and the software interrupt of that name is caused
+pub caused_as : {m n : Seen} {a b : Tape} (name own : List ℕ) (call : Call) (i : ℕ) → call.word ≡ Interrupts interrupts.Cause
+    → call.arguments ≡ Quoted own ∷ [] → i ≡ softint_named own m.bodies.softints
+    → Puts a b (printed_line (trace.Call name (codes "Cause") (Quoted own ∷ []) trace.Done)) → n ≡ caused i m → Follows (does_in_body name call) m n a b
+unfolding does_in_body
+caused_as {m} {n} {a} {b} name own call i is alone named puts moved = follows_as {g = does_cause_by (ByBody name) call}
+    (λ s e. ap (λ w. does_word_by w (ByBody name) call s) is)
+    (caused_done (ByBody name) call i
+    (named ∙ ap (λ (l : List trace.Argument). softint_named (unwrap_or (name_in (slice_get l 0)) []) m.bodies.softints) (sym alone)) moved
+    (follows_says _ (subst (λ w. Puts a b (printed_line (trace.Call name (word_text w) call.arguments trace.Done))) (sym is)
+    (subst (λ (l : List trace.Argument). Puts a b (printed_line (trace.Call name (codes "Cause") l trace.Done))) (sym alone) puts))))
 
 module _ {m : Seen} (name : List ℕ) (here : Option CommandData) where
   pub place_empty : (t : Tape) → None ≡ here → Follows (does_at_place name here) m m t t

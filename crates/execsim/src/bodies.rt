@@ -74,6 +74,7 @@ impl Model for Bodies {
 }
 
 /// A mark of a name, by its last two bytes and its length.
+#[inline(always)]
 fn mark_of(name: &Name) -> usize
     ensures { result < 256 }
 {
@@ -241,6 +242,7 @@ fn is_called(softint: &Softint, name: &Name) -> bool
 }
 
 /// Whether software interrupt i has this name.
+#[inline(always)]
 fn has_name(softints: &[Softint], i: usize, name: &Name) -> bool
     ensures inside { result ≡ true → i < length softints.now }
     ensures same { result ≡ true → (slice_index_or (map softint_view softints.now) i no_softint).name ≡ name.now.bytes }
@@ -353,6 +355,7 @@ impl Bodies {
     }
 
     /// The number of the software interrupt of a name; if none has it, the number of all of them. Mostly the hint for the name is right.
+    #[inline(always)]
     pub fn softint_named(&self, name: &Name) -> usize
         ensures { result ≡ softint_named name.now.bytes self.now.softints }
     {

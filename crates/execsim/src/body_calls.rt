@@ -1,20 +1,20 @@
 //! The calls that a body makes, how they end, and a whole body. A body has the shared variables alone, prints under its own name, and runs to
 //! its end at once, or to an alert.
-ghost use Rattle.std.specs.Prelude.{◌≡◌, ◌≤◌, ℕ, List, IfSome, None, Some, true, map, slice_get, take};
+ghost use Rattle.std.specs.Prelude.{◌≡◌, ◌≤◌, ℕ, List, [], ◌∷◌, IfSome, None, Some, true, map, slice_get, take};
 ghost use Rattle.execlist.specs.Disciplines.{by_priority};
 ghost use Rattle.exectrace.specs.Short.{short_argument};
 ghost use Rattle.exectrace.specs.Sink.{Puts, Tape};
 ghost use Rattle.exectrace.specs.Shown.{shown_outcome};
-ghost use Rattle.exectrace.specs.Trace.{printed_line};
+ghost use Rattle.exectrace.specs.Trace.{Quoted, Value, printed_line};
 ghost use Rattle.exectrace.specs.Trace as trace;
 ghost use Rattle.taskscript.specs.Words.{word_text};
 ghost use Rattle.scheduler.specs.Dispatch.{signalled};
 ghost use Rattle.execmodel.specs.Bodies.{does_in_body, does_interrupts_by, does_plain_by, does_ports_by, does_signals_by, runs_body};
-ghost use Rattle.execmodel.specs.State.{State};
+ghost use Rattle.execmodel.specs.State.{Scripts, State};
 ghost use Rattle.execmodel.specs.State as model;
 ghost use Rattle.execmodel.specs.Calls.{ByBody, alerted_by, answered_by, argument, call_in_body, done_by, evaluated_in_body, number_in, silent_by, stored_shared};
 ghost use Rattle.execmodel.specs.Calls as calls;
-ghost use Rattle.execsim.specs.Actions.{does_at_place};
+ghost use Rattle.execsim.specs.Actions.{caused, does_at_place};
 ghost use Rattle.execsim.specs.Agreement.{Follows, Seen};
 ghost use Rattle.execsim.specs.Callers.{HasTask};
 ghost use Rattle.taskscript.specs.Commands.{argument_view, command_view};
@@ -31,6 +31,7 @@ use execlist::space::ListSpace;
 use exectrace::lines::CallOutcome;
 use exectrace::printing::{put_alert, put_short_call};
 use exectrace::{Name, ShortArg, Sink};
+use softint::caused::IntId;
 use taskq::TaskId;
 use taskscript::{
     Argument, Command, InterruptWord, PlainWord, PortWord, SignalWord, Variable, Word,
@@ -60,6 +61,46 @@ fn is_print(word: Word) -> bool
     match word {
         Word::Plain(PlainWord::Print) => true,
         _ => false,
+    }
+}
+
+/// Whether it is the word Cause.
+pub(crate) fn is_cause(word: Word) -> bool
+    ensures { result ≡ true → word ≡ Word.Interrupts InterruptWord.Cause }
+{
+    match word {
+        Word::Interrupts(InterruptWord::Cause) => true,
+        _ => false,
+    }
+}
+
+/// Whether a command has one argument, and that is a name.
+#[inline(always)]
+fn has_name_alone(command: &Command) -> bool
+    ensures { result ≡ true → (scripts : Scripts)
+        → (call_in_body (command_view command.now) scripts).arguments ≡ Quoted command.now.name.bytes ∷ [] }
+{
+    if command.count != 1 {
+        return false;
+    }
+    match argument_at(command, 0) {
+        Some(Argument::Quoted) => true,
+        _ => false,
+    }
+}
+
+/// The numbers that two arguments are, if neither is a name.
+#[inline(always)]
+fn both(one: ShortArg, two: ShortArg) -> Option<(u32, u32)>
+    ensures first { IfSome result (λ pair. one ≡ ShortArg.Value pair.0) }
+    ensures second { IfSome result (λ pair. two ≡ ShortArg.Value pair.1) }
+{
+    match one {
+        ShortArg::Quoted => None,
+        ShortArg::Value(a) => match two {
+            ShortArg::Quoted => None,
+            ShortArg::Value(b) => Some((a, b)),
+        },
     }
 }
 
@@ -302,7 +343,8 @@ impl<S: ListSpace> Kernel<S> {
     }
 
     /// Prints the line of a call that answers nothing, of the body of that name, from its command, whose word has this text: no call is made of it.
-    #[inline(always)]
+    #[cold]
+    #[inline(never)]
     fn line_in_body<W: Sink>(&self, text: &str, command: &Command, name: &Name, out: &mut W)
         ensures { Puts (W.tape out.old) (W.tape out.new) (printed_line
             (trace.Call name.now.bytes text.now (call_in_body (command_view command.now) self.now.scripts).arguments trace.Done)) }
@@ -312,6 +354,47 @@ impl<S: ListSpace> Kernel<S> {
         self.evaluate_all_in_body(&command.arguments, count, &mut values);
         let shown = &values[..count];
         put_short_call(name, text, shown, &command.name, CallOutcome::Done, out);
+    }
+
+    /// Prints the line of a call that mostly has one argument, as `line_in_body` does. One argument is put in no list of values.
+    #[inline(always)]
+    fn short_line_in_body<W: Sink>(&self, text: &str, command: &Command, name: &Name, out: &mut W)
+        ensures { Puts (W.tape out.old) (W.tape out.new) (printed_line
+            (trace.Call name.now.bytes text.now (call_in_body (command_view command.now) self.now.scripts).arguments trace.Done)) }
+    {
+        if command.count != 1 {
+            self.line_in_body(text, command, name, out);
+            return;
+        }
+        match argument_at(command, 0) {
+            None => self.line_in_body(text, command, name, out),
+            Some(argument) => {
+                let value = self.evaluate_in_body(*argument);
+                put_short_call(name, text, &[value], &command.name, CallOutcome::Done, out);
+            }
+        }
+    }
+
+    /// The two numbers that are the arguments of a command in a body, if it has two and neither is a name.
+    #[inline(always)]
+    fn pair_in_body(&self, command: &Command) -> Option<(u32, u32)>
+        ensures { IfSome result (λ pair.
+            (call_in_body (command_view command.now) self.now.scripts).arguments ≡ Value pair.0 ∷ Value pair.1 ∷ []) }
+    {
+        if command.count != 2 {
+            return None;
+        }
+        match argument_at(command, 0) {
+            None => None,
+            Some(first) => match argument_at(command, 1) {
+                None => None,
+                Some(second) => {
+                    let one = self.evaluate_in_body(*first);
+                    let two = self.evaluate_in_body(*second);
+                    both(one, two)
+                }
+            },
+        }
     }
 
     /// The signalling of a command of the body of that name, if it is of the word Signal and is not refused. Then its line is printed.
@@ -330,19 +413,59 @@ impl<S: ListSpace> Kernel<S> {
         if !is_signal(command.word) {
             return None;
         }
-        let other = self.number_at_in_body(command, 0);
-        let mask = self.number_at_in_body(command, 1);
-        if !self.is_task(other) {
+        match self.pair_in_body(command) {
+            None => None,
+            Some(pair) => {
+                let other = pair.0;
+                let mask = pair.1;
+                if !self.is_task(other) {
+                    return None;
+                }
+                if !is_mask(mask) {
+                    return None;
+                }
+                let shown = [ShortArg::Value(other), ShortArg::Value(mask)];
+                put_short_call(
+                    name,
+                    "Signal",
+                    &shown,
+                    &command.name,
+                    CallOutcome::Done,
+                    out,
+                );
+                Some(Sent {
+                    task: other as usize - 1,
+                    mask,
+                })
+            }
+        }
+    }
+
+    /// The number of the software interrupt that a command of the body of that name causes, if it is of the word Cause and its argument is a name.
+    /// Then its line is printed.
+    #[inline(always)]
+    fn causing_in_body<W: Sink>(&self, command: &Command, name: &Name, out: &mut W) -> Option<IntId>
+        ensures causes { IfSome result (λ i. (n : Seen) → n ≡ caused i self.now
+            → Follows (does_in_body name.now.bytes (call_in_body (command_view command.now) self.now.scripts)) self.now n (W.tape out.old) (W.tape out.new)) }
+        ensures nothing { result ≡ None → W.tape out.new ≡ W.tape out.old }
+    {
+        if !is_cause(command.word) {
             return None;
         }
-        if !is_mask(mask) {
+        if !has_name_alone(command) {
             return None;
         }
-        self.line_in_body("Signal", command, name, out);
-        Some(Sent {
-            task: other as usize - 1,
-            mask,
-        })
+        let own = &command.name;
+        let i = self.softint_named(own);
+        put_short_call(
+            name,
+            "Cause",
+            &[ShortArg::Quoted],
+            own,
+            CallOutcome::Done,
+            out,
+        );
+        Some(i)
     }
 
     // ---- a whole body
@@ -375,8 +498,9 @@ impl<S: ListSpace> Kernel<S> {
         }
     }
 
-    /// The command at a place of a body is done, unless an alert has stopped the machine. A Signal is done at once if it is not refused.
-    #[inline(never)]
+    /// The command at a place of a body is done, unless an alert has stopped the machine. A Signal is done at once if it is not refused, and
+    /// so is a Cause.
+    #[inline(always)]
     fn ask_at_place<W: Sink>(&mut self, body: Body, place: usize, name: &Name, out: &mut W)
         ensures { Follows (does_at_place name.now.bytes (slice_get (code_of_body body self.old.bodies) place))
             self.old self.new (W.tape out.old) (W.tape out.new) }
@@ -388,7 +512,10 @@ impl<S: ListSpace> Kernel<S> {
             None => {}
             Some(command) => match self.signalling_in_body(command, name, out) {
                 Some(sent) => self.signal_task(sent.task, sent.mask),
-                None => self.call_at_place(body, place, name, out),
+                None => match self.causing_in_body(command, name, out) {
+                    Some(i) => self.cause(i),
+                    None => self.call_at_place(body, place, name, out),
+                },
             },
         }
     }
@@ -412,7 +539,7 @@ impl<S: ListSpace> Kernel<S> {
                 }
                 None => {
                     if is_print(command.word) {
-                        self.line_in_body("Print", command, name, out);
+                        self.short_line_in_body("Print", command, name, out);
                         return;
                     }
                     self.ask_at_place(body, place, name, out);

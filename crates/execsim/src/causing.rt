@@ -1,16 +1,20 @@
 //! The word Cause: a software interrupt is caused by its name.
-ghost use Rattle.std.specs.Prelude.{◌≡◌, [], option_copied};
+ghost use Rattle.std.specs.Prelude.{◌≡◌, [], ◌∷◌, option_copied, slice_get, take, true};
 ghost use Rattle.std.specs.Option.{option_map, unwrap_or};
-ghost use Rattle.execmodel.specs.Calls.{name_argument};
+ghost use Rattle.exectrace.specs.Trace.{Quoted};
+ghost use Rattle.execmodel.specs.Calls.{ByTask, name_argument};
 ghost use Rattle.execmodel.specs.Pending.{softint_named};
 ghost use Rattle.execmodel.specs.Causing.{does_cause_by, does_interrupts};
 ghost use Rattle.execsim.specs.Callers.{HasTask, HasCaller};
 ghost use Rattle.execsim.specs.Agreement.{Follows};
 ghost use Rattle.execsim.specs.Views.{call_view, caller_view};
 
+use crate::body_calls::is_cause;
 use crate::call::{Call, Caller};
 use crate::kernel::Kernel;
 use execlist::space::ListSpace;
+use exectrace::lines::CallOutcome;
+use exectrace::printing::put_short_call;
 use exectrace::{Name, ShortArg, Sink};
 use softint::caused::IntId;
 use taskq::TaskId;
@@ -23,6 +27,28 @@ fn first_name(call: &Call) -> Option<&Name>
     match call.shown().get(0) {
         Some(ShortArg::Quoted) => Some(&call.quoted),
         _ => None,
+    }
+}
+
+/// The first argument of a call, if it has any.
+#[inline(always)]
+fn first_argument(call: &Call) -> Option<&ShortArg>
+    ensures { option_copied result ≡ slice_get (take call.now.count call.now.arguments) 0 }
+{
+    call.arguments[..call.count].get(0)
+}
+
+/// Whether a call has one argument, and that is a name.
+#[inline(always)]
+fn quotes_alone(call: &Call) -> bool
+    ensures { result ≡ true → (call_view call.now).arguments ≡ Quoted call.now.quoted.bytes ∷ [] }
+{
+    if call.count != 1 {
+        return false;
+    }
+    match first_argument(call) {
+        Some(ShortArg::Quoted) => true,
+        _ => false,
     }
 }
 
@@ -49,6 +75,35 @@ impl<S: ListSpace> Kernel<S> {
         self.done_by(caller, call, out);
     }
 
+    /// Cause name, of task t, as `cause_named` does it. The line of a call with a name alone is built here.
+    #[inline(always)]
+    fn cause_by_task<W: Sink>(&mut self, t: TaskId, call: &Call, out: &mut W)
+        requires { HasTask t self.old }
+        ensures { Follows (does_cause_by (ByTask t) (call_view call.now)) self.old self.new (W.tape out.old) (W.tape out.new) }
+    {
+        if !is_cause(call.word) {
+            self.cause_named(&Caller::Task(t), call, out);
+            return;
+        }
+        if !quotes_alone(call) {
+            self.cause_named(&Caller::Task(t), call, out);
+            return;
+        }
+        let own = &call.quoted;
+        let i = self.softint_named(own);
+        self.cause(i);
+        let name = self.name(t);
+        put_short_call(
+            name,
+            "Cause",
+            &[ShortArg::Quoted],
+            own,
+            CallOutcome::Done,
+            out,
+        );
+        self.go_on(t, call.next);
+    }
+
     /// A call of task t on interrupts, by its word.
     #[tactic(auto, unfolding(execmodel::specs::Causing::does_cause))]
     pub(crate) fn does_interrupts<W: Sink>(
@@ -62,7 +117,7 @@ impl<S: ListSpace> Kernel<S> {
         ensures { Follows (does_interrupts word t (call_view call.now)) self.old self.new (W.tape out.old) (W.tape out.new) }
     {
         match word {
-            InterruptWord::Cause => self.cause_named(&Caller::Task(t), call, out),
+            InterruptWord::Cause => self.cause_by_task(t, call, out),
         }
     }
 }

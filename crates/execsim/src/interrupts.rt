@@ -47,6 +47,7 @@ impl<S: ListSpace> Kernel<S> {
 
     /// A software interrupt is caused: it is to run after the caused ones of its priority, unless it is caused already. A number that none
     /// has does nothing.
+    #[inline(always)]
     pub(crate) fn cause(&mut self, i: IntId)
         ensures { self.new ≡ caused i self.old }
     {
@@ -56,6 +57,7 @@ impl<S: ListSpace> Kernel<S> {
     }
 
     /// The number of the software interrupt of a name; if none has it, the number of all of them.
+    #[inline(always)]
     pub(crate) fn softint_named(&self, name: &Name) -> IntId
         ensures { result ≡ softint_named name.now.bytes self.now.bodies.softints }
     {
@@ -91,8 +93,9 @@ impl<S: ListSpace> Kernel<S> {
     {
         let body = Body::Softint(i);
         let name = self.bodies.name(body);
-        put_softint(&name, out);
-        self.run_body(body, &name, out);
+        let own = &name;
+        put_softint(own, out);
+        self.run_body(body, own, out);
     }
 
     // ---- servers
@@ -103,8 +106,9 @@ impl<S: ListSpace> Kernel<S> {
     {
         let body = Body::Server(k);
         let name = self.bodies.name(body);
-        put_server(&name, out);
-        self.run_body(body, &name, out);
+        let own = &name;
+        put_server(own, out);
+        self.run_body(body, own, out);
     }
 
     /// The server at a place of the chain of a source, from 0, or none if the chain is shorter.

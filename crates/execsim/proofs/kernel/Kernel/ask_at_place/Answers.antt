@@ -19,3 +19,12 @@ returns-in-Some-signalling_in_body g c =
     let sent = rw c.in-Some-signalling_in_body.is at c.signalling_in_body.ensures.sent in
     place_done _ _ command (ap (λ (m : Seen). m.stopped) (sym c.self.view_is) ∙ c.if-self.false) (rw c.in-Some.is at here)
     (step_as _ command (call_in_body command c.args.self.now.scripts) refl (sent _ c.signal_task.ensures))
+
+pub returns-in-Some-causing_in_body : goal.returns-in-Some-causing_in_body
+returns-in-Some-causing_in_body g c =
+    let here = command_there _ _ _ _ c.command_at.ensures (c.code.ensures ∙ ap (λ (m : Seen). code_of_body c.args.body m.bodies) c.self.view_is) in
+    let command = command_view c.in-Some.command.now in
+    let causes = rw c.in-Some-causing_in_body.is at c.causing_in_body.ensures.causes in
+    let unprinted = c.signalling_in_body.ensures.nothing c.in-None-signalling_in_body.is in
+    place_done _ _ command (ap (λ (m : Seen). m.stopped) (sym c.self.view_is) ∙ c.if-self.false) (rw c.in-Some.is at here)
+    (step_as _ command (call_in_body command c.args.self.now.scripts) refl (rw unprinted at (causes _ c.cause.ensures)))

@@ -24,4 +24,4 @@ pub returns-then-is_print : goal.returns-then-is_print
 returns-then-is_print g c =
     let here = command_there _ _ _ _ c.command_at.ensures (c.code.ensures ∙ ap (λ (m : Seen). code_of_body c.args.body m.bodies) c.self.view_is) in
     place_done _ _ (command_view c.in-Some.command.now) (ap (λ (m : Seen). m.stopped) (sym c.self.view_is) ∙ c.if-self.false) (rw c.in-Some.is at here)
-    (printed_as c.args.name.now.bytes (command_view c.in-Some.command.now) (c.if-is_print.ensures refl) c.line_in_body.ensures)
+    (printed_as c.args.name.now.bytes (command_view c.in-Some.command.now) (c.if-is_print.ensures refl) c.short_line_in_body.ensures)
