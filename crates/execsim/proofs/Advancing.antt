@@ -1,6 +1,6 @@
 -- Steps that print nothing, and one before them.
 use Rattle.std.proofs.Common.{◌≡◌, ◌<◌, ◌+◌, ℕ, zero, suc, List, [], None, Some, refl, ap, sym, ◌∙◌, subst, arith, add-one, inl, inr}
-use Rattle.std.specs.Prelude.{◌≤◌, length, Bool, false, Result, Ok, Err, IfOk}
+use Rattle.std.specs.Prelude.{◌≤◌, length, Bool, false, true, Result, Ok, Err, IfOk}
 use Rattle.exectrace.specs.Sink.{Tape, Puts, Writes}
 use Rattle.exectrace.specs.Trace.{printed}
 use Rattle.exectrace.specs.declared.sinks.SinkState.TheVariants.{Good}
@@ -94,6 +94,10 @@ goes_idly {m} (suc k) settled uncaused none =
     let same : k + 1 ≡ suc k = omega arith in
     subst (λ (n : ℕ). GoesSilently n m m) same
     (goes_then k (goes_idly k settled uncaused none) (changes_nothing m) (λ tape. idle_step settled tape uncaused none))
+
+-- it is not known that a machine is settled
+pub not_known : {X : Type 0} → false ≡ true → X
+not_known is = let bad : false ≡ true = is in absurd cc
 
 -- ---- and a step before them
 

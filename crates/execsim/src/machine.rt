@@ -43,18 +43,21 @@ pub struct Machine<S: ListSpace> {
     // Room for the names and priorities of the tasks, for `reset`.
     inits: Vec<TaskInit>,
     failed: bool,
+    // If it is true, nothing is due, so that a plain word is a whole step.
+    rests: bool,
 }
 
 impl<S: ListSpace> Model for Machine<S> {
-    ghost use Rattle.std.specs.Prelude.{◌≡◌, false};
+    ghost use Rattle.std.specs.Prelude.{◌≡◌, true, false};
     ghost use Rattle.execsim.specs.Headline.{Shown};
+    ghost use Rattle.execsim.specs.Resting.{IsSettled};
     ghost use Rattle.execsim.specs.Time.{IsKnown};
 
     ghost Value = { Shown };
 
     ghost view = { λ m. record { seen = m.kernel; failed = m.failed } };
 
-    ghost invariant = { λ m. m.failed ≡ false → IsKnown m.kernel };
+    ghost invariant = { λ m. (m.failed ≡ false → IsKnown m.kernel) × (m.rests ≡ true → IsSettled m.kernel) };
 }
 
 /// Whether a machine goes on, by whether an alert has stopped it.
@@ -111,6 +114,7 @@ impl<S: ListSpace> Machine<S> {
             kernel,
             inits,
             failed: false,
+            rests: false,
         })
     }
 
@@ -130,6 +134,7 @@ impl<S: ListSpace> Machine<S> {
     {
         let is_reset = self.kernel.reset(&mut self.inits, file);
         self.failed = !is_reset;
+        self.rests = false;
         is_reset
     }
 
@@ -153,6 +158,7 @@ impl<S: ListSpace> Machine<S> {
         if self.failed {
             return Err(WriteFault);
         }
+        self.rests = false;
         self.kernel.start(out);
         let stopped = self.kernel.is_stopped();
         finish(stopped, &mut self.failed, out)
@@ -180,6 +186,7 @@ impl<S: ListSpace> Machine<S> {
         if self.failed {
             return Err(WriteFault);
         }
+        self.rests = false;
         self.kernel.event(one, out);
         let stopped = self.kernel.is_stopped();
         finish(stopped, &mut self.failed, out)
@@ -200,7 +207,7 @@ impl<S: ListSpace> Machine<S> {
         ensures time_left { IsOk result → (ticks : ℕ) → HasTimeFor ticks self.old.seen → HasTimeFor ticks self.new.seen }
         ensures good { IsOk result → (W.tape out.new).state ≡ SinkState.Good }
     {
-        let silent = self.kernel.advance(more, out);
+        let silent = self.kernel.advance(&mut self.rests, more, out);
         end(silent, &mut self.failed, out)
     }
 
@@ -219,6 +226,7 @@ impl<S: ListSpace> Machine<S> {
         requires time { HasTimeFor (sum_by ticks_of list.now) self.old.seen }
         ensures { Acts (andthen starts (events list.now)) self.old self.new (W.tape out.old) (W.tape out.new) result }
     {
+        self.rests = false;
         self.kernel.start(out);
         self.kernel.events(list, out);
         let stopped = self.kernel.is_stopped();

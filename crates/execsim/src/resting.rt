@@ -1,7 +1,7 @@
 //! Steps of a machine in which nothing is due: its running task does plain words, or it is idle. Between them nothing is settled, since a
 //! plain word leaves a machine settled.
-ghost use Rattle.std.specs.Prelude.{◌≡◌, ◌≤◌, None};
-ghost use Rattle.execmodel.specs.Step.{steps};
+ghost use Rattle.std.specs.Prelude.{◌≡◌, ◌≤◌, true, false, None, IsTrue};
+ghost use Rattle.execmodel.specs.Step.{step, steps};
 ghost use Rattle.execsim.specs.Actions.{softint_seen};
 ghost use Rattle.execsim.specs.Advancing.{GoesSilently, StepsSilently};
 ghost use Rattle.execsim.specs.Agreement.{Follows};
@@ -84,15 +84,55 @@ impl<S: ListSpace> Kernel<S> {
         }
     }
 
+    /// A step of a settled machine, if its running task does a plain word in it, or if it is idle; a word prints to a good sink only. The answer
+    /// is whether the step was done.
+    #[inline(always)]
+    fn quiet_step<W: Sink>(&mut self, out: &mut W) -> bool
+        requires { IsSettled self.old }
+        ensures follows { IsTrue result → Follows step self.old self.new (W.tape out.old) (W.tape out.new) }
+        ensures settled { IsSettled self.new }
+        ensures same { result ≡ false → self.new ≡ self.old }
+        ensures nothing { result ≡ false → W.tape out.new ≡ W.tape out.old }
+    {
+        if self.ints.any_caused() {
+            return false;
+        }
+        match self.running() {
+            None => true,
+            Some(t) => self.plain_word(t, out),
+        }
+    }
+
+    /// One step of a machine, which is settled if `rests` says so. The answer is whether nothing was due after it, so that the machine is settled.
+    #[inline(always)]
+    fn next_step<W: Sink>(&mut self, rests: bool, out: &mut W) -> bool
+        requires agree { IsInOrder self.old }
+        requires settled { rests ≡ true → IsSettled self.old }
+        ensures follows { Follows step self.old self.new (W.tape out.old) (W.tape out.new) }
+        ensures settled { IsTrue result → IsSettled self.new }
+    {
+        if rests && self.quiet_step(out) {
+            return true;
+        }
+        self.step(out)
+    }
+
     /// One step, and those after it that ask nothing of Exec and print nothing; at most that many of these. The answer is how many these were.
-    pub(crate) fn advance<W: Sink>(&mut self, more: u32, out: &mut W) -> u32
-        requires { IsInOrder self.old }
+    /// The machine is settled before and after if `rests` says so; it does if the machine did plain words that print nothing, since others then
+    /// often follow.
+    pub(crate) fn advance<W: Sink>(&mut self, rests: &mut bool, more: u32, out: &mut W) -> u32
+        requires agree { IsInOrder self.old }
+        requires settled { rests.old ≡ true → IsSettled self.old }
         ensures within { result ≤ more }
         ensures steps { StepsSilently result self.old self.new (W.tape out.old) (W.tape out.new) }
+        ensures settled { rests.new ≡ true → IsSettled self.new }
     {
-        if self.step(out) {
-            self.silent_steps(more)
+        if self.next_step(*rests, out) {
+            let silent = self.silent_steps(more);
+            *rests = 0 < silent;
+            silent
         } else {
+            *rests = false;
             0
         }
     }

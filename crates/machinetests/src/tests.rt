@@ -1,3 +1,4 @@
-//! Texts that are read up to a limit, and machines that are reset.
+//! Texts that are read up to a limit, machines that are advanced, and machines that are reset.
+mod advancing;
 mod reading;
 mod resetting;

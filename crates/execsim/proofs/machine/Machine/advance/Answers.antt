@@ -6,13 +6,19 @@ use Rattle.execsim.proofs.Advancing.{advances_by, known_after_steps, time_stays}
 use Rattle.execsim.proofs.Reached.{in_order_there}
 use Rattle.execsim.proofs.machine.Machine.advance.Goals as goal
 
-pub advance-silent-requires : goal.advance-silent-requires
-advance-silent-requires g c = in_order_there _ (c.self.invariant (ap (λ (x : Shown). x.failed) c.self.view_is ∙ c.requires.going))
+pub advance-silent-requires-clause-agree : goal.advance-silent-requires-clause-agree
+advance-silent-requires-clause-agree g c = in_order_there _ (c.self.invariant.0 (ap (λ (x : Shown). x.failed) c.self.view_is ∙ c.requires.going))
+
+pub advance-silent-requires-clause-settled : goal.advance-silent-requires-clause-settled
+advance-silent-requires-clause-settled g c = c.self.invariant.1
 
 -- (until it has failed it shows a state after some steps)
 pub invariant_of-self : goal.invariant_of-self
-invariant_of-self g c = λ going. known_after_steps c.advance-silent.ensures.steps
-    (c.self.invariant (ap (λ (x : Shown). x.failed) c.self.view_is ∙ c.requires.going))
+invariant_of-self g c = (
+  λ going. known_after_steps c.advance-silent.ensures.steps
+      (c.self.invariant.0 (ap (λ (x : Shown). x.failed) c.self.view_is ∙ c.requires.going)),
+  c.advance-silent.ensures.settled,
+)
 
 pub returns-clause-advances : goal.returns-clause-advances
 returns-clause-advances g c =
@@ -20,5 +26,5 @@ returns-clause-advances g c =
 
 pub returns-clause-time_left : goal.returns-clause-time_left
 returns-clause-time_left g c = λ whole ticks enough.
-    time_stays c.advance-silent.ensures.steps (c.self.invariant (ap (λ (x : Shown). x.failed) c.self.view_is ∙ c.requires.going)) c.requires.good
+    time_stays c.advance-silent.ensures.steps (c.self.invariant.0 (ap (λ (x : Shown). x.failed) c.self.view_is ∙ c.requires.going)) c.requires.good
     (c.end.ensures.written.0 whole) ticks (subst (λ (x : Shown). HasTimeFor ticks x.seen) (sym c.self.view_is) enough)

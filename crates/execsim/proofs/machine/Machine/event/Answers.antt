@@ -7,15 +7,19 @@ use Rattle.execsim.specs.Reached.{after_event}
 use Rattle.execsim.specs.Time.{HasTimeFor}
 use Rattle.execsim.proofs.Acting.{known_after_action, time_after}
 use Rattle.execsim.proofs.Clock.{event_gains}
+use Rattle.execsim.proofs.Advancing.{not_known}
 use Rattle.execsim.proofs.machine.Machine.event.Goals as goal
 
 -- (until it has failed it shows a state after an event)
 pub invariant_of-self : goal.invariant_of-self
-invariant_of-self g c = λ going. known_after_action (after_event c.args.one) (c.self.invariant c.if-self.false) c.event.ensures
-    (rw c.is_stopped-stopped.ensures at c.finish.ensures) going
+invariant_of-self g c = (
+  λ going. known_after_action (after_event c.args.one) (c.self.invariant.0 c.if-self.false) c.event.ensures
+      (rw c.is_stopped-stopped.ensures at c.finish.ensures) going,
+  not_known,
+)
 
 pub returns-clause-time_left : goal.returns-clause-time_left
 returns-clause-time_left g c = λ going whole ticks enough.
-    time_after (ticks_of c.args.one) (event_gains c.args.one) (after_event c.args.one) (c.self.invariant c.if-self.false) c.event.ensures
+    time_after (ticks_of c.args.one) (event_gains c.args.one) (after_event c.args.one) (c.self.invariant.0 c.if-self.false) c.event.ensures
     (rw c.is_stopped-stopped.ensures at c.finish.ensures) whole ticks
     (subst (λ (x : Shown). HasTimeFor (ticks_of c.args.one + ticks) x.seen) (sym c.self.view_is) enough)

@@ -7,4 +7,4 @@ use Rattle.execsim.proofs.machine.Machine.facts.Goals as goal
 
 pub returns : goal.returns
 returns g c = λ going. subst (λ (x : Shown). QueuesAgree x.seen) c.self.view_is
-    (in_order_there c.self.inside.kernel (c.self.invariant (ap (λ (x : Shown). x.failed) c.self.view_is ∙ going))).queues
+    (in_order_there c.self.inside.kernel (c.self.invariant.0 (ap (λ (x : Shown). x.failed) c.self.view_is ∙ going))).queues

@@ -8,21 +8,25 @@ use Rattle.execsim.proofs.Acting.{acts_by, known_after_action}
 use Rattle.execsim.proofs.Clock.{time_from_start}
 use Rattle.execsim.proofs.Following.{while_good, while_good_then}
 use Rattle.execsim.proofs.Reached.{run_reached}
+use Rattle.execsim.proofs.Advancing.{not_known}
 use Rattle.execsim.proofs.machine.Machine.run.Goals as goal
 
 pub events-requires : goal.events-requires
 events-requires g c = time_from_start _
     (λ good. record {
-      known = c.self.invariant (ap (λ (x : Shown). x.failed) c.self.view_is ∙ c.requires.going);
+      known = c.self.invariant.0 (ap (λ (x : Shown). x.failed) c.self.view_is ∙ c.requires.going);
       time = subst (λ (x : Shown). HasTimeFor (sum_by ticks_of c.args.list.now) x.seen) (sym c.self.view_is) c.requires.time;
     })
     (while_good c.requires.good c.start.ensures)
 
 -- (until it has failed it shows a state after a run)
 pub invariant_of-self : goal.invariant_of-self
-invariant_of-self g c = λ going. known_after_action (run_reached c.args.list.now)
-    (c.self.invariant (ap (λ (x : Shown). x.failed) c.self.view_is ∙ c.requires.going))
-    (while_good_then (while_good c.requires.good c.start.ensures) c.events.ensures) (rw c.is_stopped-stopped.ensures at c.finish.ensures) going
+invariant_of-self g c = (
+  λ going. known_after_action (run_reached c.args.list.now)
+      (c.self.invariant.0 (ap (λ (x : Shown). x.failed) c.self.view_is ∙ c.requires.going))
+      (while_good_then (while_good c.requires.good c.start.ensures) c.events.ensures) (rw c.is_stopped-stopped.ensures at c.finish.ensures) going,
+  not_known,
+)
 
 pub returns : goal.returns
 returns g c = rw (← c.self.view_is) (acts_by (while_good_then (while_good c.requires.good c.start.ensures) c.events.ensures) c.requires.good

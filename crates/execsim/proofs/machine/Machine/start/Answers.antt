@@ -6,18 +6,22 @@ use Rattle.execsim.specs.Time.{HasTimeFor}
 use Rattle.execsim.proofs.Acting.{known_after_action, time_after}
 use Rattle.execsim.proofs.Clock.{start_gains}
 use Rattle.execsim.proofs.Following.{while_good}
+use Rattle.execsim.proofs.Advancing.{not_known}
 use Rattle.execsim.proofs.machine.Machine.start.Goals as goal
 
 -- (until it has failed it shows a state after a start)
 pub invariant_of-self : goal.invariant_of-self
-invariant_of-self g c = λ going. known_after_action after_start (c.self.invariant c.if-self.false)
-    (while_good (c.requires (ap (λ (x : Shown). x.failed) (sym c.self.view_is) ∙ c.if-self.false)) c.start.ensures)
-    (rw c.is_stopped-stopped.ensures at c.finish.ensures) going
+invariant_of-self g c = (
+  λ going. known_after_action after_start (c.self.invariant.0 c.if-self.false)
+      (while_good (c.requires (ap (λ (x : Shown). x.failed) (sym c.self.view_is) ∙ c.if-self.false)) c.start.ensures)
+      (rw c.is_stopped-stopped.ensures at c.finish.ensures) going,
+  not_known,
+)
 
 -- (a start brings no ticks)
 pub returns-clause-time_left : goal.returns-clause-time_left
 returns-clause-time_left g c = λ going whole ticks enough.
-    time_after 0 start_gains after_start (c.self.invariant c.if-self.false)
+    time_after 0 start_gains after_start (c.self.invariant.0 c.if-self.false)
     (while_good (c.requires going) c.start.ensures)
     (rw c.is_stopped-stopped.ensures at c.finish.ensures) whole ticks
     (let none : ticks ≡ 0 + ticks = omega arith in
