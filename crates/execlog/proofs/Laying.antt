@@ -125,23 +125,39 @@ told_by m {number} {clock} n c = ap (λ (k : ℕ). columns k clock) n ∙ ap (λ
 
 -- ---- the columns
 
-padded_by : (n tens : ℕ) → n / 10 ≡ tens → n < 2 ^ 64 → padded 5 (decimal n) ≡ stem tens ++ digit n ∷ []
-padded_by n zero e small =
+-- what is before the last digit of a number at the right of a column, by the number without that digit
+abbrev before_last : ℕ → ℕ → List ℕ
+before_last width zero = replicate width 32
+before_last width (suc n) = padded width (decimal (suc n))
+
+padded_by : (width n tens : ℕ) → n / 10 ≡ tens → n < 2 ^ 64 → padded (suc width) (decimal n) ≡ before_last width tens ++ digit n ∷ []
+padded_by width n zero e small =
     let few : n < 10 = omega (arith, e) in
     let same : n ≡ n % 10 = omega (arith, few) in
-    ap (padded 5) (decimal_digit n few ∙ ap (λ (k : ℕ). (48 + k) ∷ []) same)
-padded_by n (suc tens) e small =
+    let one : suc width - 1 ≡ width = omega arith in
+    ap (padded (suc width)) (decimal_digit n few ∙ ap (λ (k : ℕ). (48 + k) ∷ []) same)
+    ∙ ap (λ (k : ℕ). replicate {A = ℕ} k 32 ++ digit n ∷ []) one
+padded_by width n (suc tens) e small =
     let many : 10 ≤ n = omega (arith, e) in
     let d : List ℕ = decimal (suc tens) in
     let last : List ℕ = (48 + n % 10) ∷ [] in
-    let long : 5 - length (d ++ last) ≡ 4 - length d = omega (arith, length-append d last) in
-    ap (padded 5) (decimal_step n many small ∙ ap (λ (k : ℕ). decimal k ++ last) e)
+    let long : suc width - length (d ++ last) ≡ width - length d = omega (arith, length-append d last) in
+    ap (padded (suc width)) (decimal_step n many small ∙ ap (λ (k : ℕ). decimal k ++ last) e)
     ∙ ap (λ (j : ℕ). replicate {A = ℕ} j 32 ++ (d ++ last)) long
-    ∙ sym (append_assoc (replicate {A = ℕ} (4 - length d) 32) d last)
+    ∙ sym (append_assoc (replicate {A = ℕ} (width - length d) 32) d last)
+
+stem_before : (n : ℕ) → before_last 4 n ≡ stem n
+stem_before zero = refl
+stem_before (suc n) = refl
 
 -- a number at the right of a column is what is before its last digit, and this digit
 pub padded_stem : (n : ℕ) → n < 2 ^ 64 → padded 5 (decimal n) ≡ stem (n / 10) ++ digit n ∷ []
-padded_stem n small = padded_by n (n / 10) refl small
+padded_stem n small = padded_by 4 n (n / 10) refl small ∙ ap (λ (l : List ℕ). l ++ digit n ∷ []) (stem_before (n / 10))
+
+-- what is before the last digit of a number that has two, by its last but one
+stem_digit : (n : ℕ) → 0 < n → n < 2 ^ 64 → stem n ≡ before_last 3 (n / 10) ++ digit n ∷ []
+stem_digit zero some small = absurd (omega (arith, some))
+stem_digit (suc n) some small = padded_by 3 (suc n) (suc n / 10) refl small
 
 -- the columns by what is before the last digit of the number
 pub columns_stem : (n clock : ℕ) → n < 2 ^ 64 → columns n clock ≡ stem (n / 10) ++ digit n ∷ millis clock
@@ -198,6 +214,53 @@ head_counted {n} {clock} {tens} {start} {last} {room} m new head same small put 
       shows = ap (drop start) put
           ∙ digit_replaced room (stem (n / 10)) rest (digit n) (digit m) start last inside head.at_last head.shows
           ∙ ap (λ (k : ℕ). stem k ++ digit m ∷ rest) tens';
+    }
+
+-- another last digit but one, and another last digit
+pub head_counted_by_tens : {n clock tens start last : ℕ} {room : List ℕ} (m : ℕ) (mid new : List ℕ) → IsHead n clock tens start last room
+    → m / 10 / 10 ≡ tens / 10 → 0 < tens → 0 < m / 10 → m < 2 ^ 64
+    → mid ≡ take (last - 1) room ++ digit (m / 10) ∷ drop (last - 1 + 1) room
+    → new ≡ take last mid ++ digit m ∷ drop (last + 1) mid → IsHead m clock (m / 10) start last new
+head_counted_by_tens {n} {clock} {tens} {start} {last} {room} m mid new head same some some' small put then =
+    let rest : List ℕ = millis clock ++ replicate {A = ℕ} 64 32 in
+    let t : ℕ = n / 10 in
+    let u : ℕ = m / 10 in
+    let s : List ℕ = before_last 3 (t / 10) in
+    let small_t : t < 2 ^ 64 = omega (arith, head.small) in
+    let small_u : u < 2 ^ 64 = omega (arith, small) in
+    let some_t : 0 < t = omega (arith, some, head.tens_are) in
+    let tens' : u / 10 ≡ t / 10 = same ∙ ap (λ (k : ℕ). k / 10) head.tens_are in
+    let old_stem : stem t ≡ s ++ digit t ∷ [] = stem_digit t some_t small_t in
+    let new_stem : stem u ≡ s ++ digit u ∷ [] = stem_digit u some' small_u ∙ ap (λ (k : ℕ). before_last 3 k ++ digit u ∷ []) tens' in
+    let long : length (stem t) ≡ length s + 1 = ap length old_stem ∙ length-append s (digit t ∷ []) in
+    let long' : length (stem u) ≡ length s + 1 = ap length new_stem ∙ length-append s (digit u ∷ []) in
+    let inside : start ≤ length room = omega (arith, head.starts, head.roomy) in
+    let at : last - 1 ≡ start + length s = omega (arith, head.at_last, long) in
+    let at' : last ≡ start + length (stem u) = omega (arith, head.at_last, long, long') in
+    let before : drop start room ≡ s ++ digit t ∷ (digit n ∷ rest) =
+    head.shows ∙ ap (λ (l : List ℕ). l ++ digit n ∷ rest) old_stem ∙ append_assoc s (digit t ∷ []) (digit n ∷ rest) in
+    let between : drop start mid ≡ stem u ++ digit n ∷ rest =
+    ap (drop start) put
+    ∙ digit_replaced room s (digit n ∷ rest) (digit t) (digit u) start (last - 1) inside at before
+    ∙ sym (append_assoc s (digit u ∷ []) (digit n ∷ rest))
+    ∙ ap (λ (l : List ℕ). l ++ digit n ∷ rest) (sym new_stem) in
+    let first : last - 1 ≤ length room = omega (arith, head.within, head.roomy) in
+    let parts : length (take (last - 1) room ++ digit u ∷ drop (last - 1 + 1) room) ≡ length (take (last - 1) room) + suc (length (drop (last - 1 + 1) room)) =
+    length-append (take (last - 1) room) (digit u ∷ drop (last - 1 + 1) room) in
+    let roomy : length mid ≡ 128 =
+    omega (arith, ap length put, parts, length-take-le (last - 1) room first, length-drop (last - 1 + 1) room, head.roomy, head.within) in
+    let second : last ≤ length mid = omega (arith, head.within, roomy) in
+    let parts' : length (take last mid ++ digit m ∷ drop (last + 1) mid) ≡ length (take last mid) + suc (length (drop (last + 1) mid)) =
+    length-append (take last mid) (digit m ∷ drop (last + 1) mid) in
+    let inside' : start ≤ length mid = omega (arith, head.starts, roomy) in
+    record {
+      small = small;
+      roomy = omega (arith, ap length then, parts', length-take-le last mid second, length-drop (last + 1) mid, roomy, head.within);
+      tens_are = refl;
+      starts = head.starts;
+      at_last = at';
+      within = head.within;
+      shows = ap (drop start) then ∙ digit_replaced mid (stem u) rest (digit n) (digit m) start last inside' at' between;
     }
 
 -- the spaces before the text of a command, by a test

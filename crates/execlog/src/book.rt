@@ -78,8 +78,8 @@ impl Body {
     ///
     /// Source: project rule.
     pub fn printing_from(&self, place: usize) -> Option<usize> {
-        for (i, one) in self.places.iter().enumerate().skip(place) {
-            if !one.is_silent {
+        for i in place..self.places.len() {
+            if !self.places[i].is_silent {
                 return Some(i);
             }
         }

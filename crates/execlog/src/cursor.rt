@@ -24,10 +24,12 @@ pub struct Cursor {
 }
 
 /// What is after one of the words that begin the lines of a body.
+#[inline(always)]
 fn body_name(line: &[u8]) -> Option<&[u8]> {
-    match line.strip_prefix(b"server ") {
-        Some(name) => Some(name),
-        None => line.strip_prefix(b"softint "),
+    match line {
+        [b's', b'e', b'r', b'v', b'e', b'r', b' ', name @ ..] => Some(name),
+        [b's', b'o', b'f', b't', b'i', b'n', b't', b' ', name @ ..] => Some(name),
+        _ => None,
     }
 }
 

@@ -1,5 +1,5 @@
 //! Where the first line feed of a text is. Many bytes are looked at together, from the first on; the last ones of the text may be looked at twice.
-ghost use Rattle.std.specs.Prelude.{◌≡◌, ◌≢◌, ◌<◌, ◌≤◌, ◌+◌, ℕ, length, slice_index};
+ghost use Rattle.std.specs.Prelude.{◌≡◌, ◌≢◌, ◌<◌, ◌≤◌, ◌+◌, ◌-◌, ℕ, Some, false, length, slice_index, true};
 ghost use Rattle.execlog.specs.Rows.{IsFeedAt};
 
 use std::simd::prelude::*;
@@ -19,6 +19,55 @@ fn part_len<const N: usize>(text: &[u8], at: usize) -> usize
         N
     } else {
         feeds.trailing_zeros() as usize
+    }
+}
+
+/// Whether one of that many bytes of a text, from a place on, is a line feed.
+#[inline(always)]
+fn has_feed<const N: usize>(text: &[u8], at: usize) -> bool
+    requires within { at + N ≤ length text.now }
+    requires few { N ≤ 64 }
+    ensures { result ≡ false → (k : ℕ) → k < N → slice_index text.now (at + k) ≢ 10 }
+{
+    let feeds = Simd::<u8, N>::from_slice(&text[at..])
+        .simd_eq(Simd::splat(b'\n'))
+        .to_bitmask();
+    feeds != 0
+}
+
+/// Whether a text is a line and its line feed, by its last byte and by the others, as the first ones and the last ones, of that many; false if they
+/// are not so many.
+#[inline(always)]
+fn is_line_by<const N: usize>(text: &[u8]) -> bool
+    requires few { N ≤ 32 }
+    ensures { result ≡ true → IsFeedAt text.now (Some (length text.now - 1)) }
+{
+    let len = text.len();
+    if len <= N || len > N + N + 1 {
+        return false;
+    }
+    let end = len - 1;
+    if text[end] != b'\n' {
+        return false;
+    }
+    if has_feed::<N>(text, 0) {
+        return false;
+    }
+    if has_feed::<N>(text, end - N) {
+        return false;
+    }
+    true
+}
+
+/// Whether a text is a line and its line feed. It may answer no of one that is.
+#[inline(always)]
+pub(crate) fn is_line(text: &[u8]) -> bool
+    ensures { result ≡ true → IsFeedAt text.now (Some (length text.now - 1)) }
+{
+    if text.len() > 17 {
+        is_line_by::<16>(text)
+    } else {
+        is_line_by::<8>(text)
     }
 }
 

@@ -68,12 +68,36 @@ impl Head {
         self.number = number;
     }
 
-    /// Goes on to a number and a time. If more than a digit differs, nothing is done but `in_any_case`.
+    /// Goes on to a number, if it differs in no more than the last two digits, which both have, and the time is the same.
+    #[inline(always)]
+    fn count_by_tens(&mut self, number: u64)
+        requires same { number / 10 / 10 ≡ self.old.tens / 10 }
+        requires before { 0 < self.old.tens }
+        requires after { 0 < number / 10 }
+        ensures number { self.new.number ≡ number }
+        ensures clock { self.new.clock ≡ self.old.clock }
+    {
+        replace(&mut self.room, self.last - 1, digit(number / 10));
+        replace(&mut self.room, self.last, digit(number));
+        self.tens = number / 10;
+        self.number = number;
+    }
+
+    /// Goes on to a number and a time. If more than two digits differ, nothing is done but `in_any_case`.
     #[inline(always)]
     pub(crate) fn foresee(&mut self, number: u64, clock: u64, in_any_case: bool) {
-        if number / 10 == self.tens && clock == self.clock {
-            self.count_to(number);
-        } else if in_any_case {
+        let tens = number / 10;
+        if clock == self.clock {
+            if tens == self.tens {
+                self.count_to(number);
+                return;
+            }
+            if tens / 10 == self.tens / 10 && tens > 0 && self.tens > 0 {
+                self.count_by_tens(number);
+                return;
+            }
+        }
+        if in_any_case {
             *self = Head::of(number, clock);
         }
     }

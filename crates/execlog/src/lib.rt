@@ -15,6 +15,7 @@ mod index;
 pub mod laws;
 mod log;
 mod moment;
+mod moves;
 mod plain;
 mod rows;
 mod sheet;

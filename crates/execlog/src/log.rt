@@ -74,7 +74,7 @@ impl<'a, F: Form> Log<'a, F> {
         requires { self.old.number < 2 ^ 63 }
         ensures shows { OnOk result (Wrote (Extends (record { tape = W.tape out.old; page = self.old.page.items }) (record { tape = W.tape out.new; page = self.new.page.items })) (F.shows self.old.form.now (record {
           moment = record { number = self.old.number; clock = clock; actor = actor };
-          text = self.old.text.bytes.items;
+          text = self.old.text.bytes;
         }))) }
         ensures form { self.new.form ≡ self.old.form }
         ensures number { self.new.number ≡ self.old.number + 1 }
@@ -86,8 +86,12 @@ impl<'a, F: Form> Log<'a, F> {
             actor,
         };
         self.number += 1;
-        self.form
-            .push_entry(&self.before, &moment, &self.text.bytes, &mut self.page)?;
+        self.form.push_entry(
+            &self.before,
+            &moment,
+            self.text.bytes.as_slice(),
+            &mut self.page,
+        )?;
         turn_page(&mut self.page, out);
         Ok(())
     }
@@ -101,7 +105,7 @@ fn begin<S: ListSpace, F: Form, W: Sink>(
 ) -> Result<(), AllocError>
     requires going { machine.old.failed ≡ false }
     requires good { log.old.text.state ≡ SinkState.Good }
-    requires blank { log.old.text.bytes.items ≡ [] }
+    requires blank { log.old.text.bytes ≡ [] }
     requires number { log.old.number ≡ 0 }
     ensures agrees { OnOk result ((m : MachineData) → Agrees machine.old.seen (booted m) → Agrees machine.new.seen (starts (booted m)).state) }
     ensures rows { OnOk result ((m : MachineData) → Agrees machine.old.seen (booted m) → Wrote (Extends (record { tape = W.tape out.old; page = log.old.page.items }) (record { tape = W.tape out.new; page = log.new.page.items })) (F.shows log.old.form.now (entry_after 0 None (starts (booted m))))) }
@@ -294,7 +298,7 @@ fn log_all<S: ListSpace, F: Form, W: Sink>(
 ) -> Result<(), AllocError>
     requires going { machine.old.failed ≡ false }
     requires good { log.old.text.state ≡ SinkState.Good }
-    requires blank { log.old.text.bytes.items ≡ [] }
+    requires blank { log.old.text.bytes ≡ [] }
     requires number { log.old.number ≡ 0 }
     requires few { sum_by turns list.now < 2 ^ 62 }
     requires time { HasTimeFor (sum_by ticks_of list.now) machine.old.seen }

@@ -6,7 +6,7 @@ ghost use Rattle.execlog.specs.Rows.{FollowsRows, IsCutAt, IsRow, LaysOut};
 
 use crate::book::{Book, Place};
 use crate::cursor::{Cursor, Spot, place_at};
-use crate::feed::feed_of;
+use crate::feed::{feed_of, is_line};
 use crate::filter::Filter;
 use crate::form::{Before, Form};
 use crate::head::Head;
@@ -35,6 +35,18 @@ pub fn cut_line(text: &[u8]) -> Option<(&[u8], &[u8])>
         None => None,
         Some(end) => Some((&text[..end], &text[end + 1..])),
     }
+}
+
+/// The first line of a text, which mostly is all of it, without its line feed, and what is after it; none if there is no line feed.
+#[inline(always)]
+fn cut_first(text: &[u8]) -> Option<(&[u8], &[u8])>
+    ensures { IsCutAt text.now result }
+{
+    if is_line(text) {
+        let end = text.len() - 1;
+        return Some((&text[..end], &text[end + 1..]));
+    }
+    cut_line(text)
 }
 
 /// The text of the command that a line is of; empty for none.
@@ -183,7 +195,7 @@ impl Plain<'_> {
     ) -> Result<(), AllocError>
         ensures { OnOk result (Gains (LaysOut (ShowsAll self.now.filter) heading.entry.moment.now None text.now) page.old.items page.new.items) }
     {
-        match cut_line(text) {
+        match cut_first(text) {
             None => push_rest(page, text),
             Some((line, rest)) => {
                 let mut cursor = cursor;
@@ -206,7 +218,7 @@ impl Plain<'_> {
     ) -> Result<(), AllocError>
         ensures { OnOk result (Gains (LaysOut (ShowsAll self.now.filter) heading.entry.moment.now place.now.line text.now) page.old.items page.new.items) }
     {
-        match cut_line(text) {
+        match cut_first(text) {
             None => push_rest(page, text),
             Some((line, rest)) => {
                 let spot = Spot::Task(actor.task, actor.place);

@@ -2,6 +2,7 @@
 ghost use Rattle.std.specs.Prelude.{◌≡◌, ◌≤◌, ◌++◌, ◌+◌, ◌-◌, drop, length, take, IfSome, OnOk};
 ghost use Rattle.execlog.specs.Rows.{IsSheet};
 
+use crate::moves::{write_over, write_text};
 use std::alloc::AllocError;
 
 /// How many cells there are.
@@ -19,56 +20,6 @@ pub(crate) struct Sheet {
     pub(crate) most: usize,
     ghost within: { len ≤ 96 },
     ghost fits: { at + most ≤ len },
-}
-
-/// Writes a text over bytes from a place on.
-#[inline(always)]
-fn write_over(room: &mut [u8], at: usize, text: &[u8])
-    requires { at + length text.now ≤ length room.old }
-    ensures before { take (at + length text.now) room.new ≡ take at room.old ++ text.now }
-    ensures after { drop (at + length text.now) room.new ≡ drop (at + length text.now) room.old }
-    ensures room { length room.new ≡ length room.old }
-{
-    room[at..at + text.len()].copy_from_slice(text);
-}
-
-/// Writes a text over bytes from a place on, by its first bytes and by its last ones, of that width.
-#[inline(always)]
-fn write_ends(room: &mut [u8], at: usize, text: &[u8], width: usize)
-    requires within { at + length text.now ≤ length room.old }
-    requires wide { width ≤ length text.now }
-    requires narrow { length text.now ≤ width + width }
-    ensures before { take (at + length text.now) room.new ≡ take at room.old ++ text.now }
-    ensures after { drop (at + length text.now) room.new ≡ drop (at + length text.now) room.old }
-    ensures room { length room.new ≡ length room.old }
-{
-    let rest = text.len() - width;
-    write_over(room, at, &text[..width]);
-    write_over(room, at + rest, &text[rest..]);
-}
-
-/// Writes a text over bytes from a place on. Most are short.
-#[inline(always)]
-fn write_text(room: &mut [u8], at: usize, text: &[u8])
-    requires { at + length text.now ≤ length room.old }
-    ensures before { take (at + length text.now) room.new ≡ take at room.old ++ text.now }
-    ensures after { drop (at + length text.now) room.new ≡ drop (at + length text.now) room.old }
-    ensures room { length room.new ≡ length room.old }
-{
-    let len = text.len();
-    if len >= 16 {
-        if len <= 32 {
-            write_ends(room, at, text, 16);
-        } else if len <= 64 {
-            write_ends(room, at, text, 32);
-        } else {
-            write_over(room, at, text);
-        }
-    } else if len >= 8 {
-        write_ends(room, at, text, 8);
-    } else {
-        write_over(room, at, text);
-    }
 }
 
 /// Adds the first cells, that many, with a text over those from a place on.

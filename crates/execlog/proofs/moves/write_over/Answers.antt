@@ -1,7 +1,7 @@
 -- What is after the text is kept.
 use Rattle.std.proofs.Common.{◌+◌, ◌-◌, length, ap, arith}
 use Rattle.std.proofs.lemmas.Slice.{drop-put_mid}
-use Rattle.execlog.proofs.sheet.write_over.Goals as goal
+use Rattle.execlog.proofs.moves.write_over.Goals as goal
 
 pub returns-clause-after : goal.returns-clause-after
 returns-clause-after c =
