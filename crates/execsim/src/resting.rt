@@ -13,6 +13,7 @@ use crate::kernel::Kernel;
 use execlist::space::ListSpace;
 use exectrace::Sink;
 use taskq::TaskId;
+use taskscript::Word;
 
 impl<S: ListSpace> Kernel<S> {
     /// Task t, which runs in a settled machine, does plain words that print nothing, as long as its next command is one, and at most that
@@ -53,6 +54,20 @@ impl<S: ListSpace> Kernel<S> {
         most
     }
 
+    /// Whether the next command of task t is a plain word. Only then is it worth a call to do it, and those after it.
+    #[inline(always)]
+    fn is_plain_next(&self, t: TaskId) -> bool
+        requires { HasTask t self.now }
+    {
+        match self.program(t).command() {
+            None => false,
+            Some(command) => match command.word {
+                Word::Plain(_) => true,
+                _ => false,
+            },
+        }
+    }
+
     /// Steps of a settled machine that ask nothing of Exec, at most that many: those of an idle machine, or plain words. The answer is how many.
     pub(crate) fn quiet_steps<W: Sink>(&mut self, most: u32, out: &mut W) -> u32
         requires { IsSettled self.old }
@@ -64,7 +79,13 @@ impl<S: ListSpace> Kernel<S> {
         }
         match self.running() {
             None => most,
-            Some(t) => self.plain_words(t, most, out),
+            Some(t) => {
+                if self.is_plain_next(t) {
+                    self.plain_words(t, most, out)
+                } else {
+                    0
+                }
+            }
         }
     }
 
