@@ -30,7 +30,7 @@ impl Model for Names {
     ghost invariant = { λ q. AreFirsts q.firsts.items (map (λ n. n.bytes) q.names.items) };
 }
 
-/// The byte that is so many before the last one, or the first one; 0 if there is none.
+/// The byte at that distance from the end, or the first one; 0 if there is none.
 fn byte_before(bytes: &[u8], back: usize) -> usize
     ensures value { result ≡ slice_index_or bytes.now (length bytes.now - back) 0 }
     ensures small { result < 256 }
