@@ -17,3 +17,6 @@ returns-in-None-clause-follows g c = idle_steps c.args.most (g.W.Sink.tape c.arg
 pub plain_words-requires-clause-uncaused : goal.plain_words-requires-clause-uncaused
 plain_words-requires-clause-uncaused g c =
     none_caused c.args.self.now (ap (λ (m : Seen). is_some (first m.pending.caused)) (sym c.self.view_is) ∙ sym c.any_caused.ensures ∙ c.if-any_caused.false)
+
+pub returns-else-is_plain_next-clause-follows : goal.returns-else-is_plain_next-clause-follows
+returns-else-is_plain_next-clause-follows g c = no_step c.args.self.now (g.W.Sink.tape c.args.out.now)
