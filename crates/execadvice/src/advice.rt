@@ -4,7 +4,7 @@ use crate::assignments::{assignment_of_c, call_with_parentheses, is_value, missi
 use crate::foreign::{equivalent_of, number_of_constants, written_number};
 use crate::made::Made;
 use crate::members::{has_named, name_of};
-use crate::near::{lower_case, nearest, proposal, question};
+use crate::near::{are_digits, nearest, proposal, question};
 use crate::said::cut;
 use crate::show::{Advice, Span, field_span, width_of};
 use crate::spacing::spacing_advice;
@@ -33,7 +33,7 @@ fn is_assignment(field: &str) -> bool {
 
 /// Why a name is no label. A colon that is wanted is in `end`, and `wanted` is said if it is none with small letters either.
 fn label_reason(alloc: Global, name: &str, end: &str, wanted: &str) -> Made<String> {
-    let lower = lower_case(alloc, name)?;
+    let lower = name.to_ascii_lowercase(alloc)?;
     if is_identifier(lower.as_str().as_bytes()) {
         return format!(in alloc; "a label has no capital letter; did you mean {lower}{end}?");
     }
@@ -96,7 +96,7 @@ fn unknown_word_reason(alloc: Global, text: &str) -> Made<String> {
 
 /// Why a field is no variable. `wanted` is said if it is none with small letters either.
 fn variable_reason(alloc: Global, field: &str, wanted: &str) -> Made<String> {
-    let lower = lower_case(alloc, field)?;
+    let lower = field.to_ascii_lowercase(alloc)?;
     if is_variable(lower.as_str()) {
         return format!(in alloc; "a variable has no capital letter; did you mean {lower}?");
     }
@@ -122,17 +122,17 @@ fn base_sixteen(field: &str) -> Option<&str> {
 }
 
 fn base_sixteen_reason(alloc: Global, digits: &str) -> Made<String> {
-    let digits: String = digits
-        .chars()
-        .map(|c| c.to_ascii_uppercase())
-        .collect(alloc)?;
+    let digits = digits.to_ascii_uppercase(alloc)?;
     let number = format!(in alloc; "${digits}")?;
     if number_of(number.as_str().as_bytes()).is_some() {
         return format!(in alloc;
             "a number in base 16 is $ with digits 0 to 9 and A to F; did you mean {number}?"
         );
     }
-    format!(in alloc; "a number in base 16 is $ with 1 to 8 digits, 0 to 9 and A to F")
+    String::from_str(
+        alloc,
+        "a number in base 16 is $ with 1 to 8 digits, 0 to 9 and A to F",
+    )
 }
 
 /// Why a part is no number and no variable.
@@ -144,20 +144,23 @@ fn value_reason(alloc: Global, field: &str) -> Made<String> {
         return format!(in alloc; "a number has no zero before its digits; did you mean {short}?");
     }
     if field == "-0" {
-        return format!(in alloc; "a number has no zero before its digits; did you mean 0?");
+        return String::from_str(
+            alloc,
+            "a number has no zero before its digits; did you mean 0?",
+        );
     }
     if field.starts_with("\"") {
-        return format!(in alloc; "expected a number or a variable here, not a name");
+        return String::from_str(alloc, "expected a number or a variable here, not a name");
     }
     if let Some(number) = number_of_constants(field) {
         let number = written_number(alloc, number)?;
         return format!(in alloc; "constants are written as numbers; did you mean {number}?");
     }
     let digits = field.trim_start_matches('-');
-    if !digits.is_empty() && digits.as_bytes().iter().all(|b| b.is_ascii_digit()) {
-        return format!(in alloc; "a number is from -2147483648 to 4294967295");
+    if !digits.is_empty() && are_digits(digits) {
+        return String::from_str(alloc, "a number is from -2147483648 to 4294967295");
     }
-    let first = lower_case(alloc, field.get(..16).unwrap_or(""))?;
+    let first = field.get(..16).unwrap_or("").to_ascii_lowercase(alloc)?;
     let wanted = if field.len() > 16 && is_identifier(first.as_str().as_bytes()) {
         "expected a number or a variable here; a variable has at most 16 characters"
     } else {
@@ -191,15 +194,13 @@ fn quoted_reason(alloc: Global, field: &str, or_none: &str) -> Made<String> {
     if inside.len() < field.len() && is_name(inside.as_bytes()) {
         return format!(in alloc; "put a name between double quotes; did you mean \"{inside}\"?");
     }
-    if field.starts_with("\"") && !field.ends_with("\"") {
-        return format!(in alloc;
-            "a name between double quotes has no space, and ends with a double quote"
-        );
-    }
     if field.starts_with("\"") {
-        return format!(in alloc;
+        let reason = if field.ends_with("\"") {
             "a name has 1 to 31 characters: letters, digits, the dot, _ and -"
-        );
+        } else {
+            "a name between double quotes has no space, and ends with a double quote"
+        };
+        return String::from_str(alloc, reason);
     }
     format!(in alloc; "expected a name between double quotes{or_none} here")
 }
@@ -210,12 +211,9 @@ fn softint_reason(alloc: Global, softints: &[Value], field: &str) -> Made<String
         return quoted_reason(alloc, field, "");
     }
     if softints.is_empty() {
-        return format!(in alloc; "the file has no software interrupt");
+        return String::from_str(alloc, "the file has no software interrupt");
     }
-    let names: Vec<&str> = softints
-        .iter()
-        .map(|softint| name_of(softint))
-        .collect(alloc)?;
+    let names: Vec<&str> = softints.iter().map(name_of).collect(alloc)?;
     let question = question(alloc, field.trim_matches('"'), &names, "\"")?;
     format!(in alloc; "the file has no software interrupt of this name{question}")
 }
@@ -223,8 +221,8 @@ fn softint_reason(alloc: Global, softints: &[Value], field: &str) -> Made<String
 /// `1 argument`, `2 arguments`.
 fn counted(alloc: Global, count: usize) -> Made<String> {
     match count {
-        0 => format!(in alloc; "no argument"),
-        1 => format!(in alloc; "1 argument"),
+        0 => String::from_str(alloc, "no argument"),
+        1 => String::from_str(alloc, "1 argument"),
         _ => format!(in alloc; "{count} arguments"),
     }
 }

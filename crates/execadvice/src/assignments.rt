@@ -104,7 +104,7 @@ fn without_parentheses(alloc: Global, line: &str) -> Made<String> {
 
 /// What is meant by a line with a call as in C, as `Wait($1000);`. None if it has no parentheses, or no word where one has to be.
 pub fn call_with_parentheses(alloc: Global, line: &str) -> Made<Option<String>> {
-    if !line.contains('(') || line.len() > 80 || line.chars().any(|c| is_hidden(c)) {
+    if !line.contains('(') || line.len() > 80 || line.chars().any(is_hidden) {
         return Ok(None);
     }
     let meant = without_parentheses(alloc, line)?;

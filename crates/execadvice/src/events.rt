@@ -6,7 +6,7 @@ ghost use Rattle.execadvice.specs.Findings.{fault_of};
 use crate::escaped::is_hidden;
 use crate::file::first_line;
 use crate::made::Made;
-use crate::near::question;
+use crate::near::{are_digits, question};
 use crate::show::{Advice, Span, field_span, width_of};
 use crate::spacing::hidden_advice;
 use crate::text::{Text, text_or_nothing};
@@ -14,28 +14,33 @@ use std::alloc::{AllocError, Global};
 use std::str::from_utf8;
 use taskscript::{EventFault, read_events};
 
+/// Why a number of turns is none. `short` is it without the zeros before it.
+fn number_reason_of(digits: &str, short: &str) -> &'static str {
+    if digits.is_empty() {
+        "expected a number from 1 to 1000000 here"
+    } else if !are_digits(digits) {
+        "expected a number from 1 to 1000000 here, in decimal digits"
+    } else if short.is_empty() {
+        "0 asks for nothing: a number is from 1 to 1000000"
+    } else {
+        "a number is from 1 to 1000000; write several lines"
+    }
+}
+
 /// Why a number of turns is none.
 fn number_reason(alloc: Global, digits: &str) -> Made<String> {
-    if digits.is_empty() {
-        return format!(in alloc; "expected a number from 1 to 1000000 here");
-    }
-    if !digits.as_bytes().iter().all(|b| b.is_ascii_digit()) {
-        return format!(in alloc; "expected a number from 1 to 1000000 here, in decimal digits");
-    }
     let short = digits.trim_start_matches('0');
-    if short.is_empty() {
-        return format!(in alloc; "0 asks for nothing: a number is from 1 to 1000000");
-    }
-    if short.len() < digits.len() {
+    if !short.is_empty() && short.len() < digits.len() && are_digits(digits) {
         return format!(in alloc; "a number has no zero before its digits; did you mean {short}?");
     }
-    format!(in alloc; "a number is from 1 to 1000000; write several lines")
+    String::from_str(alloc, number_reason_of(digits, short))
 }
 
 fn source_reason(alloc: Global, name: &str) -> Made<String> {
     if name.eq_ignore_ascii_case("VERTB") {
-        return format!(in alloc;
-            "VERTB comes with each tick; PORTS and EXTER are asked for by irq"
+        return String::from_str(
+            alloc,
+            "VERTB comes with each tick; PORTS and EXTER are asked for by irq",
         );
     }
     let question = question(alloc, name, &["PORTS", "EXTER"], "")?;

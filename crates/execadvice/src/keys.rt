@@ -107,12 +107,6 @@ pub fn unknown_key_reason(alloc: Global, of: TablePlace, key: &str) -> Made<Stri
     };
     let question = proposal(alloc, near, "")?;
     let its = if near.is_some() { " Its" } else { "; its" };
-    let mut reason = format!(in alloc; "unknown key in this table{question}{its} keys are ")?;
-    for (i, one) in keys.iter().enumerate() {
-        if i > 0 {
-            reason.push_str(", ")?;
-        }
-        reason.push_str(*one)?;
-    }
-    Ok(reason)
+    let list = keys.join(alloc, ", ")?;
+    format!(in alloc; "unknown key in this table{question}{its} keys are {list}")
 }

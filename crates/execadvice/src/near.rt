@@ -7,9 +7,9 @@ use strsim::osa_distance;
 /// The length in bytes of the longest text for which a proposal is looked for.
 const LONGEST: usize = 40;
 
-/// A text with small letters for capital ones.
-pub fn lower_case(alloc: Global, text: &str) -> Made<String> {
-    text.chars().map(|c| c.to_ascii_lowercase()).collect(alloc)
+/// Whether all characters of a text are decimal digits.
+pub fn are_digits(text: &str) -> bool {
+    text.as_bytes().iter().all(|b| b.is_ascii_digit())
 }
 
 /// The one of some texts that was likely meant: it differs in at most a third of its letters, and no other in fewer. Upper and lower case are
@@ -18,13 +18,13 @@ pub fn nearest<'a>(alloc: Global, text: &str, among: &[&'a str]) -> Made<Option<
     if text.len() > LONGEST {
         return Ok(None);
     }
-    let text = lower_case(alloc, text)?;
+    let text = text.to_ascii_lowercase(alloc)?;
     let mut found = None;
     let mut least = LONGEST;
     for other in among {
         let most = least.min(other.len() / 3);
         if text.len().abs_diff(other.len()) <= most {
-            let lower = lower_case(alloc, *other)?;
+            let lower = other.to_ascii_lowercase(alloc)?;
             let edits = osa_distance(alloc, text.as_str(), lower.as_str())?;
             if edits == 0 {
                 return Ok(Some(*other));

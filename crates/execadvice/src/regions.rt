@@ -49,39 +49,62 @@ fn extents_of(alloc: Global, table: &Table) -> Made<Vec<Extent>> {
     Ok(extents)
 }
 
-/// Why a region is refused by itself: the key that is wrong, with what it holds and what that is.
-fn unfit_alone(alloc: Global, item: usize, region: Extent) -> Made<Option<Unfit>> {
-    let (number, block) = (item.saturating_add(1), u64::from(MEM_BLOCKSIZE));
+/// What is wrong with a region.
+#[derive(Clone, Copy)]
+enum Fault {
+    /// Its base or its size, which is that, is not a multiple of 8.
+    Uneven(u64),
+    /// Its size is 0.
+    Empty,
+    /// Its base, which is that, is below 4096.
+    Low(u64),
+    /// With it all have that many bytes together, more than the other number.
+    Past(u64, u64),
+    /// It ends at that address, past what there may be.
+    Beyond(u64),
+    /// It overlaps one before it, which has that number, from 0.
+    Overlap(usize),
+}
+
+/// A region that does not fit, by its number from 0, with the key that is wrong, and the fault.
+#[derive(Clone, Copy)]
+struct Found {
+    item: usize,
+    key: &'static str,
+    fault: Fault,
+}
+
+/// Why a region is refused by itself.
+fn unfit_alone(item: usize, region: Extent) -> Option<Found> {
+    let block = u64::from(MEM_BLOCKSIZE);
     let Extent { base, size } = region;
-    let (key, reason) = if base % block != 0 {
-        let reason = format!(in alloc; "region {number}: its base {base} is not a multiple of 8")?;
-        ("base", reason)
+    let (key, fault) = if base % block != 0 {
+        ("base", Fault::Uneven(base))
     } else if size % block != 0 {
-        let reason = format!(in alloc; "region {number}: its size {size} is not a multiple of 8")?;
-        ("size", reason)
+        ("size", Fault::Uneven(size))
     } else if size == 0 {
-        ("size", format!(in alloc; "region {number}: its size is 0")?)
+        ("size", Fault::Empty)
     } else if base < 4096 {
-        let reason = format!(in alloc; "region {number}: its base {base} is below 4096")?;
-        ("base", reason)
+        ("base", Fault::Low(base))
     } else {
-        return Ok(None);
+        return None;
     };
-    Ok(Some(Unfit { item, key, reason }))
+    Some(Found { item, key, fault })
 }
 
 /// The first region that is refused by itself.
-fn first_unfit(alloc: Global, extents: &[Extent]) -> Made<Option<Unfit>> {
+fn first_unfit(extents: &[Extent]) -> Option<Found> {
     for (item, extent) in extents.iter().enumerate() {
-        if let Some(found) = unfit_alone(alloc, item, *extent)? {
-            return Ok(Some(found));
+        let found = unfit_alone(item, *extent);
+        if found.is_some() {
+            return found;
         }
     }
-    Ok(None)
+    None
 }
 
 /// The first region with which all have more bytes than there may be.
-fn first_past(alloc: Global, extents: &[Extent], most: u64) -> Made<Option<Unfit>> {
+fn first_past(extents: &[Extent], most: u64) -> Option<Found> {
     let mut total = 0u64;
     let mut first = None;
     for (item, extent) in extents.iter().enumerate() {
@@ -90,30 +113,21 @@ fn first_past(alloc: Global, extents: &[Extent], most: u64) -> Made<Option<Unfit
             first = Some(item);
         }
     }
-    let Some(item) = first else {
-        return Ok(None);
-    };
-    let reason = format!(in alloc;
-        "the regions have {total} bytes together; there are at most {most}"
-    )?;
-    Ok(Some(Unfit {
-        item,
-        key: "size",
-        reason,
-    }))
+    let (item, key) = (first?, "size");
+    let fault = Fault::Past(total, most);
+    Some(Found { item, key, fault })
 }
 
 /// The first region that ends past what there may be.
-fn first_beyond(alloc: Global, extents: &[Extent]) -> Made<Option<Unfit>> {
+fn first_beyond(extents: &[Extent]) -> Option<Found> {
     for (item, extent) in extents.iter().enumerate() {
         let end = extent.end();
         if end > REACH {
-            let (number, key) = (item.saturating_add(1), "size");
-            let reason = format!(in alloc; "region {number}: it ends at {end}, past {REACH}")?;
-            return Ok(Some(Unfit { item, key, reason }));
+            let (key, fault) = ("size", Fault::Beyond(end));
+            return Some(Found { item, key, fault });
         }
     }
-    Ok(None)
+    None
 }
 
 /// The number of the first of some regions that overlaps one.
@@ -122,34 +136,65 @@ fn overlapped(region: Extent, others: &[Extent]) -> Option<usize> {
 }
 
 /// The first two regions that overlap.
-fn first_overlap(alloc: Global, extents: &[Extent]) -> Made<Option<Unfit>> {
+fn first_overlap(extents: &[Extent]) -> Option<Found> {
     for (region, extent) in extents.iter().enumerate() {
         let after = region.saturating_add(1);
         if let Some(other) = overlapped(*extent, extents.get(after..).unwrap_or(&[])) {
             let (item, key) = (after.saturating_add(other), "base");
-            let (one, two) = (after, item.saturating_add(1));
-            let reason = format!(in alloc; "regions {one} and {two} overlap")?;
-            return Ok(Some(Unfit { item, key, reason }));
+            let fault = Fault::Overlap(region);
+            return Some(Found { item, key, fault });
         }
     }
-    Ok(None)
+    None
+}
+
+/// The region that does not fit, of regions that may have together that many bytes.
+fn first_found(extents: &[Extent], most: u64) -> Option<Found> {
+    let mut found = first_unfit(extents);
+    if found.is_none() {
+        found = first_past(extents, most);
+    }
+    if found.is_none() {
+        found = first_beyond(extents);
+    }
+    if found.is_none() {
+        found = first_overlap(extents);
+    }
+    found
+}
+
+/// Why a region does not fit.
+fn reason_of(alloc: Global, found: Found) -> Made<String> {
+    let (number, key) = (found.item.saturating_add(1), found.key);
+    match found.fault {
+        Fault::Uneven(held) => {
+            format!(in alloc; "region {number}: its {key} {held} is not a multiple of 8")
+        }
+        Fault::Empty => format!(in alloc; "region {number}: its size is 0"),
+        Fault::Low(base) => format!(in alloc; "region {number}: its base {base} is below 4096"),
+        Fault::Past(total, most) => {
+            format!(in alloc; "the regions have {total} bytes together; there are at most {most}")
+        }
+        Fault::Beyond(end) => {
+            format!(in alloc; "region {number}: it ends at {end}, past {REACH}")
+        }
+        Fault::Overlap(other) => {
+            let one = other.saturating_add(1);
+            format!(in alloc; "regions {one} and {number} overlap")
+        }
+    }
 }
 
 /// The region that does not fit: the first whose base or size is no multiple of 8, whose size is 0 or whose base is below 4096; else that with
 /// which all have too many bytes together; else the first that ends past 2 GB; else the second of the first two that overlap.
 pub fn unfit_region(alloc: Global, table: &Table) -> Made<Unfit> {
     let extents = extents_of(alloc, table)?;
-    if let Some(found) = first_unfit(alloc, &extents)? {
-        return Ok(found);
-    }
-    if let Some(found) = first_past(alloc, &extents, u64::from(total_at(table)))? {
-        return Ok(found);
-    }
-    if let Some(found) = first_beyond(alloc, &extents)? {
-        return Ok(found);
-    }
-    match first_overlap(alloc, &extents)? {
-        Some(found) => Ok(found),
+    match first_found(&extents, u64::from(total_at(table))) {
+        Some(found) => Ok(Unfit {
+            item: found.item,
+            key: found.key,
+            reason: reason_of(alloc, found)?,
+        }),
         None => Ok(Unfit {
             item: 0,
             key: "base",

@@ -29,14 +29,36 @@ fn array_named(name: &str) -> Option<Array> {
     Array::ALL.iter().find(|array| array.key() == name).copied()
 }
 
+/// What the walk asks of a key: what its first part is, and whether it has other parts.
+#[derive(Clone, Copy)]
+struct Name {
+    /// The array of tables of that name.
+    array: Option<Array>,
+    /// Whether the name is `code`.
+    is_code: bool,
+    is_dotted: bool,
+}
+
+impl Name {
+    /// What the walk asks of that key.
+    fn new(key: &Key) -> Name {
+        let name = name_in(key, 0);
+        Name {
+            array: array_named(name),
+            is_code: name == "code",
+            is_dotted: !key.path.is_empty(),
+        }
+    }
+}
+
 /// What the value of a key is.
-fn role_of(of: TablePlace, name: &str) -> Role {
+fn role_of(of: TablePlace, name: Name) -> Role {
     match of {
-        TablePlace::Top => match array_named(name) {
+        TablePlace::Top => match name.array {
             None => Role::Other,
             Some(array) => Role::Items(array),
         },
-        TablePlace::Item(array, item) if name == "code" => Role::Code(array, item),
+        TablePlace::Item(array, item) if name.is_code => Role::Code(array, item),
         TablePlace::Item(_, _) => Role::Other,
     }
 }
@@ -50,17 +72,20 @@ pub fn token<T>(read: Result<T, ParseError>) -> Made<Option<T>> {
     }
 }
 
+/// What is after a token, or none if the text has no such token.
+fn after_token<T: Drop>(read: Result<(T, &str), ParseError>) -> Made<Option<&str>> {
+    match token(read)? {
+        None => Ok(None),
+        Some((_, after)) => Ok(Some(after)),
+    }
+}
+
 /// What is after a value that is no array and no table.
 fn after_scalar(alloc: Global, from: &str) -> Made<Option<&str>> {
     if starts_string(from) {
-        return match token(quoted(alloc, from))? {
-            None => Ok(None),
-            Some((_, after)) => Ok(Some(after)),
-        };
-    }
-    match token(unquoted(alloc, from))? {
-        None => Ok(None),
-        Some((_, after)) => Ok(Some(after)),
+        after_token(quoted(alloc, from))
+    } else {
+        after_token(unquoted(alloc, from))
     }
 }
 
@@ -95,12 +120,14 @@ impl<'a> Walk<'a> {
     }
 
     /// Reads a key, counts its parts, and answers what is after it.
-    fn key(&mut self, from: &'a str) -> Made<Option<(Key, &'a str)>> {
-        let found = token(dotted_key(self.alloc, from))?;
-        if let Some((key, _)) = &found {
-            self.written.parts = self.written.parts.saturating_add(key.path.len());
+    fn key(&mut self, from: &'a str) -> Made<Option<(Name, &'a str)>> {
+        match token(dotted_key(self.alloc, from))? {
+            None => Ok(None),
+            Some((key, after)) => {
+                self.written.parts = self.written.parts.saturating_add(key.path.len());
+                Ok(Some((Name::new(&key), after)))
+            }
         }
-        Ok(found)
     }
 
     /// Notes an item of an array, and answers its number.
@@ -121,27 +148,35 @@ impl<'a> Walk<'a> {
         Ok(())
     }
 
+    /// The table in which the head of a table with that name is a key.
+    fn table_above(&self, name: Name) -> TablePlace {
+        match name.array {
+            Some(array) if name.is_dotted && self.written.count(array) > 0 => {
+                TablePlace::Item(array, self.written.count(array).saturating_sub(1))
+            }
+            _ => TablePlace::Top,
+        }
+    }
+
     /// Reads the head of a table, and answers what is after it.
     fn head(&mut self, from: &'a str) -> Made<Option<&'a str>> {
         let is_item = from.starts_with("[[");
         let inside = if is_item { after_one(from) } else { from };
-        let Some((key, after)) = self.key(skip_ws(after_one(inside)))? else {
+        let Some((name, after)) = self.key(skip_ws(after_one(inside)))? else {
             return Ok(None);
         };
         let end = if is_item { after_one(after) } else { after };
         let to = after_one(end);
         let head = self.part(from, to);
-        self.table = Role::OtherTable;
-        match array_named(name_in(&key, 0)) {
-            Some(array) if key.path.is_empty() && is_item => {
+        match name.array {
+            Some(array) if is_item && !name.is_dotted => {
                 let item = self.add_item(array, head)?;
                 self.table = Role::Table(TablePlace::Item(array, item));
             }
-            Some(array) if !key.path.is_empty() && self.written.count(array) > 0 => {
-                let item = self.written.count(array).saturating_sub(1);
-                self.add_key(TablePlace::Item(array, item), head, head)?;
+            _ => {
+                self.table = Role::OtherTable;
+                self.add_key(self.table_above(name), head, head)?;
             }
-            _ => self.add_key(TablePlace::Top, head, head)?,
         }
         Ok(Some(to))
     }
@@ -188,7 +223,7 @@ impl<'a> Walk<'a> {
         let key = self.part(from, after);
         let value_from = skip_ws(after_one(after));
         let role = match of {
-            Some(of) if name.path.is_empty() => role_of(of, name_in(&name, 0)),
+            Some(of) if !name.is_dotted => role_of(of, name),
             _ => Role::Other,
         };
         let Some(to) = self.value(value_from, role)? else {

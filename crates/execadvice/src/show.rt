@@ -75,7 +75,8 @@ fn first_shown(length: usize, start: usize) -> usize {
     }
 }
 
-/// Adds the part of a line that is shown, and a line feed. The answer is the number of columns before the marked part, and that of its own.
+/// Adds the part of a line that is shown, and begins the line below it. The answer is the number of columns before the marked part, and that of
+/// its own.
 fn push_window(alloc: Global, out: &mut String, line: &str, span: Span) -> Made<(usize, usize)> {
     let first = first_shown(width_of(line), span.start);
     let end = span.start.saturating_add(span.width);
@@ -83,9 +84,9 @@ fn push_window(alloc: Global, out: &mut String, line: &str, span: Span) -> Made<
     let mut before = 0usize;
     let mut width = 0usize;
     if first > 0 {
-        out.push_str("..")?;
         before = 2;
     }
+    out.push_str(if first > 0 { "    .." } else { "    " })?;
     for c in line.chars().skip(first).take(WIDEST) {
         let columns = push_character(alloc, out, c)?;
         if at < span.start {
@@ -95,10 +96,8 @@ fn push_window(alloc: Global, out: &mut String, line: &str, span: Span) -> Made<
         }
         at = at.saturating_add(1);
     }
-    if line.chars().skip(at).next().is_some() {
-        out.push_str("..")?;
-    }
-    out.push_str("\n")?;
+    let has_more = line.chars().skip(at).next().is_some();
+    out.push_str(if has_more { "..\n    " } else { "\n    " })?;
     if at < span.start {
         before = before.saturating_add(span.start.saturating_sub(at));
     }
@@ -108,19 +107,20 @@ fn push_window(alloc: Global, out: &mut String, line: &str, span: Span) -> Made<
 /// Adds the line, and below it marks under the part that is wrong, with the reason. Of a line of more than 160 characters only those near
 /// the part are shown.
 pub fn push_marked(alloc: Global, out: &mut String, line: &str, advice: &Advice) -> Made<()> {
-    out.push_str("    ")?;
     let (before, width) = push_window(alloc, out, line, advice.span)?;
-    out.push_str("    ")?;
     push_times(out, ' ', before)?;
     push_times(out, '^', width.max(1))?;
-    out.push_str(" ")?;
-    out.push_str(advice.reason.as_str())?;
+    push_end(out, " ", advice.reason.as_str())
+}
+
+/// Adds a reason after some spaces, and ends the line.
+fn push_end(out: &mut String, spaces: &str, reason: &str) -> Made<()> {
+    out.push_str(spaces)?;
+    out.push_str(reason)?;
     out.push_str("\n")
 }
 
 /// Adds a reason on a line of its own.
 pub fn push_reason(out: &mut String, reason: &str) -> Made<()> {
-    out.push_str("    ")?;
-    out.push_str(reason)?;
-    out.push_str("\n")
+    push_end(out, "    ", reason)
 }

@@ -31,15 +31,16 @@ fn held_text(alloc: Global, value: &Value) -> Made<String> {
         let text = shown_name(alloc, text)?;
         return format!(in alloc; "\"{text}\"");
     }
-    match value.as_bool() {
-        Some(true) => format!(in alloc; "true"),
-        Some(false) => format!(in alloc; "false"),
-        None if value.is_array() => format!(in alloc; "an array"),
+    let text = match value.as_bool() {
+        Some(true) => "true",
+        Some(false) => "false",
+        None if value.is_array() => "an array",
         None => {
             let kind = value.type_str();
-            format!(in alloc; "a {kind}")
+            return format!(in alloc; "a {kind}");
         }
-    }
+    };
+    String::from_str(alloc, text)
 }
 
 /// The number, from 0, of the first item of the code of a table that is no string.
@@ -145,22 +146,34 @@ impl<'a> File<'_, 'a> {
         })
     }
 
-    /// Where the name of an item was before.
-    fn twice_reason(&self, of: TablePlace) -> Made<String> {
-        if let TablePlace::Item(array, item) = of {
-            let name = name_at(&self.table, array, item);
-            for other in named_arrays(array) {
-                let items = items_at(&self.table, other.key());
-                if let Some(before) = items.iter().position(|item| name == name_of(item)) {
-                    let (key, number) = (other.key(), before.saturating_add(1));
-                    let name = shown_name(self.alloc, name)?;
-                    return format!(in self.alloc;
-                        "the name \"{name}\" is already used, in {key} {number}"
-                    );
-                }
+    /// The first item that has a name, in the arrays in which it may be before that of an item of one: the key of its array, and its number from 0.
+    fn first_named(&self, array: Array, name: &str) -> Option<(&'static str, usize)> {
+        for other in named_arrays(array) {
+            let items = items_at(&self.table, other.key());
+            if let Some(before) = items.iter().position(|item| name == name_of(item)) {
+                return Some((other.key(), before));
             }
         }
-        format!(in self.alloc; "this name is already used")
+        None
+    }
+
+    /// Where the name of an item was before.
+    fn twice_reason(&self, of: TablePlace) -> Made<String> {
+        let (name, before) = match of {
+            TablePlace::Top => ("", None),
+            TablePlace::Item(array, item) => {
+                let name = name_at(&self.table, array, item);
+                (name, self.first_named(array, name))
+            }
+        };
+        match before {
+            None => String::from_str(self.alloc, "this name is already used"),
+            Some((key, before)) => {
+                let number = before.saturating_add(1);
+                let name = shown_name(self.alloc, name)?;
+                format!(in self.alloc; "the name \"{name}\" is already used, in {key} {number}")
+            }
+        }
     }
 
     /// Why a key of a table is faulty.
@@ -199,39 +212,40 @@ impl<'a> File<'_, 'a> {
         })
     }
 
-    /// What is wrong with an array as a whole. What is marked is the first item that is too many, the region that does not fit, or the key.
-    fn wrong_array(&self, array: Array, fault: FileFault) -> Made<Wrong<'a>> {
+    /// Why an array as a whole is faulty, and what is marked: the first item that is too many, the region that does not fit, or the key.
+    fn array_reason(&self, array: Array, fault: FileFault) -> Made<(String, Option<Part<'a>>)> {
         let (alloc, key) = (self.alloc, array.key());
-        let words = self.key_words(TablePlace::Top, key)?;
         match fault {
             FileFault::BadRegions => {
                 let found = unfit_region(alloc, &self.table)?;
                 let part = self.value_of(TablePlace::Item(array, found.item), found.key)?;
-                let reason = found.reason;
-                Ok(Wrong {
-                    words,
-                    reason,
-                    part,
-                })
+                Ok((found.reason, part))
             }
             FileFault::TooMany => {
                 let (count, limit) = (items_at(&self.table, array.key()).len(), array.limit());
-                Ok(Wrong {
-                    words,
-                    reason: format!(in alloc;
-                        "{count} tables; there are at most {limit} of {key}"
-                    )?,
-                    part: self.written.head(array, limit),
-                })
+                let reason = format!(in alloc;
+                    "{count} tables; there are at most {limit} of {key}"
+                )?;
+                Ok((reason, self.written.head(array, limit)))
             }
-            _ => Ok(Wrong {
-                words,
-                reason: format!(in alloc;
+            _ => {
+                let part = self.value_of(TablePlace::Top, key)?;
+                let reason = format!(in alloc;
                     "expected an array of tables, each of which begins with [[{key}]]"
-                )?,
-                part: self.value_of(TablePlace::Top, key)?,
-            }),
+                )?;
+                Ok((reason, part))
+            }
         }
+    }
+
+    /// What is wrong with an array as a whole.
+    fn wrong_array(&self, array: Array, fault: FileFault) -> Made<Wrong<'a>> {
+        let (reason, part) = self.array_reason(array, fault)?;
+        Ok(Wrong {
+            words: self.key_words(TablePlace::Top, array.key())?,
+            reason,
+            part,
+        })
     }
 
     /// What is wrong with an item of an array, which is no table.
@@ -239,7 +253,7 @@ impl<'a> File<'_, 'a> {
         let named = self.item_words(array, item)?;
         Ok(Wrong {
             words: format!(in self.alloc; "{named}: ")?,
-            reason: format!(in self.alloc; "expected a table")?,
+            reason: String::from_str(self.alloc, "expected a table")?,
             part: self.written.head(array, item),
         })
     }

@@ -175,7 +175,7 @@ fn add_unknown_ports(out: &mut Warnings, bodies: &[Body<'_>]) -> Made<()> {
 
 /// Adds a warning for each name that FindTask asks for, and no task has.
 fn add_unknown_tasks(out: &mut Warnings, bodies: &[Body<'_>], tasks: &[Value]) -> Made<()> {
-    let names: Vec<&str> = tasks.iter().map(|task| name_of(task)).collect(out.alloc)?;
+    let names: Vec<&str> = tasks.iter().map(name_of).collect(out.alloc)?;
     let asked = quoted_at(out.alloc, bodies, Word::Tasks(TaskWord::FindTask), 0)?;
     add_unknown(out, &asked, &names, "the file has no task")
 }

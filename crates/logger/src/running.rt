@@ -1,6 +1,7 @@
 //! The command over any words and writers, and on the arguments of its process.
-ghost use Rattle.std.specs.Prelude.{◌≤◌, IfOk, sum_by};
+ghost use Rattle.std.specs.Prelude.{◌≡◌, ◌≤◌, IfOk, false, sum_by};
 ghost use Rattle.taskscript.specs.Events.{ticks as ticks_of};
+ghost use Rattle.execsim.specs.Time.{HasTimeFor};
 ghost use Rattle.execlog.specs.Log.{turns};
 
 use crate::choice::{Choice, chosen, number_within};
@@ -47,7 +48,26 @@ fn status_of(is_stopped: bool) -> u8
     if is_stopped { ALERTED } else { DONE }
 }
 
-/// Runs a machine over events, and writes its log in a form.
+/// Runs a machine that was not started yet over events, and writes its log in a form.
+fn write_log_of<'a, F: Form, W: Write>(
+    alloc: Global,
+    machine: &mut Machine<LinkSpace>,
+    events: &[Event],
+    form: &F,
+    out: &mut W,
+) -> Result<u8, Failure<'a>>
+    requires going { machine.old.failed ≡ false }
+    requires left { HasTimeFor 1000000 machine.old.seen }
+    requires few { sum_by turns events.now ≤ 4000000 }
+    requires time { sum_by ticks_of events.now ≤ 1000000 }
+    ensures { IfOk result (λ status. status ≤ 4) }
+{
+    let mut sink = WriteSink::new(&mut *out);
+    run_events(alloc, machine, events, form, &mut sink)?;
+    Ok(status_of(machine.view().stopped))
+}
+
+/// Runs the machine of a file over events, and writes its log in a form.
 fn write_form<'a, F: Form, W: Write>(
     alloc: Global,
     run: &Run,
@@ -59,10 +79,10 @@ fn write_form<'a, F: Form, W: Write>(
     requires time { sum_by ticks_of events.now ≤ 1000000 }
     ensures { IfOk result (λ status. status ≤ 4) }
 {
-    let mut machine: Machine<LinkSpace> = Machine::boot(alloc, &run.listed.machine)?;
-    let mut sink = WriteSink::new(&mut *out);
-    run_events(alloc, &mut machine, events, form, &mut sink)?;
-    Ok(status_of(machine.view().stopped))
+    match Machine::boot(alloc, &run.listed.machine) {
+        Err(_) => Err(Failure::NoMemory),
+        Ok(mut machine) => write_log_of(alloc, &mut machine, events, form, out),
+    }
 }
 
 /// The machine file as rows need it.

@@ -1,6 +1,7 @@
 //! All that a machine shows after some steps, as a page of text.
-ghost use Rattle.std.specs.Prelude.{◌≤◌, sum_by};
+ghost use Rattle.std.specs.Prelude.{◌≡◌, ◌≤◌, false, sum_by};
 ghost use Rattle.taskscript.specs.Events.{ticks as ticks_of};
+ghost use Rattle.execsim.specs.Time.{HasTimeFor};
 ghost use Rattle.execlog.specs.Log.{turns};
 
 use crate::failure::Failure;
@@ -61,6 +62,28 @@ impl Form for Silent {
     }
 }
 
+/// Runs a machine that was not started yet over events: the page of what it shows then, and whether an alert has stopped it.
+fn page_after<'a>(
+    alloc: Global,
+    run: &Run,
+    path: &str,
+    machine: &mut Machine<LinkSpace>,
+    events: &[Event],
+    number: u64,
+    last: u64,
+) -> Result<(String, bool), Failure<'a>>
+    requires going { machine.old.failed ≡ false }
+    requires left { HasTimeFor 1000000 machine.old.seen }
+    requires few { sum_by turns events.now ≤ 4000000 }
+    requires time { sum_by ticks_of events.now ≤ 1000000 }
+{
+    let mut sink = WriteSink::new(Nowhere);
+    run_events(alloc, machine, events, &Silent, &mut sink)?;
+    let is_stopped = machine.view().stopped;
+    let page = page_of(alloc, run, path, machine, number, last)?;
+    Ok((page, is_stopped))
+}
+
 /// The page of what a machine shows after the step of a number, which is the last of these events, and whether an alert has stopped it.
 ///
 /// # Errors
@@ -79,15 +102,8 @@ pub fn state_page<'a>(
     requires few { sum_by turns events.now ≤ 4000000 }
     requires time { sum_by ticks_of events.now ≤ 1000000 }
 {
-    let mut machine: Machine<LinkSpace> = Machine::boot(alloc, &run.listed.machine)?;
-    run_events(
-        alloc,
-        &mut machine,
-        events,
-        &Silent,
-        &mut WriteSink::new(Nowhere),
-    )?;
-    let is_stopped = machine.view().stopped;
-    let page = page_of(alloc, run, path, &machine, number, last)?;
-    Ok((page, is_stopped))
+    match Machine::boot(alloc, &run.listed.machine) {
+        Err(_) => Err(Failure::NoMemory),
+        Ok(mut machine) => page_after(alloc, run, path, &mut machine, events, number, last),
+    }
 }
