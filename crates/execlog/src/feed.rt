@@ -36,7 +36,7 @@ fn has_feed<const N: usize>(text: &[u8], at: usize) -> bool
 }
 
 /// Whether a text is a line and its line feed, by its last byte and by the others, as the first ones and the last ones, of that many; false if they
-/// are not so many.
+/// are not as many.
 #[inline(always)]
 fn is_line_by<const N: usize>(text: &[u8]) -> bool
     requires few { N ≤ 32 }
