@@ -13,10 +13,10 @@ found_passes found passes [] all = tt
 found_passes {A} found passes (x ∷ xs) all =
     let parts = and_parts (passes x) _ all in
     by_case (found x) parts.0 (found_passes found passes xs parts.1) where
-  by_case : (is : Bool) → passes x ≡ true → IfSome (find found xs) (λ y. passes y ≡ true)
-      → IfSome (cond is (Some x) (find found xs)) (λ y. passes y ≡ true)
-  by_case true here there = here
-  by_case false here there = there
+      by_case : (is : Bool) → passes x ≡ true → IfSome (find found xs) (λ y. passes y ≡ true)
+          → IfSome (cond is (Some x) (find found xs)) (λ y. passes y ≡ true)
+      by_case true here there = here
+      by_case false here there = there
 
 abbrev is_short : Word → Bool
 is_short word = nat_le (length (word_text word)) 31

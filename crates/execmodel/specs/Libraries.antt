@@ -1,6 +1,6 @@
 -- Libraries (RKM Libraries, Exec Libraries). A library is absent, or it is loaded and begins at an address, its base. A base that no loaded
 -- library has is the alert HANDLE; a library that is closed more often than opened is the alert LIB (project rule).
-use Rattle.std.specs.Prelude.{⊤, ℕ, ◌+◌, ◌-◌, Bool, false, not, ◌&&◌, if◌then◌else◌, nat_eq, nat_le, bytes_eq, unwrap_or, slice_index_or, codes, List, [], Option, None, Some}
+use Rattle.std.specs.Prelude.{ℕ, ◌+◌, ◌-◌, Bool, false, not, ◌&&◌, if◌then◌else◌, nat_eq, nat_le, bytes_eq, unwrap_or, slice_index_or, codes, List, [], Option, None, Some, ⊤}
 use Rattle.std.specs.List.{position_from}
 use Rattle.std.specs.Option.{option_and_then, option_map_or}
 use Rattle.taskscript.specs.File.{LibraryData}

@@ -1,7 +1,7 @@
 -- Lists of nodes (RKM Libraries, Exec Lists and Queues). A list is the sequence of its nodes, by their addresses; no node is in two
 -- lists, nor twice in one. An address if no object of the kind begins is the alert HANDLE; a node that is linked if it must not
 -- be, or the other way, is the alert LINK (project rule).
-use Rattle.std.specs.Prelude.{⊤, ℕ, zero, suc, ℤ, Bool, true, false, not, ◌-◌, ◌==◌, if◌then◌else◌, nat_eq, is_some, length, map, take, drop, find, unwrap_or, codes, List, [], ◌∷◌, ◌++◌, Option, None, Some}
+use Rattle.std.specs.Prelude.{ℕ, zero, suc, ℤ, Bool, true, false, not, ◌-◌, ◌==◌, if◌then◌else◌, nat_eq, is_some, length, map, take, drop, find, unwrap_or, codes, List, [], ◌∷◌, ◌++◌, Option, None, Some, ⊤}
 use Rattle.std.specs.List.{list_any}
 use Rattle.std.specs.Int.{cast_signed, w32}
 use Rattle.execlist.specs.Order.{enqueue, first, without}

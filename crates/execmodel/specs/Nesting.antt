@@ -1,6 +1,6 @@
 -- Forbid and Disable (RKM Libraries, Exec Tasks: forbidding task switching). Each task has two counts of its own, which hold again
 -- when it runs again. A count out of its range is the alert NEST (project rule).
-use Rattle.std.specs.Prelude.{⊤, ℕ, Bool, not, if◌then◌else◌, codes, List, Option, None, Some}
+use Rattle.std.specs.Prelude.{ℕ, Bool, not, if◌then◌else◌, codes, List, Option, None, Some, ⊤}
 use Rattle.std.specs.Option.{is_some}
 use Rattle.forbid.specs.Nesting.{Nesting, after_forbid, after_permit, after_disable, after_enable}
 use Rattle.scheduler.specs.Schedule.{nesting_of, nested}

@@ -1,5 +1,5 @@
 -- Plain words: they set variables, calculate, jump and print, and ask nothing of Exec (project rule).
-use Rattle.std.specs.Prelude.{⊤, ℕ, ◌+◌, ◌-◌, ◌%◌, ◌^◌, if◌then◌else◌, nat_eq, bit_and, bit_or}
+use Rattle.std.specs.Prelude.{ℕ, ◌+◌, ◌-◌, ◌%◌, ◌^◌, if◌then◌else◌, nat_eq, bit_and, bit_or, ⊤}
 use Rattle.taskscript.specs.declared.word.plain.PlainWord.{PlainWord}
 use Rattle.taskscript.specs.declared.word.plain.PlainWord.TheVariants as word
 use Rattle.execmodel.specs.State.{Call, State, Outcome, quiet, on_scripts}

@@ -2,7 +2,7 @@
 -- is in one port at most, once. The public ports are a sequence in order of arrival; the one of a name is the earliest among those of
 -- greatest priority that have it. An address if no object of the kind begins is the alert HANDLE; a message or a port that is linked
 -- if it must not be, or the other way, is the alert LINK; a port in use, or not the caller's to wait at, is the alert PORT (project rule).
-use Rattle.std.specs.Prelude.{⊤, ℕ, ℤ, negsuc, ◌^◌, Bool, true, false, not, ◌&&◌, ◌==◌, if◌then◌else◌, nat_eq, is_some, map, filter, drop, unwrap_or, codes, List, [], ◌∷◌, ◌++◌, Option, None, Some}
+use Rattle.std.specs.Prelude.{ℕ, ℤ, negsuc, ◌^◌, Bool, true, false, not, ◌&&◌, ◌==◌, if◌then◌else◌, nat_eq, is_some, map, filter, drop, unwrap_or, codes, List, [], ◌∷◌, ◌++◌, Option, None, Some, ⊤}
 use Rattle.std.specs.List.{list_any}
 use Rattle.std.specs.Int.{cast_signed, w32}
 use Rattle.execlist.specs.Order.{chosen, first}

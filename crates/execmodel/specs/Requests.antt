@@ -2,7 +2,7 @@
 -- or is done: quick, or by a reply, which is the request itself, put at its reply port as a message. An address if no request begins is the
 -- alert HANDLE; a request under way if it must not be, or not begun or not open if it must be, is the alert IO; one whose reply is queued
 -- if it must not be, or the other way, is the alert LINK; a reply port that is not the caller's to wait at is the alert PORT (project rule).
-use Rattle.std.specs.Prelude.{⊤, ℕ, zero, suc, ℤ, pos, negsuc, ◌^◌, Bool, true, false, not, ◌&&◌, if◌then◌else◌, nat_eq, nat_lt, bytes_eq, length, map, unwrap_or, codes, List, [], Option, None, Some}
+use Rattle.std.specs.Prelude.{ℕ, zero, suc, ℤ, pos, negsuc, ◌^◌, Bool, true, false, not, ◌&&◌, if◌then◌else◌, nat_eq, nat_lt, bytes_eq, length, map, unwrap_or, codes, List, [], Option, None, Some, ⊤}
 use Rattle.std.specs.Int.{cast_unsigned, w32}
 use Rattle.exectrace.specs.Trace.{Timer}
 use Rattle.execlist.specs.Order.{without}

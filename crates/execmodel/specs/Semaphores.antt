@@ -1,7 +1,7 @@
 -- Signal semaphores (RKM Libraries, Exec Semaphores). A semaphore has an owner or none, how often the owner has to release it, and the tasks
 -- that wait for it, in order of request. An address if no semaphore begins is the alert HANDLE; a semaphore that is owned if it must
 -- not be, or not owned by the caller, or obtained too often is the alert SEM (project rule).
-use Rattle.std.specs.Prelude.{⊤, ℕ, ◌==◌, Bool, true, false, not, if◌then◌else◌, is_some, drop, find, map, codes, List, [], ◌∷◌, ◌++◌, Option, None, Some}
+use Rattle.std.specs.Prelude.{ℕ, ◌==◌, Bool, true, false, not, if◌then◌else◌, is_some, drop, find, map, codes, List, [], ◌∷◌, ◌++◌, Option, None, Some, ⊤}
 use Rattle.std.specs.List.{list_any}
 use Rattle.std.specs.Option.{option_map}
 use Rattle.execlist.specs.Order.{first, without}

@@ -1,5 +1,5 @@
 -- Signals of tasks (RKM Libraries, Exec Signals).
-use Rattle.std.specs.Prelude.{⊤, ℕ, ◌-◌, Bool, not, ◌&&◌, if◌then◌else◌, nat_eq, nat_lt, nat_le, bit_and, length, codes, List, Option, None, Some}
+use Rattle.std.specs.Prelude.{ℕ, ◌-◌, Bool, not, ◌&&◌, if◌then◌else◌, nat_eq, nat_lt, nat_le, bit_and, length, codes, List, Option, None, Some, ⊤}
 use Rattle.std.specs.Int.{cast_signed, cast_unsigned, w32}
 use Rattle.execlist.specs.Disciplines.{by_arrival}
 use Rattle.signals.specs.Signals.{grant, grant_number, is_own_signal}

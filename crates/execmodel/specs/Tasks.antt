@@ -1,5 +1,5 @@
 -- How tasks are begun and ended, and their priorities (RKM Libraries, Exec Tasks).
-use Rattle.std.specs.Prelude.{⊤, ℕ, ◌+◌, ◌-◌, ℤ, pos, negsuc, Bool, not, ◌&&◌, ◌||◌, if◌then◌else◌, nat_eq, int_le, codes, List, Option, None, Some}
+use Rattle.std.specs.Prelude.{ℕ, ◌+◌, ◌-◌, ℤ, pos, negsuc, Bool, not, ◌&&◌, ◌||◌, if◌then◌else◌, nat_eq, int_le, codes, List, Option, None, Some, ⊤}
 use Rattle.std.specs.Int.{cast_signed, cast_unsigned, w32}
 use Rattle.execlist.specs.Disciplines.{by_arrival}
 use Rattle.taskq.specs.Tasks.{is_live}
