@@ -217,7 +217,7 @@ unless_by_tells alert short c call effect s tells = refused_tells alert short c 
 
 pub signal_tells : (c : Caller) (call : Call) (s : State) → Tells c call s (does_signal_by c call s)
 signal_tells c call s =
-    unless_by_tells (signal_alert (argument 0 call) (argument 1 call) s.scripts) (search short_codes)
+    unless_by_tells (signal_alert (argument 0 call) (argument 1 call) s.scripts) (search short_codes depth 8)
     c call _ s (done_tells c call s _ refl)
 
 delivered_scripts : (kind port message : ℕ) (s : State) → (delivered kind port message s).scripts ≡ s.scripts
@@ -228,7 +228,7 @@ pub put_tells : (c : Caller) (call : Call) (s : State) → Tells c call s (does_
 unfolding port_rules
 put_tells c call s =
     unless_by_tells (put_alert (argument 0 call) (argument 1 call) s.memory.heap)
-    (search short_codes)
+    (search short_codes depth 8)
     c call _ s (leaving_tells c call _ s _ (done_tells c call s _ (delivered_scripts _ (argument 0 call) (argument 1 call) s)))
 
 taken_tells : (port : ℕ) (message : Option ℕ) (c : Caller) (call : Call) (s : State) → Tells c call s (taken_by port message c call s)
@@ -238,7 +238,7 @@ taken_tells port (Some message) c call s = leaving_tells c call _ s _ (answered_
 pub get_tells : (c : Caller) (call : Call) (s : State) → Tells c call s (does_get_msg_by c call s)
 unfolding port_rules
 get_tells c call s =
-    unless_by_tells (port_alert (argument 0 call) s.memory.heap) (search short_codes) c call _ s
+    unless_by_tells (port_alert (argument 0 call) s.memory.heap) (search short_codes depth 8) c call _ s
     (taken_tells (argument 0 call) (first (messages_of (argument 0 call) s.memory.heap)) c call s)
 
 replied_tells : (reply : ℕ) (c : Caller) (call : Call) (message : ℕ) (s : State) → Tells c call s (replied_by reply c call message s)
@@ -249,7 +249,7 @@ replied_tells reply c call message s =
 pub reply_tells : (c : Caller) (call : Call) (s : State) → Tells c call s (does_reply_msg_by c call s)
 unfolding port_rules
 reply_tells c call s =
-    unless_by_tells (reply_alert (argument 0 call) s.memory.heap) (search short_codes) c call _ s
+    unless_by_tells (reply_alert (argument 0 call) s.memory.heap) (search short_codes depth 8) c call _ s
     (replied_tells (content_of (argument 0 call) s.memory.heap).reply c call (argument 0 call) s)
 
 pub cause_tells : (c : Caller) (call : Call) (s : State) → Tells c call s (does_cause_by c call s)
@@ -311,7 +311,7 @@ waited_tells t call (Some bits) s r same = answered_tells (ByTask t) call bits s
 
 pub counted_tells : (t : ℕ) (call : Call) (nesting : Option Nesting) (s : State) → Tells (ByTask t) call s (gives_nesting t call nesting s)
 counted_tells t call nesting s =
-    refused_tells (nest_alert (is_some nesting)) (search short_codes) (ByTask t) call _ s (on_schedule (nested t nesting) s) refl
+    refused_tells (nest_alert (is_some nesting)) (search short_codes depth 8) (ByTask t) call _ s (on_schedule (nested t nesting) s) refl
     (done_tells (ByTask t) call s _ refl)
 
 left_tells : (semaphore : Option ℕ) (other t : ℕ) (call : Call) (s : State) (o : Outcome) → Tells (ByTask t) call s o

@@ -158,12 +158,12 @@ signals_facts signals.AllocSignal t call s =
     (signals_change (allocates_signal t (cast_signed w32 (argument 0 call))) s (allocates_signal_keeps t (cast_signed w32 (argument 0 call)) s.schedule))
 signals_facts signals.FreeSignal t call s =
     either_facts (nat_eq (argument 0 call) 0xffffffff) _ _ (λ is. concluded_facts None s.memory (λ word. (refl, stays)) refl)
-    (λ is. unless_facts (free_signal_alert (argument 0 call)) (search short_codes) _ refl
+    (λ is. unless_facts (free_signal_alert (argument 0 call)) (search short_codes depth 8) _ refl
     (λ none. facts (done_tells (ByTask t) call s _ refl) (λ word. (refl, stays))
     (λ word. (goes_count t call.next s.scripts, stays_alike (λ p. refl) (freed_alike t (argument 0 call) s.schedule)))
     (signals_change (frees_signal t (argument 0 call)) s (frees_keeps t (argument 0 call) s.schedule))))
 signals_facts signals.SetSignal t call s =
-    unless_facts (mask_alert (argument 1 call)) (search short_codes) _ refl
+    unless_facts (mask_alert (argument 1 call)) (search short_codes depth 8) _ refl
     (λ none. facts (answered_tells (ByTask t) call _ s _ refl) (λ is. (refl, stays))
     (λ is. (answered_count t call.next call.target _ s.scripts, takes_own (λ p. refl) (ap is_own_taking is) (own_signals t _ s.schedule)))
     (signals_change (sets_signals t (argument 0 call) (argument 1 call)) s (sets_keeps t (argument 0 call) (argument 1 call) s.schedule)))
@@ -172,7 +172,7 @@ signals_facts signals.Signal t call s =
     (unless_keeps beside_signals (signal_alert (argument 0 call) (argument 1 call) s.scripts) t call _ s refl
     (signals_change (signalled by_arrival (argument 0 call - 1) (argument 1 call)) s (signalled_keeps (argument 0 call - 1) (argument 1 call) s.schedule)))
 signals_facts signals.Wait t call s =
-    unless_facts (mask_alert (argument 0 call)) (search short_codes) _ refl
+    unless_facts (mask_alert (argument 0 call)) (search short_codes depth 8) _ refl
     (λ none. let mask = argument 0 call in
     let come = come_for mask (signals_of s.schedule t) in
     facts (waited_tells t call come s _ refl) (λ is. waited_makes t call come (after_wait t mask) s)
@@ -200,13 +200,13 @@ unfolding task_rules done answered reprioritized added leaves_for_good
 tasks_facts tasks.SetTaskPri t call s =
     let k = argument 0 call - 1 in
     let pri = cast_signed w32 (argument 1 call) in
-    unless_facts (set_task_pri_alert (argument 0 call) pri s.scripts s.schedule) (search short_codes) _ refl
+    unless_facts (set_task_pri_alert (argument 0 call) pri s.scripts s.schedule) (search short_codes depth 8) _ refl
     (λ none. facts (answered_tells (ByTask t) call _ s _ refl) (λ is. (refl, stays))
     (λ is. reprioritized_shifts t call _ k pri (is_ready (status_of s.schedule k)) s refl)
     (states_and_priorities_change (reprioritized by_arrival k pri) s (reprioritized_keeps k pri s.schedule)))
 tasks_facts tasks.AddTask t call s =
     let k = argument 0 call - 1 in
-    unless_facts (add_task_alert (argument 0 call) s.scripts) (search short_codes) _ refl
+    unless_facts (add_task_alert (argument 0 call) s.scripts) (search short_codes depth 8) _ refl
     (λ none. facts (answered_tells (ByTask t) call _ s _ refl) (λ is. (refl, stays))
     (λ is. added_shifts t call _ (argument 0 call) (is_absent (status_of s.schedule k)) s
     (passed_first (is_task (argument 0 call) s.scripts) _ _ none).0 refl)
@@ -215,7 +215,7 @@ tasks_facts tasks.RemTask t call s =
     either_facts (is_caller t (argument 0 call)) _ _
     (λ is. facts (done_tells (ByTask t) call s _ refl) (λ word. (refl, stays))
     (λ word. (goes_count t call.next s.scripts, leaves (λ p. refl) refl)) refl)
-    (λ is. unless_facts (live_task_alert (argument 0 call) s.scripts s.schedule) (search short_codes) _ refl
+    (λ is. unless_facts (live_task_alert (argument 0 call) s.scripts s.schedule) (search short_codes depth 8) _ refl
     (λ none. let other = argument 0 call - 1 in
     let apart = no_caller t (argument 0 call) is in
     facts (ended_tells other t call s) (λ word. ended_makes t other call s apart)
@@ -239,35 +239,35 @@ unfolding list_rules answered
 lists_facts lists.NewList t call s = performs_facts _ uncoded (λ none. (object_makes t call s is_list list_size (ListHead []) (λ heap. refl)).1)
 lists_facts lists.NewNode t call s =
     let pri = cast_signed w32 (argument 0 call) in
-    performs_facts _ (search short_codes)
+    performs_facts _ (search short_codes depth 8)
     (λ none. (object_makes t call s is_node node_size (Node (record { pri = pri; name = name_argument 1 call })) (λ heap. tt)).1)
 lists_facts lists.FreeList t call s =
-    performs_facts _ (search short_codes)
+    performs_facts _ (search short_codes depth 8)
     (λ none. let there = (passed_first (is_list_at (argument 0 call) s.memory.heap) _ _ none).0 in
     frees (argument 0 call) (list_goes (object_at (argument 0 call) s.memory.heap) there)
     (other_unneeded (argument 0 call) s.memory.heap (list_other (object_at (argument 0 call) s.memory.heap) there)))
 lists_facts lists.FreeNode t call s =
-    performs_facts _ (search short_codes)
+    performs_facts _ (search short_codes depth 8)
     (λ none. let there = (passed_first (is_node_at (argument 0 call) s.memory.heap) _ _ none).0 in
     frees (argument 0 call) (node_goes (object_at (argument 0 call) s.memory.heap) there)
     (other_unneeded (argument 0 call) s.memory.heap (node_other (object_at (argument 0 call) s.memory.heap) there)))
 lists_facts lists.Insert t call s =
     performs_facts _ (search short_codes depth 8)
     (λ none. relists (argument 0 call) _ (passed_first (is_list_at (argument 0 call) s.memory.heap) _ _ none).0)
-lists_facts lists.Remove t call s = performs_facts _ (search short_codes) (λ none. unlinks (argument 0 call))
+lists_facts lists.Remove t call s = performs_facts _ (search short_codes depth 8) (λ none. unlinks (argument 0 call))
 lists_facts lists.RemHead t call s =
-    performs_facts _ (search short_codes)
+    performs_facts _ (search short_codes depth 8)
     (λ none. relists (argument 0 call) _ (passed_first (is_list_at (argument 0 call) s.memory.heap) _ _ none).0)
 lists_facts lists.RemTail t call s =
-    performs_facts _ (search short_codes)
+    performs_facts _ (search short_codes depth 8)
     (λ none. relists (argument 0 call) _ (passed_first (is_list_at (argument 0 call) s.memory.heap) _ _ none).0)
-lists_facts lists.First t call s = performs_facts _ (search short_codes) (λ none. stays)
-lists_facts lists.Last t call s = performs_facts _ (search short_codes) (λ none. stays)
-lists_facts lists.Succ t call s = performs_facts _ (search short_codes) (λ none. stays)
-lists_facts lists.Pred t call s = performs_facts _ (search short_codes) (λ none. stays)
-lists_facts lists.FindName t call s = performs_facts _ (search short_codes) (λ none. stays)
+lists_facts lists.First t call s = performs_facts _ (search short_codes depth 8) (λ none. stays)
+lists_facts lists.Last t call s = performs_facts _ (search short_codes depth 8) (λ none. stays)
+lists_facts lists.Succ t call s = performs_facts _ (search short_codes depth 8) (λ none. stays)
+lists_facts lists.Pred t call s = performs_facts _ (search short_codes depth 8) (λ none. stays)
+lists_facts lists.FindName t call s = performs_facts _ (search short_codes depth 8) (λ none. stays)
 lists_facts _ t call s =
-    performs_facts _ (search short_codes)
+    performs_facts _ (search short_codes depth 8)
     (λ none. relists (argument 0 call) _ (passed_first (is_list_at (argument 0 call) s.memory.heap) _ _ none).0)
 
 pub memory_facts : (word : MemoryWord) (t : ℕ) (call : Call) (s : State)
@@ -277,15 +277,15 @@ memory_facts memory.AllocMem t call s =
     let size = argument 0 call in
     let reqs = argument 1 call in
     let asked = on_memory (after_asking size reqs) s in
-    performs_facts _ (search short_codes)
+    performs_facts _ (search short_codes depth 8)
     (λ none. (taking_makes t call s _ (after_asking_taking size reqs s _
     (allocates_taking t call asked size reqs Plain (place_for size reqs asked.memory) tt (λ address e. e)))).1)
 memory_facts memory.FreeMem t call s =
-    performs_facts _ (search short_codes)
+    performs_facts _ (search short_codes depth 8)
     (λ none. let named = (passed_first _ _ _ none).0 in
     frees (argument 0 call) (plain_goes (argument 1 call) (block_at (argument 0 call) s.memory.heap) named)
     (other_unneeded (argument 0 call) s.memory.heap (plain_other (argument 1 call) (block_at (argument 0 call) s.memory.heap) named)))
-memory_facts memory.AvailMem t call s = performs_facts _ (search short_codes) (λ none. stays)
+memory_facts memory.AvailMem t call s = performs_facts _ (search short_codes depth 8) (λ none. stays)
 
 -- ---- ports
 
@@ -310,30 +310,30 @@ ports_facts ports.DeleteMsgPort t call s =
     (port_signals_change (frees_signal _ _) s (frees_keeps found.task found.bit s.schedule))))
 ports_facts ports.AddPort t call s =
     let pri = cast_signed w32 (argument 2 call) in
-    unless_facts (add_port_alert (argument 0 call) pri s.memory) (search short_codes) _ refl
+    unless_facts (add_port_alert (argument 0 call) pri s.memory) (search short_codes depth 8) _ refl
     (λ none. concluded_facts None _ (λ is. (refl, stays)) refl)
 ports_facts ports.RemPort t call s =
-    unless_facts (rem_port_alert (argument 0 call) s.memory) (search short_codes) _ refl
+    unless_facts (rem_port_alert (argument 0 call) s.memory) (search short_codes depth 8) _ refl
     (λ none. concluded_facts None _ (λ is. (refl, stays)) refl)
 ports_facts ports.FindPort t call s = concluded_facts (Some _) s.memory (λ is. (refl, stays)) refl
 ports_facts ports.NewMsg t call s =
-    unless_facts (reply_port_alert (argument 0 call) s.memory.heap) (search short_codes) _ refl
+    unless_facts (reply_port_alert (argument 0 call) s.memory.heap) (search short_codes depth 8) _ refl
     (λ none. made_facts is_message message_size _ (λ is. object_makes t call s is_message message_size _ (λ heap. tt))
     (λ value memory keeps. port_blocks_change (λ m. memory) s keeps))
 ports_facts ports.FreeMsg t call s =
     let message = argument 0 call in
-    unless_facts (loose_alert message s.memory.heap) (search short_codes) _ refl
+    unless_facts (loose_alert message s.memory.heap) (search short_codes depth 8) _ refl
     (λ none. concluded_facts None _
     (λ is. (refl, frees message (frees_message message s.memory.heap none) (unneeded_message message s.memory.heap none))) refl)
 ports_facts ports.SetMsgWord t call s =
     let message = argument 0 call in
-    unless_facts (message_alert message s.memory.heap) (search short_codes) _ refl
+    unless_facts (message_alert message s.memory.heap) (search short_codes depth 8) _ refl
     (λ none. concluded_facts None _ (λ is. (refl, touches (gives message _ s.memory.heap (is_message_there message s.memory.heap none)))) refl)
 ports_facts ports.MsgWord t call s =
-    unless_facts (message_alert (argument 0 call) s.memory.heap) (search short_codes) _ refl
+    unless_facts (message_alert (argument 0 call) s.memory.heap) (search short_codes depth 8) _ refl
     (λ none. concluded_facts (Some _) s.memory (λ is. (refl, stays)) refl)
 ports_facts ports.MsgType t call s =
-    unless_facts (message_alert (argument 0 call) s.memory.heap) (search short_codes) _ refl
+    unless_facts (message_alert (argument 0 call) s.memory.heap) (search short_codes depth 8) _ refl
     (λ none. concluded_facts (Some _) s.memory (λ is. (refl, stays)) refl)
 ports_facts ports.PutMsg t call s =
     altered_facts (does_put_msg t call s) (put_alters (ByTask t) call s) (put_tells (ByTask t) call s)
@@ -347,13 +347,13 @@ ports_facts ports.ReplyMsg t call s =
     (unless_keeps beside_ports (reply_alert (argument 0 call) s.memory.heap) t call _ s refl
     (replied_keeps (content_of (argument 0 call) s.memory.heap).reply t call (argument 0 call) s))
 ports_facts ports.WaitPort t call s =
-    unless_facts (wait_alert t (argument 0 call) s.memory.heap) (search short_codes) _ refl
+    unless_facts (wait_alert t (argument 0 call) s.memory.heap) (search short_codes depth 8) _ refl
     (λ none. let message = first (messages_of (argument 0 call) s.memory.heap) in
     facts (looked_tells message _ t call s _ refl) (λ is. looked_makes message _ t call (loses t call.awaited) s)
     (λ is. looked_shifts message _ t call s (ap is_own_taking is))
     (looked_keeps message _ t call s _ (port_signals_change (loses t call.awaited) s (sets_keeps t 0 call.awaited s.schedule))))
 ports_facts _ t call s =
-    unless_facts (port_alert (argument 0 call) s.memory.heap) (search short_codes) _ refl
+    unless_facts (port_alert (argument 0 call) s.memory.heap) (search short_codes depth 8) _ refl
     (λ none. concluded_facts None _ (λ is. (refl, sets _ (argument 0 call) (is_port_there (argument 0 call) s.memory.heap none))) refl)
 
 -- ---- semaphores
@@ -367,27 +367,27 @@ semaphores_facts semaphores.NewSem t call s =
     (λ value memory keeps. ap (λ (memory : Memory). record (beside_semaphores s) { memory = memory }) keeps)
 semaphores_facts semaphores.FreeSem t call s =
     let semaphore = argument 0 call in
-    unless_facts (free_sem_alert semaphore s.memory.heap) (search short_codes) _ refl
+    unless_facts (free_sem_alert semaphore s.memory.heap) (search short_codes depth 8) _ refl
     (λ none. concluded_facts None _
     (λ is. (refl, frees semaphore (frees_semaphore semaphore s.memory.heap none) (unneeded_semaphore semaphore s.memory.heap none))) refl)
 semaphores_facts semaphores.ObtainSemaphore t call s =
     let semaphore = argument 0 call in
     let sem = sem_of semaphore s.memory.heap in
     either_facts (is_tried_again t s.scripts) _ _ (λ is. concluded_facts None s.memory (λ word. (refl, stays)) refl)
-    (λ is. unless_facts (obtain_alert t semaphore s.memory.heap) (search short_codes) _ refl
+    (λ is. unless_facts (obtain_alert t semaphore s.memory.heap) (search short_codes depth 8) _ refl
     (λ none. facts (obtains_tells (outcome_for t sem) semaphore t call s _ refl)
     (λ word. obtaining (is_open t sem) semaphore t call s (is_semaphore_there t semaphore s.memory.heap none) refl)
     (λ word. obtains_shift (outcome_for t sem) semaphore t call s _) (obtains_keeps (outcome_for t sem) semaphore t call s _ refl)))
 semaphores_facts semaphores.AttemptSemaphore t call s =
     let semaphore = argument 0 call in
-    unless_facts (obtain_alert t semaphore s.memory.heap) (search short_codes) _ refl
+    unless_facts (obtain_alert t semaphore s.memory.heap) (search short_codes depth 8) _ refl
     (λ none. concluded_facts (Some _) _
     (λ is. attempting (is_open t (sem_of semaphore s.memory.heap)) semaphore t call
     (if is_open t (sem_of semaphore s.memory.heap) then 1 else 0) s (is_semaphore_there t semaphore s.memory.heap none) refl) refl)
 semaphores_facts semaphores.ReleaseSemaphore t call s =
     let semaphore = argument 0 call in
     let owner = heir semaphore s.memory.heap in
-    unless_facts (release_alert t semaphore s.memory.heap) (search short_codes) _ refl
+    unless_facts (release_alert t semaphore s.memory.heap) (search short_codes depth 8) _ refl
     (λ none. facts (passes_tells owner semaphore t call s _ refl)
     (λ word. releasing (is_last (sem_of semaphore s.memory.heap)) semaphore t call s
     (record { word = word; names = refl; owns = is_owned_there t semaphore s.memory.heap none }) (is_released_there t semaphore s.memory.heap none) refl)
@@ -417,19 +417,19 @@ libraries_facts libraries.CloseLibrary t call s =
     let base = argument 0 call in
     let goes = nat_eq (count_of base s.memory.heap) 1 && is_delayed base s.memory.heap in
     either_facts (nat_eq base 0) _ _ (λ is. concluded_facts None s.memory (λ word. (refl, stays)) refl)
-    (λ is. unless_facts (close_alert base s.memory.heap) (search short_codes) _ refl
+    (λ is. unless_facts (close_alert base s.memory.heap) (search short_codes depth 8) _ refl
     (λ none. concluded_facts None _
     (λ word. closed_makes goes base t call s word refl (passed_first (is_library_at base s.memory.heap) _ _ none).0 refl)
     (blocks_change (closed base) s (either_memory goes _ _ s.memory refl refl))))
 libraries_facts libraries.RemLibrary t call s =
     let base = argument 0 call in
-    unless_facts (library_alert base s.memory.heap) (search short_codes) _ refl
+    unless_facts (library_alert base s.memory.heap) (search short_codes depth 8) _ refl
     (λ none. concluded_facts None _
     (λ word. removed_makes (nat_eq (count_of base s.memory.heap) 0) base t call s word refl
     (is_library_there (is_library_at base s.memory.heap) _ none) refl)
     (blocks_change (library_removed base) s (removed_keeps base s.memory)))
 libraries_facts libraries.LibOpenCnt t call s =
-    unless_facts (library_alert (argument 0 call) s.memory.heap) (search short_codes) _ refl
+    unless_facts (library_alert (argument 0 call) s.memory.heap) (search short_codes depth 8) _ refl
     (λ none. concluded_facts (Some _) s.memory (λ is. (refl, stays)) refl)
 
 -- ---- requests
@@ -466,7 +466,7 @@ unfolding request_rules port_rules done answered
 requests_facts requests.CreateIORequest t call s =
     let port = argument 0 call in
     either_facts (nat_eq port 0) _ _ (λ is. concluded_facts (Some 0) s.memory (λ word. (by_moves (refl, stays) refl, inl refl)) refl)
-    (λ is. asking_facts (port_alert port s.memory.heap) (search short_codes) _
+    (λ is. asking_facts (port_alert port s.memory.heap) (search short_codes depth 8) _
     (λ none. let asked = after_asking_for_object is_request request_size s.memory in
     let object = Request (idle_request port) in
     made_facts is_request request_size object
@@ -479,22 +479,22 @@ requests_facts requests.CreateIORequest t call s =
 requests_facts requests.DeleteIORequest t call s =
     let request = argument 0 call in
     either_facts (nat_eq request 0) _ _ (λ is. concluded_facts None s.memory (λ word. (by_moves (refl, stays) refl, inl refl)) refl)
-    (λ is. asking_facts (delete_request_alert request s.memory.heap) (search short_codes) _
+    (λ is. asking_facts (delete_request_alert request s.memory.heap) (search short_codes depth 8) _
     (λ none. concluded_facts None _
     (λ word. let goes = goes_there request s.memory.heap none in (by_moves (refl, frees request goes.0 goes.1) refl, inl refl)) refl))
 requests_facts requests.OpenDevice t call s =
     let request = argument 2 call in
-    asking_facts (resting_alert request s.memory.heap) (search short_codes) _
+    asking_facts (resting_alert request s.memory.heap) (search short_codes depth 8) _
     (λ none. let there = is_resting_there request s.memory.heap none in
     concluded_facts (Some _) _ (λ is. (by_asking refl (writes request _ _ (resting_rewritten request _ s there.0 refl there.1 there.1)), inl refl)) refl)
 requests_facts requests.CloseDevice t call s =
     let request = argument 0 call in
-    asking_facts (resting_alert request s.memory.heap) (search short_codes) _
+    asking_facts (resting_alert request s.memory.heap) (search short_codes depth 8) _
     (λ none. let there = is_resting_there request s.memory.heap none in
     concluded_facts None _ (λ is. (by_asking refl (writes request _ _ (resting_rewritten request _ s there.0 refl there.1 there.1)), inl refl)) refl)
 requests_facts requests.SetIO t call s =
     let request = argument 0 call in
-    asking_facts (set_io_alert (argument 1 call) request s.memory.heap) (search short_codes) _
+    asking_facts (set_io_alert (argument 1 call) request s.memory.heap) (search short_codes depth 8) _
     (λ none. let there = is_settable_there (argument 1 call) request s.memory.heap none in
     concluded_facts None _ (λ is. (by_asking refl (writes request _ _ (resting_rewritten request _ s there.0 refl there.1 there.1)), inl refl)) refl)
 requests_facts requests.DoIO t call s =
@@ -524,12 +524,12 @@ requests_facts requests.WaitIO t call s = wait_io_facts t call s refl
 requests_facts requests.AbortIO t call s =
     let request = argument 0 call in
     let test = is_under_way (request_of request s.memory.heap) in
-    asking_facts (request_alert request s.memory.heap) (search short_codes) _
+    asking_facts (request_alert request s.memory.heap) (search short_codes depth 8) _
     (λ none. facts (aborts_tells test request t call s) (λ is. (aborts_works test t call request s refl, inl (aborts_same test request t call s)))
     (λ is. aborts_shift test request t call s)
     (aborts_keeps test request t call s))
 requests_facts _ t call s =
-    asking_facts (request_alert (argument 0 call) s.memory.heap) (search short_codes) _
+    asking_facts (request_alert (argument 0 call) s.memory.heap) (search short_codes depth 8) _
     (λ none. concluded_facts (Some _) s.memory (λ is. (by_moves (refl, stays) refl, inl refl)) refl)
 
 -- ---- the words of a group change their part of the state alone
