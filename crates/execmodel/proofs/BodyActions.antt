@@ -1,6 +1,6 @@
 -- What the body of an interrupt leaves as it is, and what it prints.
 use Rattle.std.proofs.Common.{◌≡◌, ℕ, zero, suc, ℤ, pos, Bool, true, false, List, [], ◌∷◌, ◌++◌, Option, None, Some, refl, ap, ◌∙◌}
-use Rattle.std.specs.Prelude.{◌-◌, if◌then◌else◌, length, All}
+use Rattle.std.specs.Prelude.{if◌then◌else◌, length, All}
 use Rattle.exectrace.specs.Trace.{TraceLine, Call as CallLine, Server, Softint, Alert, Timer}
 use Rattle.execlist.specs.Order.{first}
 use Rattle.forbid.specs.Nesting.{Nesting}

@@ -23,14 +23,12 @@ use Rattle.sigsem.specs.declared.semaphore.Obtained.TheVariants.{Owner, Waits}
 use Rattle.execmodel.specs.State.{quiet, Call, Heap, Object, Library, Timer, Memory, Pending, Program, Scripts, State, Outcome, no_program, says, andthen, on_schedule, on_scripts, on_memory, on_timer}
 use Rattle.execmodel.specs.Pending.{arrived, is_caused, causes}
 use Rattle.execmodel.specs.Libraries.{base_of, library_at, library_opened, entered_or_loaded}
-use Rattle.execmodel.specs.GivingWay.{after_asking_for_object}
 use Rattle.scheduler.specs.Dispatch.{arrives, added, reprioritized, signalled}
 use Rattle.execmodel.specs.Calls.{keeps as keeps_call, stored, goes_on, done, answered, waiting, silent, alerted, unless}
 use Rattle.execmodel.specs.Signals.{waited}
 use Rattle.execmodel.specs.Nesting.{gives_nesting}
 use Rattle.execmodel.specs.Tasks.{ends_other}
-use Rattle.execmodel.specs.Objects.{place_for_object}
-use Rattle.execmodel.specs.Memory.{allocates, makes_object, placed, place_for}
+use Rattle.execmodel.specs.Memory.{placed, place_for}
 use Rattle.execmodel.specs.Deeds.{concluded}
 use Rattle.execmodel.specs.Ports.{port_created, replied, delivered, performed, taken, looked}
 use Rattle.execmodel.specs.Semaphores.{awaited_by, leaving_queue, obtains, passes}

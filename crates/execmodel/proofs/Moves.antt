@@ -15,12 +15,11 @@ use Rattle.msgport.specs.declared.action.PortAction.{PortAction}
 use Rattle.sigsem.specs.declared.semaphore.Obtained.TheVariants.{Owner, Waits}
 use Rattle.sigsem.specs.Semaphores.{is_open, is_last, is_owned, is_owner}
 use Rattle.taskscript.specs.declared.word.Word.TheVariants as group
-use Rattle.taskscript.specs.declared.word.memory.MemoryWord.TheVariants as memory
 use Rattle.taskscript.specs.declared.word.semaphores.SemaphoreWord.TheVariants as semaphores
 use Rattle.taskscript.specs.declared.word.libraries.LibraryWord.TheVariants as libraries
 use Rattle.iorequest.specs.Request.{is_under_way}
 use Rattle.execmodel.specs.State.{Call, Object, Plain, ListHead, Node, MsgPort, Message, Semaphore, Library, Request, Block, Heap, Memory, Mark, asked, passed, left, State, Outcome, on_schedule, on_memory, on_heap}
-use Rattle.execmodel.specs.Calls.{argument, done, answered, waiting, silent, alerted}
+use Rattle.execmodel.specs.Calls.{argument, done, answered, waiting, alerted}
 use Rattle.execmodel.specs.Signals.{waited}
 use Rattle.execmodel.specs.Nesting.{gives_nesting}
 use Rattle.execmodel.specs.Tasks.{is_caller, ends_other}

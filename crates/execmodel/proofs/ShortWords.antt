@@ -1,39 +1,28 @@
 -- No text of a word is longer than a name may be.
-use Rattle.std.proofs.Common.{◌≤◌, lit≤, length}
+use Rattle.std.proofs.Common.{◌≡◌, ◌≤◌, Bool, true, false, cond, List, [], ◌∷◌, Option, Some, refl, subst, length, nat_le}
+use Rattle.std.specs.Prelude.{find, IfSome, bytes_eq}
+use Rattle.std.specs.List.{list_all}
+use Rattle.std.proofs.lemmas.Bool.{and_parts, leb-true}
 use Rattle.taskscript.specs.declared.word.Word.{Word}
-use Rattle.taskscript.specs.declared.word.Word.TheVariants.{Plain, Signals, Nesting, Tasks, Lists, Memory, Ports, Semaphores, Interrupts, Libraries, Requests}
-use Rattle.taskscript.specs.declared.word.plain.PlainWord.TheVariants.{Set}
-use Rattle.taskscript.specs.declared.word.task_signals.SignalWord.TheVariants.{AllocSignal}
-use Rattle.taskscript.specs.declared.word.nesting.NestingWord.TheVariants.{Forbid}
-use Rattle.taskscript.specs.declared.word.tasks.TaskWord.TheVariants.{SetTaskPri}
-use Rattle.taskscript.specs.declared.word.lists.ListWord.TheVariants.{NewList}
-use Rattle.taskscript.specs.declared.word.memory.MemoryWord.TheVariants.{AllocMem}
-use Rattle.taskscript.specs.declared.word.ports.PortWord.TheVariants.{CreateMsgPort}
-use Rattle.taskscript.specs.declared.word.semaphores.SemaphoreWord.TheVariants.{NewSem}
-use Rattle.taskscript.specs.declared.word.interrupts.InterruptWord.TheVariants.{Cause}
-use Rattle.taskscript.specs.declared.word.libraries.LibraryWord.TheVariants.{OpenLibrary}
-use Rattle.taskscript.specs.declared.word.requests.RequestWord.TheVariants.{CreateIORequest}
-use Rattle.taskscript.specs.Words.{word_text}
+use Rattle.taskscript.specs.Words.{all_words, word_text}
+use Rattle.taskscript.specs.WordTable.{word_known}
+
+-- one that is found among those that all pass a test passes it too
+found_passes : {A : Type 0} (found passes : A → Bool) (xs : List A) → list_all passes xs ≡ true → IfSome (find found xs) (λ x. passes x ≡ true)
+found_passes found passes [] all = tt
+found_passes {A} found passes (x ∷ xs) all =
+    let parts = and_parts (passes x) _ all in
+    by_case (found x) parts.0 (found_passes found passes xs parts.1) where
+      by_case : (is : Bool) → passes x ≡ true → IfSome (find found xs) (λ y. passes y ≡ true)
+          → IfSome (cond is (Some x) (find found xs)) (λ y. passes y ≡ true)
+      by_case true here there = here
+      by_case false here there = there
+
+abbrev is_short : Word → Bool
+is_short word = nat_le (length (word_text word)) 31
 
 pub word_short : (w : Word) → length (word_text w) ≤ 31
-word_short (Plain Set) = lit≤ tt
-word_short (Plain _) = lit≤ tt
-word_short (Signals AllocSignal) = lit≤ tt
-word_short (Signals _) = lit≤ tt
-word_short (Nesting Forbid) = lit≤ tt
-word_short (Nesting _) = lit≤ tt
-word_short (Tasks SetTaskPri) = lit≤ tt
-word_short (Tasks _) = lit≤ tt
-word_short (Lists NewList) = lit≤ tt
-word_short (Lists _) = lit≤ tt
-word_short (Memory AllocMem) = lit≤ tt
-word_short (Memory _) = lit≤ tt
-word_short (Ports CreateMsgPort) = lit≤ tt
-word_short (Ports _) = lit≤ tt
-word_short (Semaphores NewSem) = lit≤ tt
-word_short (Semaphores _) = lit≤ tt
-word_short (Interrupts Cause) = lit≤ tt
-word_short (Libraries OpenLibrary) = lit≤ tt
-word_short (Libraries _) = lit≤ tt
-word_short (Requests CreateIORequest) = lit≤ tt
-word_short (Requests _) = lit≤ tt
+word_short w =
+    leb-true (length (word_text w)) 31
+    (subst (λ (o : Option Word). IfSome o (λ word. is_short word ≡ true)) (word_known w)
+    (found_passes (λ word. bytes_eq (word_text word) (word_text w)) is_short all_words refl))

@@ -1,6 +1,6 @@
 -- What a word prints, and what it makes of the programs: its own line or its alert, and its caller's progress.
 use Rattle.std.proofs.Common.{[], ◌≡◌, ℕ, Bool, true, false, List, Option, None, Some, refl, zero, suc, ◌∷◌, sym, subst, ap, ◌∙◌}
-use Rattle.std.specs.Prelude.{◌-◌, if◌then◌else◌, nat_eq, All, IfSome, slice_index_or, slice_set, is_some}
+use Rattle.std.specs.Prelude.{if◌then◌else◌, nat_eq, All, IfSome, slice_index_or, slice_set, is_some}
 use Rattle.execmodel.specs.State.{Call, State, Outcome, quiet, on_schedule, Program, Scripts, Mark, leaving, no_program}
 use Rattle.execmodel.specs.Calls.{argument, done, answered, waiting, silent, alerted, ByBody, unless_by, alerted_by, Caller, ByTask, stored, stored_shared, goes_on, done_by, answered_by, silent_by, call_in_body}
 use Rattle.execmodel.specs.Causing.{does_cause_by}
@@ -21,7 +21,7 @@ use Rattle.execmodel.specs.Plain.{jumps}
 use Rattle.execmodel.specs.Signals.{signal_alert, waited, does_signal_by}
 use Rattle.execmodel.specs.Nesting.{gives_nesting, nest_alert}
 use Rattle.execmodel.specs.Tasks.{ends_other}
-use Rattle.execmodel.specs.Ports.{port_created, port_alert, messages_of, content_of, put_alert, reply_alert, looked, delivered, taken_by, replied_by, does_put_msg_by, does_get_msg_by, does_reply_msg_by}
+use Rattle.execmodel.specs.Ports.{port_created, port_alert, messages_of, content_of, put_alert, reply_alert, looked, delivered, taken_by, replied_by, does_put_msg_by, does_get_msg_by, does_reply_msg_by, port_rules}
 use Rattle.execmodel.specs.Semaphores.{awaited_by, leaving_queue, obtains, passes}
 use Rattle.exectrace.specs.Trace.{TraceLine, Done, Answers, Alert}
 use Rattle.exectrace.specs.Trace as trace
@@ -34,11 +34,10 @@ use Rattle.taskscript.specs.Words.{word_text}
 use Rattle.execmodel.proofs.Commands.{performed_scripts, IsAltered, rested, done_alters, silent_alters, signal_alters, put_alters, get_alters, reply_alters, cause_alters}
 use Rattle.execmodel.proofs.ShortLines.{IsShortText}
 use Rattle.execmodel.proofs.ShortCalls.{IsBrief, HasArguments}
-use Rattle.execmodel.proofs.ShortAlerts.{signal_short, nest_short, port_short, put_short, reply_short, IsShortAlert, coded}
+use Rattle.execmodel.proofs.ShortAlerts.{IsShortAlert, coded, short_codes}
 use Rattle.taskscript.specs.declared.word.Word.TheVariants as group
 use Rattle.taskscript.specs.declared.word.plain.PlainWord.TheVariants as plain
 use Rattle.taskscript.specs.declared.word.task_signals.SignalWord.TheVariants as signals
-use Rattle.taskscript.specs.declared.word.memory.MemoryWord.TheVariants as memory
 use Rattle.taskscript.specs.declared.word.ports.PortWord.TheVariants as ports
 use Rattle.taskscript.specs.declared.word.interrupts.InterruptWord.TheVariants as causing
 use Rattle.execmodel.specs.Keeping.{without_progress_of}
@@ -218,8 +217,7 @@ unless_by_tells alert short c call effect s tells = refused_tells alert short c 
 
 pub signal_tells : (c : Caller) (call : Call) (s : State) → Tells c call s (does_signal_by c call s)
 signal_tells c call s =
-    unless_by_tells (signal_alert (argument 0 call) (argument 1 call) s.scripts)
-    (signal_short (argument 0 call) (argument 1 call) s.scripts)
+    unless_by_tells (signal_alert (argument 0 call) (argument 1 call) s.scripts) (search short_codes depth 8)
     c call _ s (done_tells c call s _ refl)
 
 delivered_scripts : (kind port message : ℕ) (s : State) → (delivered kind port message s).scripts ≡ s.scripts
@@ -227,9 +225,10 @@ unfolding delivered
 delivered_scripts kind port message s = performed_scripts _ _
 
 pub put_tells : (c : Caller) (call : Call) (s : State) → Tells c call s (does_put_msg_by c call s)
+unfolding port_rules
 put_tells c call s =
     unless_by_tells (put_alert (argument 0 call) (argument 1 call) s.memory.heap)
-    (put_short (argument 0 call) (argument 1 call) s.memory.heap)
+    (search short_codes depth 8)
     c call _ s (leaving_tells c call _ s _ (done_tells c call s _ (delivered_scripts _ (argument 0 call) (argument 1 call) s)))
 
 taken_tells : (port : ℕ) (message : Option ℕ) (c : Caller) (call : Call) (s : State) → Tells c call s (taken_by port message c call s)
@@ -237,8 +236,9 @@ taken_tells port None c call s = answered_tells c call 0 s s refl
 taken_tells port (Some message) c call s = leaving_tells c call _ s _ (answered_tells c call message s _ refl)
 
 pub get_tells : (c : Caller) (call : Call) (s : State) → Tells c call s (does_get_msg_by c call s)
+unfolding port_rules
 get_tells c call s =
-    unless_by_tells (port_alert (argument 0 call) s.memory.heap) (port_short (argument 0 call) s.memory.heap) c call _ s
+    unless_by_tells (port_alert (argument 0 call) s.memory.heap) (search short_codes depth 8) c call _ s
     (taken_tells (argument 0 call) (first (messages_of (argument 0 call) s.memory.heap)) c call s)
 
 replied_tells : (reply : ℕ) (c : Caller) (call : Call) (message : ℕ) (s : State) → Tells c call s (replied_by reply c call message s)
@@ -247,8 +247,9 @@ replied_tells reply c call message s =
     (leaving_tells c call _ s _ (done_tells c call s _ (delivered_scripts _ reply message s)))
 
 pub reply_tells : (c : Caller) (call : Call) (s : State) → Tells c call s (does_reply_msg_by c call s)
+unfolding port_rules
 reply_tells c call s =
-    unless_by_tells (reply_alert (argument 0 call) s.memory.heap) (reply_short (argument 0 call) s.memory.heap) c call _ s
+    unless_by_tells (reply_alert (argument 0 call) s.memory.heap) (search short_codes depth 8) c call _ s
     (replied_tells (content_of (argument 0 call) s.memory.heap).reply c call (argument 0 call) s)
 
 pub cause_tells : (c : Caller) (call : Call) (s : State) → Tells c call s (does_cause_by c call s)
@@ -310,7 +311,7 @@ waited_tells t call (Some bits) s r same = answered_tells (ByTask t) call bits s
 
 pub counted_tells : (t : ℕ) (call : Call) (nesting : Option Nesting) (s : State) → Tells (ByTask t) call s (gives_nesting t call nesting s)
 counted_tells t call nesting s =
-    refused_tells (nest_alert (is_some nesting)) (nest_short (is_some nesting)) (ByTask t) call _ s (on_schedule (nested t nesting) s) refl
+    refused_tells (nest_alert (is_some nesting)) (search short_codes depth 8) (ByTask t) call _ s (on_schedule (nested t nesting) s) refl
     (done_tells (ByTask t) call s _ refl)
 
 left_tells : (semaphore : Option ℕ) (other t : ℕ) (call : Call) (s : State) (o : Outcome) → Tells (ByTask t) call s o

@@ -30,19 +30,19 @@ use Rattle.execmodel.specs.Deeds.{Deed, concluded, performs}
 use Rattle.execmodel.specs.GivingWay.{after_asking, after_asking_for_object}
 use Rattle.execmodel.specs.Keeping.{and_progress_of, without_progress_of, beside_interrupts, beside_memory, beside_nestings, beside_plain, beside_ports, beside_requests, beside_semaphores, beside_signals, beside_tasks, clock_alone, without_blocks, PlainWordsChangeScripts, SignalWordsChangeSignalsAndStates, NestingWordsChangeNestings, TaskWordsChangeStatesPrioritiesAndObjects, ListWordsChangeTheMemory, MemoryWordsChangeTheMemory, PortWordsChangePortsSignalsAndStates, SemaphoreWordsChangeStatesAndObjects, InterruptWordsChangeWhatIsCaused, LibraryWordsChangeTheMemory, RequestWordsChangeRequestsPortsSignalsAndStates}
 use Rattle.execmodel.specs.Laws.{is_own_taking}
-use Rattle.execmodel.specs.Libraries.{opening, close_alert, closed, count_of, does_close_library, does_lib_open_cnt, does_libraries, does_open_library, does_rem_library, is_delayed, is_library_at, library_alert, removed as library_removed, library_to_open, opened, ready_to_open}
-use Rattle.execmodel.specs.Lists.{added_head, added_tail, does_lists, enqueued, free_list_alert, free_node_alert, insert_alert, inserted, is_list, is_list_at, is_node, is_node_at, link_alert, list_alert, list_deed, list_size, node_size, removed_head, removed_tail}
+use Rattle.execmodel.specs.Libraries.{opening, close_alert, closed, count_of, does_libraries, is_delayed, is_library_at, library_alert, removed as library_removed, library_to_open, opened, ready_to_open, library_rules}
+use Rattle.execmodel.specs.Lists.{does_lists, is_list, is_list_at, is_node, is_node_at, list_size, node_size, list_rules}
 use Rattle.execmodel.specs.Memory.{block_at, does_memory, makes_object, memory_deed, place_for}
-use Rattle.execmodel.specs.Nesting.{does_disable, does_enable, does_forbid, does_nesting, does_permit, gives_nesting}
+use Rattle.execmodel.specs.Nesting.{does_nesting, gives_nesting, nesting_rules}
 use Rattle.execmodel.specs.Objects.{object_at, place_for_object}
 use Rattle.execmodel.specs.Pending.{causes, softint_named}
-use Rattle.execmodel.specs.Plain.{does_add, does_and, does_jump, does_jump_not_zero, does_jump_zero, does_or, does_plain, does_print, does_set, does_sub, jumps}
-use Rattle.execmodel.specs.Ports.{add_port_alert, after_asking_for_port, content_of, delete_alert, delivered, does_add_port, does_create_msg_port, does_delete_msg_port, does_find_port, does_free_msg, does_get_msg, does_msg_type, does_msg_word, does_new_msg, does_port_cause, does_port_ignore, does_port_signal, does_ports, does_put_msg, does_rem_port, does_reply_msg, does_set_msg_word, does_wait_port, is_message, is_port, loose_alert, loses, made_private, made_public, message_alert, message_size, messages_of, performed, port_alert, port_of, port_size, put_alert, rem_port_alert, reply_alert, reply_port_alert, wait_alert, with_word}
-use Rattle.execmodel.specs.Requests.{finishes, begins_and_looks, acting_at, begun_at, closed_device, delete_request_alert, do_alert, does_abort_io, does_check_io, does_close_device, does_create_io_request, does_delete_io_request, does_do_io, does_io_error, does_io_flags, does_io_micros, does_io_secs, does_open_device, does_requests, does_send_io, does_set_io, does_wait_io, is_request, is_request_at, opened_for, replying_port, request_alert, request_of, request_size, resting_alert, send_alert, set_io_alert, wait_io_alert, with_command}
-use Rattle.execmodel.specs.Semaphores.{attempted, awaited_by, does_attempt_semaphore, does_free_sem, does_new_sem, does_obtain_semaphore, does_release_semaphore, does_semaphores, free_sem_alert, heir, is_semaphore, is_tried_again, obtain_alert, obtained, passes, release_alert, released, sem_of, semaphore_size}
-use Rattle.execmodel.specs.Signals.{does_alloc_signal, does_free_signal, does_set_signal, does_signal, does_signals, does_wait, free_signal_alert, is_task, mask_alert, signal_alert}
-use Rattle.execmodel.specs.State.{Scripts, Timer, Call, ListHead, Memory, Node, Object, Outcome, Pending, Plain, Request, Semaphore, State, asked, on_memory, on_schedule, says, andthen}
-use Rattle.execmodel.specs.Tasks.{add_task_alert, does_add_task, does_find_task, does_rem_task, does_set_task_pri, does_tasks, is_caller, live_task_alert, set_task_pri_alert}
+use Rattle.execmodel.specs.Plain.{does_plain, plain_rules}
+use Rattle.execmodel.specs.Ports.{add_port_alert, after_asking_for_port, content_of, delete_alert, does_get_msg, does_ports, does_put_msg, does_reply_msg, is_message, is_port, loose_alert, loses, message_alert, message_size, messages_of, performed, port_alert, port_of, port_size, put_alert, rem_port_alert, reply_alert, reply_port_alert, wait_alert, port_rules}
+use Rattle.execmodel.specs.Requests.{finishes, begins_and_looks, acting_at, begun_at, delete_request_alert, do_alert, does_requests, does_wait_io, is_request, is_request_at, replying_port, request_alert, request_of, request_size, resting_alert, send_alert, set_io_alert, wait_io_alert, request_rules}
+use Rattle.execmodel.specs.Semaphores.{awaited_by, does_semaphores, free_sem_alert, heir, is_semaphore, is_tried_again, obtain_alert, passes, release_alert, sem_of, semaphore_size, semaphore_rules}
+use Rattle.execmodel.specs.Signals.{does_signal, does_signals, free_signal_alert, is_task, mask_alert, signal_alert, signal_rules}
+use Rattle.execmodel.specs.State.{Scripts, Timer, Call, ListHead, Memory, Node, Object, Outcome, Pending, Plain, Request, Semaphore, State, on_memory, on_schedule, says, andthen}
+use Rattle.execmodel.specs.Tasks.{add_task_alert, does_tasks, is_caller, live_task_alert, set_task_pri_alert, task_rules}
 use Rattle.execmodel.proofs.Asking.{writes}
 use Rattle.execmodel.proofs.Commands.{IsAltered, answered_count, cause_alters, get_alters, gives, goes_count, is_message_there, is_port_there, passed_first, performed_scripts, put_alters, reply_alters, same, signal_alters}
 use Rattle.execmodel.proofs.Deeds.{placed_same}
@@ -51,7 +51,7 @@ use Rattle.execmodel.proofs.Keeping.{finish_keeps, finish_scripts, aborts_keeps,
 use Rattle.execmodel.proofs.Moves.{Makes, Moves, allocates_taking, any_makes, attempting, closed_makes, concluded_makes, counted_makes, deletes, ended_makes, frees, frees_message, frees_semaphore, is_library_there, is_owned_there, is_released_there, is_semaphore_there, list_goes, list_other, looked_makes, no_caller, node_goes, node_other, object_makes, obtaining, opened_makes, other_unneeded, plain_goes, plain_other, port_makes, releasing, relists, removed_makes, sets, stays, taking_makes, touches, unlinks, unneeded_message, unneeded_port, unneeded_semaphore, waited_makes}
 use Rattle.execmodel.proofs.Setting.{Leaves, aborts_same, begun_leaves, looks_same, sends_leaves}
 use Rattle.execmodel.proofs.Shifts.{Shifted, aborts_shift, added_shifts, answered_stays, any_shifts, counted_shifts, created_shifts, done_stays, freed_alike, jumps_stays, leaves, left_shifts, looked_shifts, looks_shift, obtains_shift, own as own_schedule, own_signals, passes_shift, reprioritized_shifts, sends_shift, silent_stays, stays as stays_alike, takes as takes_own, waited_shifts}
-use Rattle.execmodel.proofs.ShortAlerts.{IsShortAlert, add_port_short, add_task_short, alloc_short, avail_short, close_short, coded, delete_request_short, delete_short, do_short, find_short, free_list_short, free_node_short, free_sem_short, free_short, free_signal_short, insert_short, library_short, link_short, linked_short, list_short, live_task_short, loose_short, mask_short, message_short, new_node_short, obtain_short, port_short, release_short, rem_port_short, reply_port_short, request_short, resting_short, send_short, set_io_short, set_task_pri_short, uncoded, wait_io_short, wait_short}
+use Rattle.execmodel.proofs.ShortAlerts.{IsShortAlert, coded, short_codes, state_short, uncoded}
 use Rattle.execmodel.proofs.Taking.{after_asking_taking}
 use Rattle.execmodel.proofs.Telling.{Tells, aborts_tells, alerted_tells, answered_tells, cause_tells, counted_tells, created_tells, done_tells, ended_tells, get_tells, jumps_tells, looked_tells, looks_tells, obtains_tells, passes_tells, put_tells, reply_tells, replying_tells, signal_tells, silent_tells, waited_tells}
 use Rattle.execmodel.proofs.Works.{Works, aborts_works, begins_works, by_asking, by_moves, created_works, goes_there, is_resting_there, is_settable_there, may_do, may_send, resting_rewritten, sends_works, waits_works}
@@ -138,7 +138,7 @@ made_facts {Blocks} {rest} {word} {t} {call} {s} kind size object blocks only =
 
 pub plain_facts : (word : PlainWord) (t : ℕ) (call : Call) (s : State)
     → Facts (Makes t call s) (beside_plain t) (group.Plain word) t call s (does_plain word t call s)
-unfolding does_set does_add does_sub does_and does_or does_jump does_jump_zero does_jump_not_zero does_print jumps done silent
+unfolding plain_rules done silent
 plain_facts plain.Jump t call s = facts (jumps_tells t call _ s) (λ is. (refl, stays)) (λ is. jumps_stays t call _ s) (goes_keeps t _ s)
 plain_facts plain.JumpZ t call s = facts (jumps_tells t call _ s) (λ is. (refl, stays)) (λ is. jumps_stays t call _ s) (goes_keeps t _ s)
 plain_facts plain.JumpNZ t call s = facts (jumps_tells t call _ s) (λ is. (refl, stays)) (λ is. jumps_stays t call _ s) (goes_keeps t _ s)
@@ -151,19 +151,19 @@ plain_facts _ t call s =
 
 pub signals_facts : (word : SignalWord) (t : ℕ) (call : Call) (s : State)
     → Facts (Makes t call s) beside_signals (group.Signals word) t call s (does_signals word t call s)
-unfolding does_alloc_signal does_free_signal does_set_signal does_signal does_wait done answered allocates_signal sets_signals
+unfolding signal_rules done answered allocates_signal sets_signals
 signals_facts signals.AllocSignal t call s =
     facts (answered_tells (ByTask t) call _ s _ refl) (λ is. (refl, stays))
     (λ is. (answered_count t call.next call.target _ s.scripts, takes_own (λ p. refl) (ap is_own_taking is) (own_signals t _ s.schedule)))
     (signals_change (allocates_signal t (cast_signed w32 (argument 0 call))) s (allocates_signal_keeps t (cast_signed w32 (argument 0 call)) s.schedule))
 signals_facts signals.FreeSignal t call s =
     either_facts (nat_eq (argument 0 call) 0xffffffff) _ _ (λ is. concluded_facts None s.memory (λ word. (refl, stays)) refl)
-    (λ is. unless_facts (free_signal_alert (argument 0 call)) (free_signal_short (argument 0 call)) _ refl
+    (λ is. unless_facts (free_signal_alert (argument 0 call)) (search short_codes depth 8) _ refl
     (λ none. facts (done_tells (ByTask t) call s _ refl) (λ word. (refl, stays))
     (λ word. (goes_count t call.next s.scripts, stays_alike (λ p. refl) (freed_alike t (argument 0 call) s.schedule)))
     (signals_change (frees_signal t (argument 0 call)) s (frees_keeps t (argument 0 call) s.schedule))))
 signals_facts signals.SetSignal t call s =
-    unless_facts (mask_alert (argument 1 call)) (mask_short (argument 1 call)) _ refl
+    unless_facts (mask_alert (argument 1 call)) (search short_codes depth 8) _ refl
     (λ none. facts (answered_tells (ByTask t) call _ s _ refl) (λ is. (refl, stays))
     (λ is. (answered_count t call.next call.target _ s.scripts, takes_own (λ p. refl) (ap is_own_taking is) (own_signals t _ s.schedule)))
     (signals_change (sets_signals t (argument 0 call) (argument 1 call)) s (sets_keeps t (argument 0 call) (argument 1 call) s.schedule)))
@@ -172,7 +172,7 @@ signals_facts signals.Signal t call s =
     (unless_keeps beside_signals (signal_alert (argument 0 call) (argument 1 call) s.scripts) t call _ s refl
     (signals_change (signalled by_arrival (argument 0 call - 1) (argument 1 call)) s (signalled_keeps (argument 0 call - 1) (argument 1 call) s.schedule)))
 signals_facts signals.Wait t call s =
-    unless_facts (mask_alert (argument 0 call)) (mask_short (argument 0 call)) _ refl
+    unless_facts (mask_alert (argument 0 call)) (search short_codes depth 8) _ refl
     (λ none. let mask = argument 0 call in
     let come = come_for mask (signals_of s.schedule t) in
     facts (waited_tells t call come s _ refl) (λ is. waited_makes t call come (after_wait t mask) s)
@@ -186,7 +186,7 @@ nested_facts t call nesting s =
 
 pub nesting_facts : (word : NestingWord) (t : ℕ) (call : Call) (s : State)
     → Facts (Makes t call s) beside_nestings (group.Nesting word) t call s (does_nesting word t call s)
-unfolding does_forbid does_permit does_disable does_enable
+unfolding nesting_rules
 nesting_facts nesting.Forbid t call s = nested_facts t call (after_forbid (nesting_of s.schedule t)) s
 nesting_facts nesting.Permit t call s = nested_facts t call (after_permit (nesting_of s.schedule t)) s
 nesting_facts nesting.Disable t call s = nested_facts t call (after_disable (nesting_of s.schedule t)) s
@@ -196,17 +196,17 @@ nesting_facts nesting.Enable t call s = nested_facts t call (after_enable (nesti
 
 pub tasks_facts : (word : TaskWord) (t : ℕ) (call : Call) (s : State)
     → Facts (Makes t call s) beside_tasks (group.Tasks word) t call s (does_tasks word t call s)
-unfolding does_set_task_pri does_add_task does_rem_task does_find_task done answered reprioritized added leaves_for_good
+unfolding task_rules done answered reprioritized added leaves_for_good
 tasks_facts tasks.SetTaskPri t call s =
     let k = argument 0 call - 1 in
     let pri = cast_signed w32 (argument 1 call) in
-    unless_facts (set_task_pri_alert (argument 0 call) pri s.scripts s.schedule) (set_task_pri_short (argument 0 call) pri s.scripts s.schedule) _ refl
+    unless_facts (set_task_pri_alert (argument 0 call) pri s.scripts s.schedule) (search short_codes depth 8) _ refl
     (λ none. facts (answered_tells (ByTask t) call _ s _ refl) (λ is. (refl, stays))
     (λ is. reprioritized_shifts t call _ k pri (is_ready (status_of s.schedule k)) s refl)
     (states_and_priorities_change (reprioritized by_arrival k pri) s (reprioritized_keeps k pri s.schedule)))
 tasks_facts tasks.AddTask t call s =
     let k = argument 0 call - 1 in
-    unless_facts (add_task_alert (argument 0 call) s.scripts) (add_task_short (argument 0 call) s.scripts) _ refl
+    unless_facts (add_task_alert (argument 0 call) s.scripts) (search short_codes depth 8) _ refl
     (λ none. facts (answered_tells (ByTask t) call _ s _ refl) (λ is. (refl, stays))
     (λ is. added_shifts t call _ (argument 0 call) (is_absent (status_of s.schedule k)) s
     (passed_first (is_task (argument 0 call) s.scripts) _ _ none).0 refl)
@@ -215,7 +215,7 @@ tasks_facts tasks.RemTask t call s =
     either_facts (is_caller t (argument 0 call)) _ _
     (λ is. facts (done_tells (ByTask t) call s _ refl) (λ word. (refl, stays))
     (λ word. (goes_count t call.next s.scripts, leaves (λ p. refl) refl)) refl)
-    (λ is. unless_facts (live_task_alert (argument 0 call) s.scripts s.schedule) (live_task_short (argument 0 call) s.scripts s.schedule) _ refl
+    (λ is. unless_facts (live_task_alert (argument 0 call) s.scripts s.schedule) (search short_codes depth 8) _ refl
     (λ none. let other = argument 0 call - 1 in
     let apart = no_caller t (argument 0 call) is in
     facts (ended_tells other t call s) (λ word. ended_makes t other call s apart)
@@ -235,39 +235,39 @@ performs_facts deed short moves =
 
 pub lists_facts : (word : ListWord) (t : ℕ) (call : Call) (s : State)
     → Facts (Makes t call s) beside_memory (group.Lists word) t call s (does_lists word t call s)
-unfolding list_deed is_list_at is_node_at free_list_alert free_node_alert link_alert insert_alert list_alert added_head added_tail enqueued inserted removed_head removed_tail answered
+unfolding list_rules answered
 lists_facts lists.NewList t call s = performs_facts _ uncoded (λ none. (object_makes t call s is_list list_size (ListHead []) (λ heap. refl)).1)
 lists_facts lists.NewNode t call s =
     let pri = cast_signed w32 (argument 0 call) in
-    performs_facts _ (new_node_short pri)
+    performs_facts _ (search short_codes depth 8)
     (λ none. (object_makes t call s is_node node_size (Node (record { pri = pri; name = name_argument 1 call })) (λ heap. tt)).1)
 lists_facts lists.FreeList t call s =
-    performs_facts _ (free_list_short _ s.memory.heap)
+    performs_facts _ (search short_codes depth 8)
     (λ none. let there = (passed_first (is_list_at (argument 0 call) s.memory.heap) _ _ none).0 in
     frees (argument 0 call) (list_goes (object_at (argument 0 call) s.memory.heap) there)
     (other_unneeded (argument 0 call) s.memory.heap (list_other (object_at (argument 0 call) s.memory.heap) there)))
 lists_facts lists.FreeNode t call s =
-    performs_facts _ (free_node_short _ s.memory.heap)
+    performs_facts _ (search short_codes depth 8)
     (λ none. let there = (passed_first (is_node_at (argument 0 call) s.memory.heap) _ _ none).0 in
     frees (argument 0 call) (node_goes (object_at (argument 0 call) s.memory.heap) there)
     (other_unneeded (argument 0 call) s.memory.heap (node_other (object_at (argument 0 call) s.memory.heap) there)))
 lists_facts lists.Insert t call s =
-    performs_facts _ (insert_short _ _ _ s.memory.heap)
+    performs_facts _ (search short_codes depth 8)
     (λ none. relists (argument 0 call) _ (passed_first (is_list_at (argument 0 call) s.memory.heap) _ _ none).0)
-lists_facts lists.Remove t call s = performs_facts _ (linked_short _ s.memory.heap) (λ none. unlinks (argument 0 call))
+lists_facts lists.Remove t call s = performs_facts _ (search short_codes depth 8) (λ none. unlinks (argument 0 call))
 lists_facts lists.RemHead t call s =
-    performs_facts _ (list_short _ s.memory.heap)
+    performs_facts _ (search short_codes depth 8)
     (λ none. relists (argument 0 call) _ (passed_first (is_list_at (argument 0 call) s.memory.heap) _ _ none).0)
 lists_facts lists.RemTail t call s =
-    performs_facts _ (list_short _ s.memory.heap)
+    performs_facts _ (search short_codes depth 8)
     (λ none. relists (argument 0 call) _ (passed_first (is_list_at (argument 0 call) s.memory.heap) _ _ none).0)
-lists_facts lists.First t call s = performs_facts _ (list_short _ s.memory.heap) (λ none. stays)
-lists_facts lists.Last t call s = performs_facts _ (list_short _ s.memory.heap) (λ none. stays)
-lists_facts lists.Succ t call s = performs_facts _ (linked_short _ s.memory.heap) (λ none. stays)
-lists_facts lists.Pred t call s = performs_facts _ (linked_short _ s.memory.heap) (λ none. stays)
-lists_facts lists.FindName t call s = performs_facts _ (find_short _ s.memory.heap) (λ none. stays)
+lists_facts lists.First t call s = performs_facts _ (search short_codes depth 8) (λ none. stays)
+lists_facts lists.Last t call s = performs_facts _ (search short_codes depth 8) (λ none. stays)
+lists_facts lists.Succ t call s = performs_facts _ (search short_codes depth 8) (λ none. stays)
+lists_facts lists.Pred t call s = performs_facts _ (search short_codes depth 8) (λ none. stays)
+lists_facts lists.FindName t call s = performs_facts _ (search short_codes depth 8) (λ none. stays)
 lists_facts _ t call s =
-    performs_facts _ (link_short _ _ s.memory.heap)
+    performs_facts _ (search short_codes depth 8)
     (λ none. relists (argument 0 call) _ (passed_first (is_list_at (argument 0 call) s.memory.heap) _ _ none).0)
 
 pub memory_facts : (word : MemoryWord) (t : ℕ) (call : Call) (s : State)
@@ -277,21 +277,21 @@ memory_facts memory.AllocMem t call s =
     let size = argument 0 call in
     let reqs = argument 1 call in
     let asked = on_memory (after_asking size reqs) s in
-    performs_facts _ (alloc_short reqs)
+    performs_facts _ (search short_codes depth 8)
     (λ none. (taking_makes t call s _ (after_asking_taking size reqs s _
     (allocates_taking t call asked size reqs Plain (place_for size reqs asked.memory) tt (λ address e. e)))).1)
 memory_facts memory.FreeMem t call s =
-    performs_facts _ (free_short _ _ s.memory.heap)
+    performs_facts _ (search short_codes depth 8)
     (λ none. let named = (passed_first _ _ _ none).0 in
     frees (argument 0 call) (plain_goes (argument 1 call) (block_at (argument 0 call) s.memory.heap) named)
     (other_unneeded (argument 0 call) s.memory.heap (plain_other (argument 1 call) (block_at (argument 0 call) s.memory.heap) named)))
-memory_facts memory.AvailMem t call s = performs_facts _ (avail_short (argument 0 call)) (λ none. stays)
+memory_facts memory.AvailMem t call s = performs_facts _ (search short_codes depth 8) (λ none. stays)
 
 -- ---- ports
 
 pub ports_facts : (word : PortWord) (t : ℕ) (call : Call) (s : State)
     → Facts (Makes t call s) beside_ports (group.Ports word) t call s (does_ports word t call s)
-unfolding does_create_msg_port does_delete_msg_port does_add_port does_rem_port does_find_port does_port_signal does_port_cause does_port_ignore does_new_msg does_free_msg does_msg_word does_set_msg_word does_msg_type does_put_msg does_get_msg does_wait_port does_reply_msg made_public made_private with_word delivered done answered
+unfolding port_rules done answered
 ports_facts ports.CreateMsgPort t call s =
     let bit = grant (negsuc 0) (signals_of s.schedule t) in
     let ready = on_memory (after_asking_for_port bit) s in
@@ -303,37 +303,37 @@ ports_facts ports.DeleteMsgPort t call s =
     let port = argument 0 call in
     let found = port_of port s.memory.heap in
     either_facts (nat_eq port 0) _ _ (λ is. concluded_facts None s.memory (λ word. (refl, stays)) refl)
-    (λ is. unless_facts (delete_alert port s.memory) (delete_short port s.memory) _ refl
+    (λ is. unless_facts (delete_alert port s.memory) (search short_codes depth 8) _ refl
     (λ none. facts (done_tells (ByTask t) call s _ refl)
     (λ word. (refl, frees port (deletes port s.memory none) (unneeded_port port s.memory none)))
     (λ word. (goes_count t call.next s.scripts, stays_alike (λ p. refl) (freed_alike found.task found.bit s.schedule)))
     (port_signals_change (frees_signal _ _) s (frees_keeps found.task found.bit s.schedule))))
 ports_facts ports.AddPort t call s =
     let pri = cast_signed w32 (argument 2 call) in
-    unless_facts (add_port_alert (argument 0 call) pri s.memory) (add_port_short (argument 0 call) pri s.memory) _ refl
+    unless_facts (add_port_alert (argument 0 call) pri s.memory) (search short_codes depth 8) _ refl
     (λ none. concluded_facts None _ (λ is. (refl, stays)) refl)
 ports_facts ports.RemPort t call s =
-    unless_facts (rem_port_alert (argument 0 call) s.memory) (rem_port_short (argument 0 call) s.memory) _ refl
+    unless_facts (rem_port_alert (argument 0 call) s.memory) (search short_codes depth 8) _ refl
     (λ none. concluded_facts None _ (λ is. (refl, stays)) refl)
 ports_facts ports.FindPort t call s = concluded_facts (Some _) s.memory (λ is. (refl, stays)) refl
 ports_facts ports.NewMsg t call s =
-    unless_facts (reply_port_alert (argument 0 call) s.memory.heap) (reply_port_short (argument 0 call) s.memory.heap) _ refl
+    unless_facts (reply_port_alert (argument 0 call) s.memory.heap) (search short_codes depth 8) _ refl
     (λ none. made_facts is_message message_size _ (λ is. object_makes t call s is_message message_size _ (λ heap. tt))
     (λ value memory keeps. port_blocks_change (λ m. memory) s keeps))
 ports_facts ports.FreeMsg t call s =
     let message = argument 0 call in
-    unless_facts (loose_alert message s.memory.heap) (loose_short message s.memory.heap) _ refl
+    unless_facts (loose_alert message s.memory.heap) (search short_codes depth 8) _ refl
     (λ none. concluded_facts None _
     (λ is. (refl, frees message (frees_message message s.memory.heap none) (unneeded_message message s.memory.heap none))) refl)
 ports_facts ports.SetMsgWord t call s =
     let message = argument 0 call in
-    unless_facts (message_alert message s.memory.heap) (message_short message s.memory.heap) _ refl
+    unless_facts (message_alert message s.memory.heap) (search short_codes depth 8) _ refl
     (λ none. concluded_facts None _ (λ is. (refl, touches (gives message _ s.memory.heap (is_message_there message s.memory.heap none)))) refl)
 ports_facts ports.MsgWord t call s =
-    unless_facts (message_alert (argument 0 call) s.memory.heap) (message_short (argument 0 call) s.memory.heap) _ refl
+    unless_facts (message_alert (argument 0 call) s.memory.heap) (search short_codes depth 8) _ refl
     (λ none. concluded_facts (Some _) s.memory (λ is. (refl, stays)) refl)
 ports_facts ports.MsgType t call s =
-    unless_facts (message_alert (argument 0 call) s.memory.heap) (message_short (argument 0 call) s.memory.heap) _ refl
+    unless_facts (message_alert (argument 0 call) s.memory.heap) (search short_codes depth 8) _ refl
     (λ none. concluded_facts (Some _) s.memory (λ is. (refl, stays)) refl)
 ports_facts ports.PutMsg t call s =
     altered_facts (does_put_msg t call s) (put_alters (ByTask t) call s) (put_tells (ByTask t) call s)
@@ -347,47 +347,47 @@ ports_facts ports.ReplyMsg t call s =
     (unless_keeps beside_ports (reply_alert (argument 0 call) s.memory.heap) t call _ s refl
     (replied_keeps (content_of (argument 0 call) s.memory.heap).reply t call (argument 0 call) s))
 ports_facts ports.WaitPort t call s =
-    unless_facts (wait_alert t (argument 0 call) s.memory.heap) (wait_short t (argument 0 call) s.memory.heap) _ refl
+    unless_facts (wait_alert t (argument 0 call) s.memory.heap) (search short_codes depth 8) _ refl
     (λ none. let message = first (messages_of (argument 0 call) s.memory.heap) in
     facts (looked_tells message _ t call s _ refl) (λ is. looked_makes message _ t call (loses t call.awaited) s)
     (λ is. looked_shifts message _ t call s (ap is_own_taking is))
     (looked_keeps message _ t call s _ (port_signals_change (loses t call.awaited) s (sets_keeps t 0 call.awaited s.schedule))))
 ports_facts _ t call s =
-    unless_facts (port_alert (argument 0 call) s.memory.heap) (port_short (argument 0 call) s.memory.heap) _ refl
+    unless_facts (port_alert (argument 0 call) s.memory.heap) (search short_codes depth 8) _ refl
     (λ none. concluded_facts None _ (λ is. (refl, sets _ (argument 0 call) (is_port_there (argument 0 call) s.memory.heap none))) refl)
 
 -- ---- semaphores
 
 pub semaphores_facts : (word : SemaphoreWord) (t : ℕ) (call : Call) (s : State)
     → Facts (Makes t call s) beside_semaphores (group.Semaphores word) t call s (does_semaphores word t call s)
-unfolding does_new_sem does_free_sem does_obtain_semaphore does_attempt_semaphore does_release_semaphore obtained attempted released heir done answered
+unfolding semaphore_rules done answered
 semaphores_facts semaphores.NewSem t call s =
     made_facts is_semaphore semaphore_size (Semaphore free_sem [])
     (λ is. object_makes t call s is_semaphore semaphore_size (Semaphore free_sem []) (λ heap. (refl, refl)))
     (λ value memory keeps. ap (λ (memory : Memory). record (beside_semaphores s) { memory = memory }) keeps)
 semaphores_facts semaphores.FreeSem t call s =
     let semaphore = argument 0 call in
-    unless_facts (free_sem_alert semaphore s.memory.heap) (free_sem_short semaphore s.memory.heap) _ refl
+    unless_facts (free_sem_alert semaphore s.memory.heap) (search short_codes depth 8) _ refl
     (λ none. concluded_facts None _
     (λ is. (refl, frees semaphore (frees_semaphore semaphore s.memory.heap none) (unneeded_semaphore semaphore s.memory.heap none))) refl)
 semaphores_facts semaphores.ObtainSemaphore t call s =
     let semaphore = argument 0 call in
     let sem = sem_of semaphore s.memory.heap in
     either_facts (is_tried_again t s.scripts) _ _ (λ is. concluded_facts None s.memory (λ word. (refl, stays)) refl)
-    (λ is. unless_facts (obtain_alert t semaphore s.memory.heap) (obtain_short t semaphore s.memory.heap) _ refl
+    (λ is. unless_facts (obtain_alert t semaphore s.memory.heap) (search short_codes depth 8) _ refl
     (λ none. facts (obtains_tells (outcome_for t sem) semaphore t call s _ refl)
     (λ word. obtaining (is_open t sem) semaphore t call s (is_semaphore_there t semaphore s.memory.heap none) refl)
     (λ word. obtains_shift (outcome_for t sem) semaphore t call s _) (obtains_keeps (outcome_for t sem) semaphore t call s _ refl)))
 semaphores_facts semaphores.AttemptSemaphore t call s =
     let semaphore = argument 0 call in
-    unless_facts (obtain_alert t semaphore s.memory.heap) (obtain_short t semaphore s.memory.heap) _ refl
+    unless_facts (obtain_alert t semaphore s.memory.heap) (search short_codes depth 8) _ refl
     (λ none. concluded_facts (Some _) _
     (λ is. attempting (is_open t (sem_of semaphore s.memory.heap)) semaphore t call
     (if is_open t (sem_of semaphore s.memory.heap) then 1 else 0) s (is_semaphore_there t semaphore s.memory.heap none) refl) refl)
 semaphores_facts semaphores.ReleaseSemaphore t call s =
     let semaphore = argument 0 call in
     let owner = heir semaphore s.memory.heap in
-    unless_facts (release_alert t semaphore s.memory.heap) (release_short t semaphore s.memory.heap) _ refl
+    unless_facts (release_alert t semaphore s.memory.heap) (search short_codes depth 8) _ refl
     (λ none. facts (passes_tells owner semaphore t call s _ refl)
     (λ word. releasing (is_last (sem_of semaphore s.memory.heap)) semaphore t call s
     (record { word = word; names = refl; owns = is_owned_there t semaphore s.memory.heap none }) (is_released_there t semaphore s.memory.heap none) refl)
@@ -407,7 +407,7 @@ interrupts_facts interrupts.Cause t call s =
 
 pub libraries_facts : (word : LibraryWord) (t : ℕ) (call : Call) (s : State)
     → Facts (Makes t call s) beside_memory (group.Libraries word) t call s (does_libraries word t call s)
-unfolding does_open_library does_close_library does_rem_library does_lib_open_cnt opened closed library_removed library_alert close_alert done answered
+unfolding library_rules done answered
 libraries_facts libraries.OpenLibrary t call s =
     let name = unwrap_or (name_argument 0 call) [] in
     let found = library_to_open name (argument 1 call) s.memory in
@@ -417,19 +417,19 @@ libraries_facts libraries.CloseLibrary t call s =
     let base = argument 0 call in
     let goes = nat_eq (count_of base s.memory.heap) 1 && is_delayed base s.memory.heap in
     either_facts (nat_eq base 0) _ _ (λ is. concluded_facts None s.memory (λ word. (refl, stays)) refl)
-    (λ is. unless_facts (close_alert base s.memory.heap) (close_short base s.memory.heap) _ refl
+    (λ is. unless_facts (close_alert base s.memory.heap) (search short_codes depth 8) _ refl
     (λ none. concluded_facts None _
     (λ word. closed_makes goes base t call s word refl (passed_first (is_library_at base s.memory.heap) _ _ none).0 refl)
     (blocks_change (closed base) s (either_memory goes _ _ s.memory refl refl))))
 libraries_facts libraries.RemLibrary t call s =
     let base = argument 0 call in
-    unless_facts (library_alert base s.memory.heap) (library_short base s.memory.heap) _ refl
+    unless_facts (library_alert base s.memory.heap) (search short_codes depth 8) _ refl
     (λ none. concluded_facts None _
     (λ word. removed_makes (nat_eq (count_of base s.memory.heap) 0) base t call s word refl
     (is_library_there (is_library_at base s.memory.heap) _ none) refl)
     (blocks_change (library_removed base) s (removed_keeps base s.memory)))
 libraries_facts libraries.LibOpenCnt t call s =
-    unless_facts (library_alert (argument 0 call) s.memory.heap) (library_short (argument 0 call) s.memory.heap) _ refl
+    unless_facts (library_alert (argument 0 call) s.memory.heap) (search short_codes depth 8) _ refl
     (λ none. concluded_facts (Some _) s.memory (λ is. (refl, stays)) refl)
 
 -- ---- requests
@@ -446,11 +446,11 @@ asking_facts alert short effect passes = refused_or alert short effect refl (λ 
 
 wait_io_facts : {word : RequestWord} (t : ℕ) (call : Call) (s : State) → is_own_taking (group.Requests word) ≡ true
     → Facts (Asked word t call s) beside_requests (group.Requests word) t call s (does_wait_io t call s)
-unfolding does_wait_io wait_io_alert sets_signals
+unfolding request_rules sets_signals
 wait_io_facts t call s taking =
     let request = argument 0 call in
     let how = (request_of request s.memory.heap).state in
-    asking_facts (wait_io_alert t request s.memory.heap) (wait_io_short t request s.memory.heap) _
+    asking_facts (wait_io_alert t request s.memory.heap) (search (short_codes, state_short)) _
     (λ none. let there = passed_first (is_request_at request s.memory.heap) _ _ none in
     facts (looks_tells how request t call s _ refl)
     (λ is. (
@@ -462,11 +462,11 @@ wait_io_facts t call s taking =
 
 pub requests_facts : (word : RequestWord) (t : ℕ) (call : Call) (s : State)
     → Facts (Asked word t call s) beside_requests (group.Requests word) t call s (does_requests word t call s)
-unfolding does_create_io_request does_delete_io_request does_open_device does_close_device does_set_io does_do_io does_send_io does_check_io does_abort_io does_io_secs does_io_micros does_io_error does_io_flags opened_for closed_device with_command done answered
+unfolding request_rules port_rules done answered
 requests_facts requests.CreateIORequest t call s =
     let port = argument 0 call in
     either_facts (nat_eq port 0) _ _ (λ is. concluded_facts (Some 0) s.memory (λ word. (by_moves (refl, stays) refl, inl refl)) refl)
-    (λ is. asking_facts (port_alert port s.memory.heap) (port_short port s.memory.heap) _
+    (λ is. asking_facts (port_alert port s.memory.heap) (search short_codes depth 8) _
     (λ none. let asked = after_asking_for_object is_request request_size s.memory in
     let object = Request (idle_request port) in
     made_facts is_request request_size object
@@ -479,22 +479,22 @@ requests_facts requests.CreateIORequest t call s =
 requests_facts requests.DeleteIORequest t call s =
     let request = argument 0 call in
     either_facts (nat_eq request 0) _ _ (λ is. concluded_facts None s.memory (λ word. (by_moves (refl, stays) refl, inl refl)) refl)
-    (λ is. asking_facts (delete_request_alert request s.memory.heap) (delete_request_short request s.memory.heap) _
+    (λ is. asking_facts (delete_request_alert request s.memory.heap) (search short_codes depth 8) _
     (λ none. concluded_facts None _
     (λ word. let goes = goes_there request s.memory.heap none in (by_moves (refl, frees request goes.0 goes.1) refl, inl refl)) refl))
 requests_facts requests.OpenDevice t call s =
     let request = argument 2 call in
-    asking_facts (resting_alert request s.memory.heap) (resting_short request s.memory.heap) _
+    asking_facts (resting_alert request s.memory.heap) (search short_codes depth 8) _
     (λ none. let there = is_resting_there request s.memory.heap none in
     concluded_facts (Some _) _ (λ is. (by_asking refl (writes request _ _ (resting_rewritten request _ s there.0 refl there.1 there.1)), inl refl)) refl)
 requests_facts requests.CloseDevice t call s =
     let request = argument 0 call in
-    asking_facts (resting_alert request s.memory.heap) (resting_short request s.memory.heap) _
+    asking_facts (resting_alert request s.memory.heap) (search short_codes depth 8) _
     (λ none. let there = is_resting_there request s.memory.heap none in
     concluded_facts None _ (λ is. (by_asking refl (writes request _ _ (resting_rewritten request _ s there.0 refl there.1 there.1)), inl refl)) refl)
 requests_facts requests.SetIO t call s =
     let request = argument 0 call in
-    asking_facts (set_io_alert (argument 1 call) request s.memory.heap) (set_io_short (argument 1 call) request s.memory.heap) _
+    asking_facts (set_io_alert (argument 1 call) request s.memory.heap) (search short_codes depth 8) _
     (λ none. let there = is_settable_there (argument 1 call) request s.memory.heap none in
     concluded_facts None _ (λ is. (by_asking refl (writes request _ _ (resting_rewritten request _ s there.0 refl there.1 there.1)), inl refl)) refl)
 requests_facts requests.DoIO t call s =
@@ -502,7 +502,7 @@ requests_facts requests.DoIO t call s =
     let next = on_memory (begun_at true request) s in
     let how = (request_of request next.memory.heap).state in
     either_facts (is_tried_again t s.scripts) _ _ (λ is. wait_io_facts t call s refl)
-    (λ is. asking_facts (do_alert t request s.memory.heap) (do_short t request s.memory.heap) _
+    (λ is. asking_facts (do_alert t request s.memory.heap) (search short_codes depth 8) _
     (λ none. facts (looks_tells how request t call s next refl)
     (λ word. (
       begins_works t call request s (may_do t request s.memory.heap none),
@@ -515,7 +515,7 @@ requests_facts requests.SendIO t call s =
     let port = replying_port false request s.memory in
     let act = acting_at port s.memory.heap in
     let next = on_memory (begun_at false request) s in
-    asking_facts (send_alert request s.memory.heap) (send_short request s.memory.heap) _
+    asking_facts (send_alert request s.memory.heap) (search short_codes depth 8) _
     (λ none. facts (replying_tells port request t call s _ (done_tells (ByTask t) call s _ (performed_scripts _ _)))
     (λ is. (sends_works t call request s (may_send request s.memory.heap none), sends_leaves request t call port act s))
     (λ is. sends_shift port request t call act s (begun_at false request s.memory))
@@ -524,12 +524,12 @@ requests_facts requests.WaitIO t call s = wait_io_facts t call s refl
 requests_facts requests.AbortIO t call s =
     let request = argument 0 call in
     let test = is_under_way (request_of request s.memory.heap) in
-    asking_facts (request_alert request s.memory.heap) (request_short request s.memory.heap) _
+    asking_facts (request_alert request s.memory.heap) (search short_codes depth 8) _
     (λ none. facts (aborts_tells test request t call s) (λ is. (aborts_works test t call request s refl, inl (aborts_same test request t call s)))
     (λ is. aborts_shift test request t call s)
     (aborts_keeps test request t call s))
 requests_facts _ t call s =
-    asking_facts (request_alert (argument 0 call) s.memory.heap) (request_short (argument 0 call) s.memory.heap) _
+    asking_facts (request_alert (argument 0 call) s.memory.heap) (search short_codes depth 8) _
     (λ none. concluded_facts (Some _) s.memory (λ is. (by_moves (refl, stays) refl, inl refl)) refl)
 
 -- ---- the words of a group change their part of the state alone

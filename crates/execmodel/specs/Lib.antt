@@ -23,7 +23,6 @@ pub mod Interrupts
 pub mod Step
 pub mod Keeping
 pub mod Runs
-pub mod RulesBesideLaws
 pub mod Queues
 pub mod Marks
 pub mod Agreement

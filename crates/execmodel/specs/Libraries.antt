@@ -1,6 +1,6 @@
 -- Libraries (RKM Libraries, Exec Libraries). A library is absent, or it is loaded and begins at an address, its base. A base that no loaded
 -- library has is the alert HANDLE; a library that is closed more often than opened is the alert LIB (project rule).
-use Rattle.std.specs.Prelude.{ℕ, ◌+◌, ◌-◌, Bool, false, not, ◌&&◌, if◌then◌else◌, nat_eq, nat_le, bytes_eq, unwrap_or, slice_index_or, codes, List, [], Option, None, Some}
+use Rattle.std.specs.Prelude.{ℕ, ◌+◌, ◌-◌, Bool, false, not, ◌&&◌, if◌then◌else◌, nat_eq, nat_le, bytes_eq, unwrap_or, slice_index_or, codes, List, [], Option, None, Some, ⊤}
 use Rattle.std.specs.List.{position_from}
 use Rattle.std.specs.Option.{option_and_then, option_map_or}
 use Rattle.taskscript.specs.File.{LibraryData}
@@ -140,3 +140,8 @@ does_libraries word.OpenLibrary t call s = does_open_library t call s
 does_libraries word.CloseLibrary t call s = does_close_library t call s
 does_libraries word.RemLibrary t call s = does_rem_library t call s
 does_libraries word.LibOpenCnt t call s = does_lib_open_cnt t call s
+
+-- the rules of this group, where all of them are to unfold
+unfoldable pub library_rules : ⊤
+unfolding base_of close_alert closed count_of does_close_library does_lib_open_cnt does_open_library does_rem_library is_delayed is_library_at library_alert number_of opened opening ready_to_open removed with_library
+library_rules = tt

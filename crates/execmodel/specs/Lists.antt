@@ -1,7 +1,7 @@
 -- Lists of nodes (RKM Libraries, Exec Lists and Queues). A list is the sequence of its nodes, by their addresses; no node is in two
 -- lists, nor twice in one. An address if no object of the kind begins is the alert HANDLE; a node that is linked if it must not
 -- be, or the other way, is the alert LINK (project rule).
-use Rattle.std.specs.Prelude.{ℕ, zero, suc, ℤ, Bool, true, false, not, ◌-◌, ◌==◌, if◌then◌else◌, nat_eq, is_some, length, map, take, drop, find, unwrap_or, codes, List, [], ◌∷◌, ◌++◌, Option, None, Some}
+use Rattle.std.specs.Prelude.{ℕ, zero, suc, ℤ, Bool, true, false, not, ◌-◌, ◌==◌, if◌then◌else◌, nat_eq, is_some, length, map, take, drop, find, unwrap_or, codes, List, [], ◌∷◌, ◌++◌, Option, None, Some, ⊤}
 use Rattle.std.specs.List.{list_any}
 use Rattle.std.specs.Int.{cast_signed, w32}
 use Rattle.execlist.specs.Order.{enqueue, first, without}
@@ -274,3 +274,8 @@ list_deed word.FindName call = reads (find_alert (argument 0 call)) (found_node 
 -- a word on lists of a task
 abbrev pub does_lists : ListWord → ℕ → Call → State → Outcome
 does_lists word t call s = performs (list_deed word call) t call s
+
+-- the rules of this group, where all of them are to unfold
+unfoldable pub list_rules : ⊤
+unfolding added_head added_tail enqueued find_alert first_of found_node free_list_alert free_node_alert insert_alert inserted is_list_at is_node_at key_of last_of link_alert linked_alert list_alert list_deed nodes_of pred_of removed_head removed_tail searched sequence_with succ_of unlinked with_nodes
+list_rules = tt

@@ -1,6 +1,6 @@
 -- Forbid and Disable (RKM Libraries, Exec Tasks: forbidding task switching). Each task has two counts of its own, which hold again
 -- when it runs again. A count out of its range is the alert NEST (project rule).
-use Rattle.std.specs.Prelude.{ℕ, Bool, not, if◌then◌else◌, codes, List, Option, None, Some}
+use Rattle.std.specs.Prelude.{ℕ, Bool, not, if◌then◌else◌, codes, List, Option, None, Some, ⊤}
 use Rattle.std.specs.Option.{is_some}
 use Rattle.forbid.specs.Nesting.{Nesting, after_forbid, after_permit, after_disable, after_enable}
 use Rattle.scheduler.specs.Schedule.{nesting_of, nested}
@@ -45,3 +45,8 @@ does_nesting word.Forbid t call s = does_forbid t call s
 does_nesting word.Permit t call s = does_permit t call s
 does_nesting word.Disable t call s = does_disable t call s
 does_nesting word.Enable t call s = does_enable t call s
+
+-- the rules of this group, where all of them are to unfold
+unfoldable pub nesting_rules : ⊤
+unfolding does_disable does_enable does_forbid does_permit
+nesting_rules = tt

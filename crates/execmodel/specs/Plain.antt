@@ -1,5 +1,5 @@
 -- Plain words: they set variables, calculate, jump and print, and ask nothing of Exec (project rule).
-use Rattle.std.specs.Prelude.{ℕ, ◌+◌, ◌-◌, ◌%◌, ◌^◌, if◌then◌else◌, nat_eq, bit_and, bit_or}
+use Rattle.std.specs.Prelude.{ℕ, ◌+◌, ◌-◌, ◌%◌, ◌^◌, if◌then◌else◌, nat_eq, bit_and, bit_or, ⊤}
 use Rattle.taskscript.specs.declared.word.plain.PlainWord.{PlainWord}
 use Rattle.taskscript.specs.declared.word.plain.PlainWord.TheVariants as word
 use Rattle.execmodel.specs.State.{Call, State, Outcome, quiet, on_scripts}
@@ -82,3 +82,8 @@ does_plain word.Jump t call s = does_jump t call s
 does_plain word.JumpZ t call s = does_jump_zero t call s
 does_plain word.JumpNZ t call s = does_jump_not_zero t call s
 does_plain word.Print t call s = does_print t call s
+
+-- the rules of this group, where all of them are to unfold
+unfoldable pub plain_rules : ⊤
+unfolding does_add does_and does_jump does_jump_not_zero does_jump_zero does_or does_print does_set does_sub jumps
+plain_rules = tt

@@ -2,7 +2,7 @@
 -- is in one port at most, once. The public ports are a sequence in order of arrival; the one of a name is the earliest among those of
 -- greatest priority that have it. An address if no object of the kind begins is the alert HANDLE; a message or a port that is linked
 -- if it must not be, or the other way, is the alert LINK; a port in use, or not the caller's to wait at, is the alert PORT (project rule).
-use Rattle.std.specs.Prelude.{ℕ, ℤ, negsuc, ◌^◌, Bool, true, false, not, ◌&&◌, ◌==◌, if◌then◌else◌, nat_eq, is_some, map, filter, drop, unwrap_or, codes, List, [], ◌∷◌, ◌++◌, Option, None, Some}
+use Rattle.std.specs.Prelude.{ℕ, ℤ, negsuc, ◌^◌, Bool, true, false, not, ◌&&◌, ◌==◌, if◌then◌else◌, nat_eq, is_some, map, filter, drop, unwrap_or, codes, List, [], ◌∷◌, ◌++◌, Option, None, Some, ⊤}
 use Rattle.std.specs.List.{list_any}
 use Rattle.std.specs.Int.{cast_signed, w32}
 use Rattle.execlist.specs.Order.{chosen, first}
@@ -469,3 +469,8 @@ does_ports word.PutMsg t call s = does_put_msg t call s
 does_ports word.GetMsg t call s = does_get_msg t call s
 does_ports word.WaitPort t call s = does_wait_port t call s
 does_ports word.ReplyMsg t call s = does_reply_msg t call s
+
+-- the rules of this group, where all of them are to unfold
+unfoldable pub port_rules : ⊤
+unfolding add_port_alert appended content_of delete_alert delivered does_add_port does_create_msg_port does_delete_msg_port does_find_port does_free_msg does_get_msg does_msg_type does_msg_word does_new_msg does_port_cause does_port_ignore does_port_signal does_put_msg does_rem_port does_reply_msg does_set_msg_word does_wait_port found_port is_awaited_at is_message_at is_port_at is_queued loose_alert made_private made_public message_alert messages_of port_alert port_of posted put_alert rem_port_alert reply_alert reply_port_alert taken_off typed wait_alert with_action with_content with_port with_word
+port_rules = tt

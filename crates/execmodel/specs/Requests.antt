@@ -2,7 +2,7 @@
 -- or is done: quick, or by a reply, which is the request itself, put at its reply port as a message. An address if no request begins is the
 -- alert HANDLE; a request under way if it must not be, or not begun or not open if it must be, is the alert IO; one whose reply is queued
 -- if it must not be, or the other way, is the alert LINK; a reply port that is not the caller's to wait at is the alert PORT (project rule).
-use Rattle.std.specs.Prelude.{ℕ, zero, suc, ℤ, pos, negsuc, ◌^◌, Bool, true, false, not, ◌&&◌, if◌then◌else◌, nat_eq, nat_lt, bytes_eq, length, map, unwrap_or, codes, List, [], Option, None, Some}
+use Rattle.std.specs.Prelude.{ℕ, zero, suc, ℤ, pos, negsuc, ◌^◌, Bool, true, false, not, ◌&&◌, if◌then◌else◌, nat_eq, nat_lt, bytes_eq, length, map, unwrap_or, codes, List, [], Option, None, Some, ⊤}
 use Rattle.std.specs.Int.{cast_unsigned, w32}
 use Rattle.exectrace.specs.Trace.{Timer}
 use Rattle.execlist.specs.Order.{without}
@@ -426,3 +426,8 @@ finishes_all_due s = finishes_due (length s.memory.timer.waiting) s
 unfoldable pub finishes_set : State → Outcome
 finishes_set s =
     if s.memory.timer.is_set then finishes_until (length s.memory.timer.waiting) (on_memory (on_timer looked_at) s) else quiet s
+
+-- the rules of this group, where all of them are to unfold
+unfoldable pub request_rules : ⊤
+unfolding answering_port begun_at closed_device delete_request_alert do_alert does_abort_io does_check_io does_close_device does_create_io_request does_delete_io_request does_do_io does_io_error does_io_flags does_io_micros does_io_secs does_open_device does_send_io does_set_io does_wait_io ended finished_at finishes finishes_all_due finishes_each finishes_set is_request_at opened_for reply_taken replying_port request_alert request_of resting_alert send_alert set_io_alert wait_io_alert with_command with_request
+request_rules = tt

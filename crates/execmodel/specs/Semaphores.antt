@@ -1,7 +1,7 @@
 -- Signal semaphores (RKM Libraries, Exec Semaphores). A semaphore has an owner or none, how often the owner has to release it, and the tasks
 -- that wait for it, in order of request. An address if no semaphore begins is the alert HANDLE; a semaphore that is owned if it must
 -- not be, or not owned by the caller, or obtained too often is the alert SEM (project rule).
-use Rattle.std.specs.Prelude.{ℕ, ◌==◌, Bool, true, false, not, if◌then◌else◌, is_some, drop, find, map, codes, List, [], ◌∷◌, ◌++◌, Option, None, Some}
+use Rattle.std.specs.Prelude.{ℕ, ◌==◌, Bool, true, false, not, if◌then◌else◌, is_some, drop, find, map, codes, List, [], ◌∷◌, ◌++◌, Option, None, Some, ⊤}
 use Rattle.std.specs.List.{list_any}
 use Rattle.std.specs.Option.{option_map}
 use Rattle.execlist.specs.Order.{first, without}
@@ -216,3 +216,8 @@ does_semaphores word.FreeSem t call s = does_free_sem t call s
 does_semaphores word.ObtainSemaphore t call s = does_obtain_semaphore t call s
 does_semaphores word.AttemptSemaphore t call s = does_attempt_semaphore t call s
 does_semaphores word.ReleaseSemaphore t call s = does_release_semaphore t call s
+
+-- the rules of this group, where all of them are to unfold
+unfoldable pub semaphore_rules : ⊤
+unfolding attempted does_attempt_semaphore does_free_sem does_new_sem does_obtain_semaphore does_release_semaphore dropped entered free_sem_alert handed_on heir is_semaphore_at obtain_alert obtained queued release_alert released released_once sem_of waiters_of with_semaphore
+semaphore_rules = tt

@@ -1,5 +1,5 @@
 -- Signals of tasks (RKM Libraries, Exec Signals).
-use Rattle.std.specs.Prelude.{ℕ, ◌-◌, Bool, not, ◌&&◌, if◌then◌else◌, nat_eq, nat_lt, nat_le, bit_and, length, codes, List, Option, None, Some}
+use Rattle.std.specs.Prelude.{ℕ, ◌-◌, Bool, not, ◌&&◌, if◌then◌else◌, nat_eq, nat_lt, nat_le, bit_and, length, codes, List, Option, None, Some, ⊤}
 use Rattle.std.specs.Int.{cast_signed, cast_unsigned, w32}
 use Rattle.execlist.specs.Disciplines.{by_arrival}
 use Rattle.signals.specs.Signals.{grant, grant_number, is_own_signal}
@@ -91,3 +91,8 @@ does_signals word.FreeSignal t call s = does_free_signal t call s
 does_signals word.SetSignal t call s = does_set_signal t call s
 does_signals word.Signal t call s = does_signal t call s
 does_signals word.Wait t call s = does_wait t call s
+
+-- the rules of this group, where all of them are to unfold
+unfoldable pub signal_rules : ⊤
+unfolding does_alloc_signal does_free_signal does_set_signal does_signal does_wait
+signal_rules = tt

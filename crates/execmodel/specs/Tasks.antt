@@ -1,5 +1,5 @@
 -- How tasks are begun and ended, and their priorities (RKM Libraries, Exec Tasks).
-use Rattle.std.specs.Prelude.{ℕ, ◌+◌, ◌-◌, ℤ, pos, negsuc, Bool, not, ◌&&◌, ◌||◌, if◌then◌else◌, nat_eq, int_le, codes, List, Option, None, Some}
+use Rattle.std.specs.Prelude.{ℕ, ◌+◌, ◌-◌, ℤ, pos, negsuc, Bool, not, ◌&&◌, ◌||◌, if◌then◌else◌, nat_eq, int_le, codes, List, Option, None, Some, ⊤}
 use Rattle.std.specs.Int.{cast_signed, cast_unsigned, w32}
 use Rattle.execlist.specs.Disciplines.{by_arrival}
 use Rattle.taskq.specs.Tasks.{is_live}
@@ -96,3 +96,8 @@ does_tasks word.SetTaskPri t call s = does_set_task_pri t call s
 does_tasks word.AddTask t call s = does_add_task t call s
 does_tasks word.RemTask t call s = does_rem_task t call s
 does_tasks word.FindTask t call s = does_find_task t call s
+
+-- the rules of this group, where all of them are to unfold
+unfoldable pub task_rules : ⊤
+unfolding does_add_task does_find_task does_rem_task does_set_task_pri
+task_rules = tt

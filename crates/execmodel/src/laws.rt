@@ -8,6 +8,7 @@ ghost use Rattle.execmodel.specs.Step.{event, events};
 
 /// After an alert no event does anything: the state stays as it is, no line is printed and no mark is left. If an alert comes between
 /// two parts of an action, as in the midst of a body or of a settle, the second part does nothing.
+#[tactic(auto, using(crate::proofs::Stopped::event_stopped, crate::proofs::Stopped::events_stopped, crate::proofs::Stopped::stopped_between))]
 pub fn an_alert_ends_all()
     ensures event { (e : Event) (s : State) → s.stopped ≡ true → event e s ≡ quiet s }
     ensures events { (list : List Event) (s : State) → s.stopped ≡ true → events list s ≡ quiet s }
@@ -23,6 +24,7 @@ pub fn an_alert_ends_all()
 /// and the priorities, and words of interrupts which software interrupts are caused; words of requests the objects, which requests wait for the
 /// timer, system time, signals, which tasks are ready, running or waiting, and which software interrupts are caused, but neither the clock nor
 /// which ports are public. An alert stops the machine.
+#[tactic(auto, using(crate::proofs::Words::plain_words_change_scripts, crate::proofs::Words::signal_words_change_signals_and_states, crate::proofs::Words::nesting_words_change_nestings, crate::proofs::Words::task_words_change_states_priorities_and_objects, crate::proofs::Words::list_words_change_the_memory, crate::proofs::Words::memory_words_change_the_memory, crate::proofs::Words::port_words_change_ports_signals_and_states, crate::proofs::Words::semaphore_words_change_states_and_objects, crate::proofs::Words::interrupt_words_change_what_is_caused, crate::proofs::Words::library_words_change_the_memory, crate::proofs::Words::request_words_change_requests_ports_signals_and_states))]
 pub fn each_group_keeps_to_its_part()
     ensures plain { PlainWordsChangeScripts }
     ensures signals { SignalWordsChangeSignalsAndStates }
@@ -42,6 +44,7 @@ pub fn each_group_keeps_to_its_part()
 /// port has at last. The reply of a request is such a message: it is put when the request finishes, and WaitIO and DoIO take it out.
 ///
 /// Source: RKM Libraries, Exec Messages and Ports; RKM Devices, Introduction to Amiga System Devices.
+#[tactic(auto, using(crate::proofs::FifoLaw::first_in_first_out))]
 pub fn fifo()
     ensures { FirstInFirstOut }
 {}
@@ -50,6 +53,7 @@ pub fn fifo()
 /// add up to the region's. An object begins at a block of its own, which FreeMem refuses.
 ///
 /// Source: RKM Libraries, Exec Memory Allocation.
+#[tactic(auto, using(crate::proofs::OneOwner::each_byte_has_one_owner, crate::proofs::OneOwner::free_mem_refuses_objects))]
 pub fn one_owner()
     ensures tiles { EachByteHasOneOwner }
     ensures refuses { FreeMemRefusesObjects }
@@ -61,6 +65,7 @@ pub fn one_owner()
 /// at last.
 ///
 /// Source: RKM Libraries, Exec Semaphores.
+#[tactic(auto, using(crate::proofs::OwnersLaw::owners_change_at_the_last_release, crate::proofs::OwnersLaw::free_semaphores_have_no_waiters, crate::proofs::WaitingLaw::semaphores_pass_in_order))]
 pub fn exclusion()
     ensures owners { OwnersChangeAtTheLastRelease }
     ensures idle { FreeSemaphoresHaveNoWaiters }
@@ -82,6 +87,7 @@ pub fn agreement()
 /// switch is made.
 ///
 /// Source: RKM Libraries, Exec Tasks: task scheduling.
+#[tactic(auto, using(crate::proofs::Settled::each_state_is_settled, crate::proofs::Switching::switches_go_to_the_chosen, crate::proofs::Saying::only_switches_say_so))]
 pub fn priority()
     ensures settled { EachStateIsSettled }
     ensures switched { SwitchesGoToTheChosen }
@@ -100,6 +106,7 @@ pub fn switch_lines()
 /// received stays received, unless in this step it makes a call by which a task takes, sets or clears signals of its own.
 ///
 /// Source: RKM Libraries, Exec Signals.
+#[tactic(auto, using(crate::proofs::Received::waiters_have_received_none, crate::proofs::Received::received_signals_stay))]
 pub fn no_lost_signal()
     ensures none { WaitersHaveReceivedNone }
     ensures stay { ReceivedSignalsStay }
@@ -109,6 +116,7 @@ pub fn no_lost_signal()
 /// nested Forbid and Disable. One settle serves three times at most.
 ///
 /// Source: RKM Libraries, Exec Interrupts.
+#[tactic(auto, using(crate::proofs::Servings::interrupts_keep_nestings, crate::proofs::Servings::three_servings_at_most))]
 pub fn interrupts()
     ensures nestings { InterruptsKeepNestings }
     ensures servings { ThreeServingsAtMost }
@@ -119,6 +127,7 @@ pub fn interrupts()
 /// interrupt and no other call takes away an open library.
 ///
 /// Source: RKM Libraries, Exec Libraries.
+#[tactic(auto, using(crate::proofs::Libraries::open_libraries_stay))]
 pub fn open_stays()
     ensures { OpenLibrariesStay }
 {}
@@ -126,6 +135,7 @@ pub fn open_stays()
 /// A loaded library is at one base only: in every state of every run, two bases of one library are the same.
 ///
 /// RKM Libraries, Exec Libraries.
+#[tactic(auto, using(crate::proofs::OneBase::libraries_have_one_base))]
 pub fn libraries_have_one_base()
     ensures { LibrariesHaveOneBase }
 {}
@@ -135,6 +145,7 @@ pub fn libraries_have_one_base()
 /// library keeps its base, its number and its block, open or not, unless the running task in this step removes it while it is not open, or closes
 /// it for the last time and it was to be expunged then. In any version asking changes the blocks and the objects in them alone, and nothing if the
 /// block has a place already.
+#[tactic(auto, using(crate::proofs::Versions::libraries_are_asked_in_version_two, crate::proofs::Versions::unasked_memory_stays, crate::proofs::Libraries::unasked_libraries_stay, crate::proofs::Versions::asking_changes_the_blocks))]
 pub fn version_one()
     ensures asked { LibrariesAreAskedInVersionTwo }
     ensures unasked { UnaskedMemoryStays }
@@ -148,6 +159,7 @@ pub fn version_one()
 /// base, in its block and as often open.
 ///
 /// Source: autodoc exec.library/AllocMem; the order of asking: project rule.
+#[tactic(auto, using(crate::proofs::GivingWayLaw::libraries_give_way_as_far_as_needed, crate::proofs::GivingWayLaw::only_closed_libraries_give_way))]
 pub fn libraries_give_way()
     ensures needed { LibrariesGiveWayAsFarAsNeeded }
     ensures closed { OnlyClosedLibrariesGiveWay }
@@ -157,6 +169,7 @@ pub fn libraries_give_way()
 /// system time or AbortIO, finds the port if the reply is to be put. No port that a request under way is to be replied at is deleted.
 ///
 /// Source: RKM Devices, Introduction to Amiga System Devices; that the port may not be deleted: project rule.
+#[tactic(auto, using(crate::proofs::RequestsLaw::reply_ports_live))]
 pub fn reply_ports_live()
     ensures { ReplyPortsLive }
 {}
@@ -164,6 +177,7 @@ pub fn reply_ports_live()
 /// Just the requests that are under way wait for the timer, each once, in every state of every run: none is forgotten, and none finishes twice.
 ///
 /// Source: RKM Devices, Timer Device.
+#[tactic(auto, using(crate::proofs::RequestsLaw::requests_under_way_wait))]
 pub fn requests_under_way_wait()
     ensures { RequestsUnderWayWait }
 {}
@@ -172,6 +186,7 @@ pub fn requests_under_way_wait()
 /// alert it is still.
 ///
 /// Source: RKM Devices, Timer Device; that the clock begins at 0 and counts under Disable too: project rule.
+#[tactic(auto, using(crate::proofs::ClockLaw::the_clock_counts_ticks))]
 pub fn the_clock_counts_ticks()
     ensures { TheClockCountsTicks }
 {}
@@ -180,12 +195,14 @@ pub fn the_clock_counts_ticks()
 /// running task in this step begins a request of the command TR_SETSYSTIME, by SendIO or DoIO; then system time is the time of that request.
 ///
 /// Source: RKM Devices, Timer Device; autodoc timer.device/TR_SETSYSTIME; that system time begins with the clock: project rule.
+#[tactic(auto, using(crate::proofs::SystemLaw::system_time_goes_with_the_clock))]
 pub fn system_time_goes_with_the_clock()
     ensures { SystemTimeGoesWithTheClock }
 {}
 
 /// No line is long: each line of every run has at most 160 bytes, its line feed included. A name has at most 31 bytes, and a call has at
 /// most four arguments, of which at most one is a name.
+#[tactic(auto, using(crate::proofs::LinesLaw::lines_are_short))]
 pub fn lines_are_short()
     ensures { LinesAreShort }
 {}
@@ -193,6 +210,7 @@ pub fn lines_are_short()
 /// A call has the arguments of its word, one of each kind: in every state of every run so have the call that a task is to make, one that it
 /// waits in too, and each call of the body of a software interrupt or of a server. If the word asks for a value a value is, and
 /// if it asks for a name a name.
+#[tactic(auto, using(crate::proofs::LinesLaw::calls_fit_their_words))]
 pub fn calls_fit_their_words()
     ensures { CallsFitTheirWords }
 {}

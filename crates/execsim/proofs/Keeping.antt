@@ -59,21 +59,11 @@ keeps_taken name call port (Some message) s = refl
 module _ (name : List ℕ) (call : Call) where
   keeps_plain : (is : PlainWord) → Holds (does_plain_by is (ByBody name) call)
   keeps_plain plain.Set s = refl
-  keeps_plain plain.Add s = refl
-  keeps_plain plain.Sub s = refl
-  keeps_plain plain.And s = refl
-  keeps_plain plain.Or s = refl
-  keeps_plain plain.Jump s = refl
-  keeps_plain plain.JumpZ s = refl
-  keeps_plain plain.JumpNZ s = refl
-  keeps_plain plain.Print s = refl
+  keeps_plain _ s = refl
 
   keeps_signals : (is : SignalWord) → Holds (does_signals_by is (ByBody name) call)
-  keeps_signals signals.AllocSignal s = refl
-  keeps_signals signals.FreeSignal s = refl
-  keeps_signals signals.SetSignal s = refl
   keeps_signals signals.Signal s = keeps_allowed name call _ (signal_alert (argument 0 call) (argument 1 call) s.scripts) s refl
-  keeps_signals signals.Wait s = refl
+  keeps_signals _ s = refl
 
   keeps_replied : (reply message : ℕ) (s : State) → held (replied_by reply (ByBody name) call message s).state ≡ held s
   keeps_replied reply message s = by_case (nat_eq reply 0) _ _ refl (keeps_delivered _ reply message s) where
@@ -88,20 +78,7 @@ module _ (name : List ℕ) (call : Call) where
       (keeps_taken name call (argument 0 call) (first (messages_of (argument 0 call) s.memory.heap)) s)
   keeps_ports ports.ReplyMsg s = keeps_allowed name call _ (reply_alert (argument 0 call) s.memory.heap) s
       (keeps_replied (content_of (argument 0 call) s.memory.heap).reply (argument 0 call) s)
-  keeps_ports ports.CreateMsgPort s = refl
-  keeps_ports ports.DeleteMsgPort s = refl
-  keeps_ports ports.AddPort s = refl
-  keeps_ports ports.RemPort s = refl
-  keeps_ports ports.FindPort s = refl
-  keeps_ports ports.PortSignal s = refl
-  keeps_ports ports.PortCause s = refl
-  keeps_ports ports.PortIgnore s = refl
-  keeps_ports ports.NewMsg s = refl
-  keeps_ports ports.FreeMsg s = refl
-  keeps_ports ports.MsgWord s = refl
-  keeps_ports ports.SetMsgWord s = refl
-  keeps_ports ports.MsgType s = refl
-  keeps_ports ports.WaitPort s = refl
+  keeps_ports _ s = refl
 
   keeps_interrupts : (is : InterruptWord) → Holds (does_interrupts_by is (ByBody name) call)
   unfolding causes
@@ -112,13 +89,7 @@ module _ (name : List ℕ) (call : Call) where
   keeps_word (word.Signals is) s = keeps_signals is s
   keeps_word (word.Ports is) s = keeps_ports is s
   keeps_word (word.Interrupts is) s = keeps_interrupts is s
-  keeps_word (word.Nesting is) s = refl
-  keeps_word (word.Tasks is) s = refl
-  keeps_word (word.Lists is) s = refl
-  keeps_word (word.Memory is) s = refl
-  keeps_word (word.Semaphores is) s = refl
-  keeps_word (word.Libraries is) s = refl
-  keeps_word (word.Requests is) s = refl
+  keeps_word _ s = refl
 
 pub keeps_step : (name : List ℕ) (command : CommandData) → Holds (body_step name command)
 unfolding body_step does_in_body

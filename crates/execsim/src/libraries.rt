@@ -28,6 +28,7 @@ impl<S: ListSpace> Kernel<S> {
     /// OpenLibrary name version: answers the base of the library of that name, which is loaded first if it is absent, and is open once
     /// more; 0 if there is none of the name, its version is lower, it is open 65,535 times, or there is no place for it (autodoc
     /// exec.library/OpenLibrary; the count, and that a library takes memory with MEMF_PUBLIC: project rule).
+    #[tactic(auto, using(crate::proofs::Opening::open_answered))]
     fn open_library<W: Sink>(&mut self, t: TaskId, call: &Call, out: &mut W)
         requires { HasTask t self.old }
         ensures { Follows (does_open_library t (call_view call.now)) self.old self.new (W.tape out.old) (W.tape out.new) }

@@ -51,6 +51,7 @@ impl<S: ListSpace> Kernel<S> {
     }
 
     /// NewList: answers the address of a new empty list, or 0 (autodoc amiga.lib/NewList; that it takes the memory: project rule).
+    #[tactic(auto, using(crate::proofs::Listing::list_made))]
     fn new_list<W: Sink>(&mut self, t: TaskId, call: &Call, out: &mut W)
         requires { HasTask t self.old }
         ensures { Follows (does_lists lists.NewList t (call_view call.now)) self.old self.new (W.tape out.old) (W.tape out.new) }

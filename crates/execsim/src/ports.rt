@@ -194,6 +194,7 @@ impl<S: ListSpace> Kernel<S> {
     }
 
     /// FindPort name: answers the public port of that name, or 0 (autodoc exec.library/FindPort).
+    #[tactic(auto, using(crate::proofs::Porting::find_answered))]
     fn find_port<W: Sink>(&mut self, t: TaskId, call: &Call, out: &mut W)
         requires { HasTask t self.old }
         ensures { Follows (does_find_port t (call_view call.now)) self.old self.new (W.tape out.old) (W.tape out.new) }

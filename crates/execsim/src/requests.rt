@@ -129,6 +129,7 @@ impl<S: ListSpace> Kernel<S> {
 
     /// CloseDevice request: the request is not open. HANDLE if none begins there, IO if it is under way (autodoc
     /// exec.library/CloseDevice; the alerts: project rule).
+    #[tactic(auto, using(crate::proofs::Requesting::close_tried))]
     fn close_device<W: Sink>(&mut self, t: TaskId, call: &Call, out: &mut W)
         requires { HasTask t self.old }
         ensures { Follows (does_close_device t (call_view call.now)) self.old self.new (W.tape out.old) (W.tape out.new) }

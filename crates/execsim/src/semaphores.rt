@@ -52,6 +52,7 @@ impl<S: ListSpace> Kernel<S> {
 
     /// NewSem: answers the address of a new semaphore, which no task owns, or 0 (autodoc exec.library/InitSemaphore; that it takes the
     /// memory: project rule).
+    #[tactic(auto, using(crate::proofs::Obtaining::semaphore_made))]
     fn new_sem<W: Sink>(&mut self, t: TaskId, call: &Call, out: &mut W)
         requires { HasTask t self.old }
         ensures { Follows (does_new_sem t (call_view call.now)) self.old self.new (W.tape out.old) (W.tape out.new) }

@@ -67,6 +67,7 @@ impl<S: ListSpace> Kernel<S> {
     }
 
     /// AllocSignal a (autodoc exec.library/AllocSignal).
+    #[tactic(auto, using(crate::proofs::Signalling::allocated))]
     fn alloc_signal<W: Sink>(&mut self, t: TaskId, call: &Call, out: &mut W)
         requires known { HasTask t self.old }
         requires runs { Runs t self.old }

@@ -161,6 +161,7 @@ impl<S: ListSpace> Kernel<S> {
     }
 
     /// FindTask name (autodoc exec.library/FindTask).
+    #[tactic(auto, using(crate::proofs::Tasking::task_found))]
     fn find_task<W: Sink>(&mut self, t: TaskId, call: &Call, out: &mut W)
         requires { HasTask t self.old }
         ensures { Follows (does_find_task t (call_view call.now)) self.old self.new (W.tape out.old) (W.tape out.new) }

@@ -9,11 +9,12 @@ use crate::room::Room;
 use crate::scene::Linked;
 use crate::step::{Site, Turn, When, prints};
 use crate::value::value_of;
+use crate::words::row_of;
 use execsim::Flow;
 use std::alloc::{AllocError, Global};
 use std::collections::HashMap;
 use std::str::from_utf8;
-use taskscript::{Command, Event, MachineFile, Owner, Source, Variable, Word};
+use taskscript::{Command, Event, MachineFile, Owner, Source, Variable};
 
 /// How many of the last steps are looked at.
 pub const RECENT: u64 = 1000;
@@ -70,15 +71,6 @@ fn place_of(source: Source) -> usize
         Source::Exter => 0,
         Source::Vertb => 1,
         Source::Ports => 2,
-    }
-}
-
-/// Whether a word ends the object or the block that its first argument names.
-fn frees(word: Word) -> bool {
-    match word.text() {
-        "FreeList" | "FreeNode" | "FreeMem" | "FreeMsg" | "FreeSem" => true,
-        "DeleteMsgPort" | "DeleteIORequest" | "CloseLibrary" | "RemLibrary" => true,
-        _ => false,
     }
 }
 
@@ -157,7 +149,7 @@ impl<'a> Course<'a> {
 
     /// Notes what a command has freed.
     fn note_freed(&mut self, machine: &Linked, turn: Turn, command: &Command) {
-        if frees(command.word) {
+        if row_of(command.word).frees {
             let site = Site {
                 spot: turn.spot(),
                 when: When::Step(self.steps),

@@ -7,8 +7,9 @@ use crate::handles::Asking;
 use crate::page::{Page, argument_text};
 use crate::rules::Fault;
 use crate::value::variable_at;
+use crate::words::{Flaw, row_of};
 use std::alloc::{AllocError, Global};
-use taskscript::{Event, SignalWord, Word};
+use taskscript::Event;
 
 /// When the alert came.
 fn when(alloc: Global, course: &Course<'_>) -> Result<String, AllocError> {
@@ -24,11 +25,10 @@ fn when(alloc: Global, course: &Course<'_>) -> Result<String, AllocError> {
 
 /// Whether what is at fault is a mask or a set of attributes.
 fn has_bits(refused: &Refused<'_>) -> bool {
-    match refused.command.word {
-        Word::Signals(word) => refused.code == "MASK" && !matches!(word, SignalWord::FreeSignal),
-        Word::Memory(_) => refused.code == "VALUE",
-        _ => false,
-    }
+    matches!(
+        (refused.code, row_of(refused.command.word).flaw),
+        ("MASK", Flaw::Mask(_)) | ("VALUE", Flaw::Bits { .. })
+    )
 }
 
 impl Asking<'_, '_> {

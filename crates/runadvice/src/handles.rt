@@ -5,68 +5,11 @@ use crate::course::Course;
 use crate::memory::block_around;
 use crate::rules::Fault;
 use crate::scene::Linked;
+use crate::words::{LIBRARY, LIST_OR_NODE, Wanted, row_of};
 use execsim::ObjectView;
 use std::alloc::{AllocError, Global};
 use taskq::TaskState;
 use taskscript::Listing;
-
-/// What an argument has to name.
-#[derive(Clone, Copy, Debug, PartialEq, Eq)]
-enum Wanted {
-    Nothing,
-    /// A task of the file, by its number from 1.
-    Task,
-    /// A task that was added and has not ended.
-    LiveTask,
-    /// The object that begins at an address, by its kind in words.
-    Object(&'static str),
-}
-
-/// The kinds of objects that are wanted and are not said as those that are found.
-const LIST_OR_NODE: &str = "a list or a node";
-
-const LIBRARY: &str = "the base of a loaded library";
-
-/// What the arguments of a word have to name, from left to right.
-fn wanted_by(word: &str) -> [Wanted; 3] {
-    let none = Wanted::Nothing;
-    let (list, node) = (Wanted::Object("a list"), Wanted::Object("a node"));
-    let (port, message) = (Wanted::Object("a port"), Wanted::Object("a message"));
-    let (semaphore, request) = (
-        Wanted::Object("a semaphore"),
-        Wanted::Object("a timer request"),
-    );
-    match word {
-        "Signal" | "AddTask" => [Wanted::Task, none, none],
-        "SetTaskPri" | "RemTask" => [Wanted::LiveTask, none, none],
-        "FreeList" | "RemHead" | "RemTail" | "First" | "Last" => [list, none, none],
-        "FreeNode" | "Remove" | "Succ" | "Pred" => [node, none, none],
-        "AddHead" | "AddTail" | "Enqueue" => [list, node, none],
-        "Insert" => [list, node, node],
-        "FindName" => [Wanted::Object(LIST_OR_NODE), none, none],
-        "DeleteMsgPort" | "NewMsg" | "CreateIORequest" | "AddPort" | "RemPort" => [
-            port, none, none,
-        ],
-        "PortSignal" | "PortCause" | "PortIgnore" | "GetMsg" | "WaitPort" => [port, none, none],
-        "PutMsg" => [port, message, none],
-        "FreeMsg" | "MsgWord" | "SetMsgWord" | "MsgType" | "ReplyMsg" => [message, none, none],
-        "FreeSem" | "ReleaseSemaphore" => [semaphore, none, none],
-        "ObtainSemaphore" | "AttemptSemaphore" => [semaphore, none, none],
-        "CloseLibrary" | "RemLibrary" | "LibOpenCnt" => [Wanted::Object(LIBRARY), none, none],
-        "OpenDevice" => [none, none, request],
-        _ => [request, none, none],
-    }
-}
-
-/// Whether an argument of a word may be 0: none, or for RemTask the caller.
-fn may_be_none(word: &str, number: usize) -> bool {
-    match word {
-        "Insert" => number == 2,
-        "CreateIORequest" | "DeleteIORequest" | "DeleteMsgPort" | "NewMsg" => true,
-        "CloseLibrary" | "RemTask" => true,
-        _ => false,
-    }
-}
 
 /// Whether an object is of the kind that is wanted.
 fn is_of(wanted: &str, object: ObjectView) -> bool {
@@ -182,10 +125,10 @@ impl Asking<'_, '_> {
 
     /// The first argument of a call that names nothing of the kind that the call wants, and why.
     pub fn handle_fault(&self) -> Result<Fault, AllocError> {
-        let word = self.refused.command.word.text();
-        for (number, wanted) in wanted_by(word).iter().enumerate() {
+        let row = row_of(self.refused.command.word);
+        for (number, wanted) in row.wanted.iter().enumerate() {
             let value = self.refused.value(number);
-            if value != 0 || !may_be_none(word, number) {
+            if value != 0 || row.may_be_none != Some(number) {
                 if let Some(why) = self.fault_of(*wanted, value)? {
                     return Ok(Fault::of(number, why, self.asks_origin(*wanted, value)));
                 }

@@ -28,6 +28,7 @@ mod value;
 mod wait;
 mod waiting;
 mod wakers;
+mod words;
 
 pub use check::{Alert, Report, check_run};
 pub use page::Spot;

@@ -4,6 +4,7 @@ use crate::handles::Asking;
 use crate::page::name_of;
 use crate::step::{Site, when_text};
 use crate::value::held_by;
+use crate::words::row_of;
 use std::alloc::{AllocError, Global};
 use taskscript::{Argument, Command, Owner, Variable, Word};
 
@@ -18,33 +19,6 @@ fn kind_of_owner(owner: Owner) -> &'static str {
 
 /// Why a word has answered 0 that takes memory of a machine that has none.
 const NO_REGION: &str = ", since there is no memory: the file has no [[region]]";
-
-/// Why a word has answered 0, if there is one reason.
-fn reason_of_zero(word: &str) -> &'static str {
-    match word {
-        "FindPort" => ", when no public port had that name",
-        "FindTask" => ", when no live task had that name",
-        "FindName" => ", when no node had that name",
-        "GetMsg" => ", when the port was empty",
-        "RemHead" | "RemTail" | "First" | "Last" => ", when the list was empty",
-        "Succ" => ", at the end of the list",
-        "Pred" => ", at the beginning of the list",
-        "AddTask" => ", since the task was added before",
-        "AllocMem" => ", since no gap was large enough",
-        "NewList" | "NewNode" | "NewMsg" | "NewSem" => {
-            ", since no memory fitted or as many as pool allows were there"
-        }
-        "CreateMsgPort" => {
-            ", since no signal was free, no memory fitted or as many as pool allows were there"
-        }
-        "CreateIORequest" => {
-            ", since its port was 0, no memory fitted or as many as pool allows were there"
-        }
-        "OpenLibrary" => { ", since no library has that name in that version, or no memory fitted" }
-        "CheckIO" => ", when the request was in progress",
-        _ => "",
-    }
-}
 
 /// Whether one of the arguments of a command is a name.
 fn has_name(command: &Command) -> bool {
@@ -78,14 +52,14 @@ impl Asking<'_, '_> {
         format!(in self.alloc; "in line {line} of {kind} \"{name}\"")
     }
 
-    /// The word of a command that was done.
-    pub fn word_at(&self, site: Site) -> &'static str {
-        command_at(self.course.file, site.spot).map_or("", |command| command.word.text())
+    /// The command that was done.
+    pub fn command_at(&self, site: Site) -> Option<&Command> {
+        command_at(self.course.file, site.spot)
     }
 
     /// What has set a variable to this value.
     fn setting_text(&self, site: Site, value: u32) -> Result<String, AllocError> {
-        let Some(command) = command_at(self.course.file, site.spot) else {
+        let Some(command) = self.command_at(site) else {
             return Ok(String::new(self.alloc));
         };
         let place = self.site_text(site)?;
@@ -96,10 +70,11 @@ impl Asking<'_, '_> {
             _ => "returned",
         };
         if value == 0 {
-            let reason = match command.word.text() {
-                "NewList" | "NewNode" | "NewMsg" | "NewSem" | "CreateMsgPort" | "AllocMem"
-                    if self.machine.region(0).is_none() => NO_REGION,
-                word => reason_of_zero(word),
+            let row = row_of(command.word);
+            let reason = if row.takes && self.machine.region(0).is_none() {
+                NO_REGION
+            } else {
+                row.zero
             };
             return format!(in self.alloc; ": {call} {place} {verb} 0 {time}{reason}");
         }
@@ -123,7 +98,9 @@ impl Asking<'_, '_> {
         match self.course.freed.get(&address).copied() {
             None => Ok(String::new(self.alloc)),
             Some(site) => {
-                let word = self.word_at(site);
+                let word = self
+                    .command_at(site)
+                    .map_or("", |command| command.word.text());
                 let place = self.site_text(site)?;
                 let time = when_text(self.alloc, site.when)?;
                 format!(in self.alloc; ": {word} {place} freed it {time}")

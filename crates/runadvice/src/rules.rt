@@ -4,6 +4,7 @@ use crate::argument::{kind_of, object_at, owner_at, port_at, request_at};
 use crate::handles::Asking;
 use crate::memory::{list_with, request_for};
 use crate::value::variable_at;
+use crate::words::{Flaw, Row, answers_signal, row_of};
 use execsim::ObjectView;
 use iorequest::request::ReqState;
 use msgport::action::PortAction;
@@ -40,23 +41,6 @@ impl Fault {
     }
 }
 
-/// The bits that AllocMem takes (exec/memory.h): MEMF_PUBLIC, MEMF_CHIP, MEMF_FAST and MEMF_CLEAR.
-const ALLOC_BITS: u32 = 0x0001_0007;
-
-/// The bits that AvailMem takes besides: MEMF_LARGEST and MEMF_TOTAL, of which it takes one.
-const AVAIL_BITS: u32 = 0x000A_0000;
-
-/// The alert NEST.
-fn nest_fault(alloc: Global, refused: &Refused<'_>) -> Result<Fault, AllocError> {
-    let why = match refused.command.word.text() {
-        "Forbid" => "the task has called Forbid 128 times more than Permit, which is the most",
-        "Disable" => "the task has called Disable 128 times more than Enable, which is the most",
-        "Permit" => "the task has no Forbid that this Permit could end",
-        _ => "the task has no Disable that this Enable could end",
-    };
-    Fault::new(alloc, None, why)
-}
-
 impl Asking<'_, '_> {
     /// Whether an argument is a variable that AllocSignal has set.
     fn is_allocated(&self, number: usize) -> bool {
@@ -65,19 +49,14 @@ impl Asking<'_, '_> {
             Some(variable) => self
                 .course
                 .setting_of(self.refused.task(), variable)
-                .is_some_and(|site| self.word_at(site) == "AllocSignal"),
+                .and_then(|site| self.command_at(site))
+                .is_some_and(|command| answers_signal(command.word)),
         }
     }
 
-    /// The alert MASK.
-    fn mask_fault(&self) -> Result<Fault, AllocError> {
+    /// The alert MASK of a mask.
+    fn mask_fault(&self, number: usize) -> Result<Fault, AllocError> {
         let alloc = self.alloc;
-        let word = self.refused.command.word.text();
-        if word == "FreeSignal" {
-            let why = format!(in alloc; "is none of the signals 16 to 31")?;
-            return Ok(Fault::of(0, why, true));
-        }
-        let number = if word == "Wait" { 0 } else { 1 };
         let mask = self.refused.value(number);
         let bit = (mask & 0xFFF).trailing_zeros();
         let hint = if mask < 32 && self.is_allocated(number) {
@@ -93,39 +72,17 @@ impl Asking<'_, '_> {
     }
 
     /// The alert VALUE of a set of attributes.
-    fn attributes_fault(
-        &self,
-        number: usize,
-        allowed: u32,
-        more: &str,
-    ) -> Result<Fault, AllocError> {
+    fn bits_fault(&self, number: usize, allowed: u32, more: &str) -> Result<Fault, AllocError> {
         let alloc = self.alloc;
         let others = self.refused.value(number) & !allowed;
-        if others == 0 {
-            let why = format!(in alloc; "has both MEMF_LARGEST ($20000) and MEMF_TOTAL ($80000)")?;
-            return Ok(Fault::of(number, why, true));
-        }
-        let bit = others.trailing_zeros();
-        let why = format!(in alloc;
-            "has bit {bit}; the bits that it may have are $1, $2, $4 and $10000{more}"
-        )?;
-        Ok(Fault::of(number, why, true))
-    }
-
-    /// The alert VALUE.
-    fn value_fault(&self) -> Result<Fault, AllocError> {
-        let (number, why) = match self.refused.command.word.text() {
-            "NewNode" => (0, "priority: those are -128 to 127"),
-            "SetTaskPri" => (1, "priority: those are -128 to 127"),
-            "AddPort" => (2, "priority: those are -128 to 127"),
-            "SetIO" => (1, "command: those are 0 to 65535"),
-            "AvailMem" => {
-                let more = ", and $20000 or $80000";
-                return self.attributes_fault(0, ALLOC_BITS | AVAIL_BITS, more);
-            }
-            _ => return self.attributes_fault(1, ALLOC_BITS, ""),
+        let why = if others == 0 {
+            format!(in alloc; "has both MEMF_LARGEST ($20000) and MEMF_TOTAL ($80000)")?
+        } else {
+            let bit = others.trailing_zeros();
+            format!(in alloc;
+                "has bit {bit}; the bits that it may have are $1, $2, $4 and $10000{more}"
+            )?
         };
-        let why = format!(in self.alloc; "is not a {why}")?;
         Ok(Fault::of(number, why, true))
     }
 
@@ -184,31 +141,7 @@ impl Asking<'_, '_> {
         Ok(Fault::of(number, why, false))
     }
 
-    /// The alert LINK.
-    fn link_fault(&self) -> Result<Fault, AllocError> {
-        let why = match self.refused.command.word.text() {
-            "Insert" => return self.insert_fault(),
-            "FreeMsg" | "ReplyMsg" => {
-                return self.in_port_fault(0, "message that", "out by GetMsg");
-            }
-            "PutMsg" => return self.in_port_fault(1, "message that", "out by GetMsg"),
-            "DeleteIORequest" | "DoIO" | "SendIO" => {
-                return self.in_port_fault(0, "request whose reply", "by WaitIO or GetMsg");
-            }
-            "FreeNode" => return self.node_fault(0),
-            "AddHead" | "AddTail" | "Enqueue" => return self.node_fault(1),
-            "FreeList" => "is a list that is not empty; take its nodes out first",
-            "Remove" => "is a node that is in no list",
-            "Succ" | "Pred" => "is a node that is in no list, so it has no neighbour",
-            "FindName" => "is a node that is in no list, so no node comes after it",
-            "AddPort" => "is a port that is public already; RemPort it first",
-            "RemPort" => "is a port that is not public; AddPort makes it so",
-            _ => "is a request whose reply was taken already",
-        };
-        Fault::new(self.alloc, Some(0), why)
-    }
-
-    /// The alert PORT of DeleteMsgPort: what the port is still needed for.
+    /// The alert PORT of a port that is still needed, and what for.
     fn delete_fault(&self) -> Result<Fault, AllocError> {
         let alloc = self.alloc;
         let port = self.refused.value(0);
@@ -252,14 +185,13 @@ impl Asking<'_, '_> {
         )
     }
 
-    /// The alert PORT.
+    /// The alert PORT of a wait at a port, or at the reply port of a request.
     fn port_fault(&self) -> Result<Fault, AllocError> {
         let first = self.refused.value(0);
-        let why = match self.refused.command.word.text() {
-            "DeleteMsgPort" => return self.delete_fault(),
-            "WaitPort" => self.waiting_fault(first)?,
-            _ => {
-                let port = request_at(self.machine, first).map_or(0, |request| request.port);
+        let why = match request_at(self.machine, first) {
+            None => self.waiting_fault(first)?,
+            Some(request) => {
+                let port = request.port;
                 let why = self.waiting_fault(port)?;
                 format!(in self.alloc; "has the reply port ${port:08X}, which {why}")?
             }
@@ -267,18 +199,9 @@ impl Asking<'_, '_> {
         Ok(Fault::of(0, why, false))
     }
 
-    /// The alert SEM.
-    fn semaphore_fault(&self) -> Result<Fault, AllocError> {
+    /// The alert SEM of a semaphore as its owner has it, with what its owner has to do.
+    fn owned_fault(&self, end: &str) -> Result<Fault, AllocError> {
         let alloc = self.alloc;
-        let end = match self.refused.command.word.text() {
-            "FreeSem" => "it has to be released first",
-            "ReleaseSemaphore" => "only its owner may release it",
-            _ => {
-                let why =
-                    "is a semaphore that the task has to release 32,767 times already; that is the most";
-                return Fault::new(alloc, Some(0), why);
-            }
-        };
         let why = match owner_at(self.machine, self.refused.value(0)) {
             None => format!(in alloc; "is a semaphore that no task owns; {end}")?,
             Some(owner) => {
@@ -305,16 +228,15 @@ impl Asking<'_, '_> {
     }
 
     /// The alert IO.
-    fn request_fault(&self) -> Result<Fault, AllocError> {
-        let word = self.refused.command.word.text();
-        let number = if word == "OpenDevice" { 2 } else { 0 };
+    fn request_fault(&self, row: Row) -> Result<Fault, AllocError> {
+        let number = row.wanted.len().saturating_sub(1);
         let why = match request_at(self.machine, self.refused.value(number)) {
             None => "is no request that this call may have",
             Some(request) => match request.state {
                 ReqState::UnderWay => {
                     "is a request in progress; WaitIO waits until it is done, AbortIO ends it"
                 }
-                ReqState::Idle if request.is_open() || word == "WaitIO" => {
+                ReqState::Idle if request.is_open() || row.flaw == Flaw::TakenReply => {
                     "is a request that was never begun"
                 }
                 _ => "is a request that is not open; OpenDevice opens it",
@@ -323,19 +245,64 @@ impl Asking<'_, '_> {
         Fault::new(self.alloc, Some(number), why)
     }
 
+    /// What the row of the word says to be at fault.
+    fn flaw_fault(&self, flaw: Flaw) -> Result<Fault, AllocError> {
+        let alloc = self.alloc;
+        match flaw {
+            Flaw::Plain => self.handle_fault(),
+            Flaw::Said(why) => Fault::new(alloc, Some(0), why),
+            Flaw::Signal => {
+                let why = format!(in alloc; "is none of the signals 16 to 31")?;
+                Ok(Fault::of(0, why, true))
+            }
+            Flaw::Mask(number) => self.mask_fault(number),
+            Flaw::Bits {
+                number,
+                allowed,
+                more,
+            } => self.bits_fault(number, allowed, more),
+            Flaw::LinkedNode(number) => self.node_fault(number),
+            Flaw::Place => self.insert_fault(),
+            Flaw::QueuedMessage(number) => {
+                self.in_port_fault(number, "message that", "out by GetMsg")
+            }
+            Flaw::QueuedReply => self.in_port_fault(
+                0,
+                "request whose reply",
+                "by WaitIO or GetMsg",
+            ),
+            Flaw::TakenReply => {
+                Fault::new(alloc, Some(0), "is a request whose reply was taken already")
+            }
+            Flaw::NeededPort => self.delete_fault(),
+            Flaw::Owned(end) => self.owned_fault(end),
+        }
+    }
+
+    /// The alert VALUE.
+    fn value_fault(&self, row: Row) -> Result<Fault, AllocError> {
+        match row.range {
+            None => self.flaw_fault(row.flaw),
+            Some((number, why)) => {
+                let why = String::from_str(self.alloc, why)?;
+                Ok(Fault::of(number, why, true))
+            }
+        }
+    }
+
     /// What is at fault in the refused call.
     pub fn fault(&self) -> Result<Fault, AllocError> {
-        match self.refused.code {
-            "HANDLE" => self.handle_fault(),
-            "MASK" => self.mask_fault(),
-            "VALUE" => self.value_fault(),
-            "MEM" => self.memory_fault(),
-            "NEST" => nest_fault(self.alloc, self.refused),
-            "LINK" => self.link_fault(),
-            "PORT" => self.port_fault(),
-            "SEM" => self.semaphore_fault(),
-            "LIB" => self.library_fault(),
-            _ => self.request_fault(),
+        let row = row_of(self.refused.command.word);
+        match (self.refused.code, row.flaw) {
+            ("HANDLE", _) => self.handle_fault(),
+            ("VALUE", _) => self.value_fault(row),
+            ("MEM", _) => self.memory_fault(),
+            ("NEST", Flaw::Said(why)) => Fault::new(self.alloc, None, why),
+            ("PORT", Flaw::NeededPort) => self.delete_fault(),
+            ("PORT", _) => self.port_fault(),
+            ("LIB", _) => self.library_fault(),
+            ("IO", _) => self.request_fault(row),
+            (_, flaw) => self.flaw_fault(flaw),
         }
     }
 }
