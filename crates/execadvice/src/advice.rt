@@ -3,8 +3,8 @@
 use crate::assignments::{assignment_of_c, call_with_parentheses, is_value, missing_word};
 use crate::foreign::{equivalent_of, number_of_constants, written_number};
 use crate::made::Made;
-use crate::members::{has_named, name_of};
-use crate::near::{are_digits, nearest, proposal, question};
+use crate::members::{name_of, position_named};
+use crate::near::{are_digits, nearest, proposing, proposing_nearest};
 use crate::said::cut;
 use crate::show::{Advice, Span, field_span, width_of};
 use crate::spacing::spacing_advice;
@@ -78,20 +78,25 @@ fn word_reason(alloc: Global, fields: &[&str], at: usize) -> Made<String> {
     unknown_word_reason(alloc, text)
 }
 
-/// That a text is no word, with the nearest one.
-fn unknown_word_reason(alloc: Global, text: &str) -> Made<String> {
+/// The texts of all words.
+fn word_texts(alloc: Global) -> Made<Vec<&'static str>> {
     let mut texts = Vec::new(alloc);
     for word in &words(alloc)? {
         texts.push(word.text())?;
     }
-    let near = nearest(alloc, text, &texts)?;
-    let question = proposal(alloc, near, "")?;
-    match near {
+    Ok(texts)
+}
+
+/// That a text is no word, with the nearest one.
+fn unknown_word_reason(alloc: Global, text: &str) -> Made<String> {
+    let near = nearest(alloc, text, &word_texts(alloc)?)?;
+    let sentence = match near {
         Some(word) if text.eq_ignore_ascii_case(word) => {
-            format!(in alloc; "unknown word; words are case-sensitive{question}")
+            "unknown word; words are case-sensitive"
         }
-        _ => format!(in alloc; "unknown word{question}"),
-    }
+        _ => "unknown word",
+    };
+    proposing(alloc, sentence, near, "")
 }
 
 /// Why a field is no variable. `wanted` is said if it is none with small letters either.
@@ -214,8 +219,8 @@ fn softint_reason(alloc: Global, softints: &[Value], field: &str) -> Made<String
         return String::from_str(alloc, "the file has no software interrupt");
     }
     let names: Vec<&str> = softints.iter().map(name_of).collect(alloc)?;
-    let question = question(alloc, field.trim_matches('"'), &names, "\"")?;
-    format!(in alloc; "the file has no software interrupt of this name{question}")
+    let sentence = "the file has no software interrupt of this name";
+    proposing_nearest(alloc, sentence, field.trim_matches('"'), &names, "\"")
 }
 
 /// `1 argument`, `2 arguments`.
@@ -265,7 +270,7 @@ impl Line<'_> {
             Kind::NameOrNone => field == "0" || quoted_in(field).is_some(),
             Kind::Softint => match quoted_in(field) {
                 None => false,
-                Some(name) => has_named(self.softints, name.as_str()),
+                Some(name) => position_named(self.softints, name.as_str()).is_some(),
             },
         }
     }

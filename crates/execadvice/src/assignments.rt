@@ -28,24 +28,31 @@ fn word_for_change(operator: &str) -> Option<&'static str> {
     word_for(operator.strip_suffix("=")?)
 }
 
+/// The word and its arguments that are meant by the parts of a line that calculates without a word, as `x = y + 1` and `x += 1`.
+fn calculation<'a>(parts: &[&'a str]) -> Option<(&'static str, &'a str, &'a str)> {
+    match parts {
+        [_, equals, one, operator, other] if *equals == "=" => {
+            Some((word_for(*operator)?, *one, *other))
+        }
+        [target, operator, value] if is_variable(*target) => {
+            Some((word_for_change(*operator)?, *target, *value))
+        }
+        _ => None,
+    }
+}
+
 /// What is meant by the parts of a line that sets a variable without a word, as `x = 5`, `x = y + 1` and `x += 1`.
 pub fn missing_word(alloc: Global, parts: &[&str]) -> Made<Option<String>> {
-    match parts {
-        [target, equals, value] if *equals == "=" && is_value(*value) => {
-            Ok(Some(format!(in alloc; "{target} = Set {value}")?))
+    let target = parts.first().copied().unwrap_or("");
+    if let [_, equals, value] = parts {
+        if *equals == "=" && is_value(*value) {
+            return Ok(Some(format!(in alloc; "{target} = Set {value}")?));
         }
-        [target, equals, one, operator, other] if *equals == "=" => match word_for(*operator) {
-            Some(word) if is_value(*one) && is_value(*other) => {
-                Ok(Some(format!(in alloc; "{target} = {word} {one} {other}")?))
-            }
-            _ => Ok(None),
-        },
-        [target, operator, value] => match word_for_change(*operator) {
-            Some(word) if is_variable(*target) && is_value(*value) => {
-                Ok(Some(format!(in alloc; "{target} = {word} {target} {value}")?))
-            }
-            _ => Ok(None),
-        },
+    }
+    match calculation(parts) {
+        Some((word, one, other)) if is_value(one) && is_value(other) => {
+            Ok(Some(format!(in alloc; "{target} = {word} {one} {other}")?))
+        }
         _ => Ok(None),
     }
 }

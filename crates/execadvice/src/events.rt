@@ -6,10 +6,10 @@ ghost use Rattle.execadvice.specs.Findings.{fault_of};
 use crate::escaped::is_hidden;
 use crate::file::first_line;
 use crate::made::Made;
-use crate::near::{are_digits, question};
+use crate::near::{are_digits, proposing_nearest};
 use crate::show::{Advice, Span, field_span, width_of};
 use crate::spacing::hidden_advice;
-use crate::text::{Text, text_or_nothing};
+use crate::text::{Text, is_line_feed, text_or_nothing};
 use std::alloc::{AllocError, Global};
 use std::str::from_utf8;
 use taskscript::{EventFault, read_events};
@@ -43,8 +43,8 @@ fn source_reason(alloc: Global, name: &str) -> Made<String> {
             "VERTB comes with each tick; PORTS and EXTER are asked for by irq",
         );
     }
-    let question = question(alloc, name, &["PORTS", "EXTER"], "")?;
-    format!(in alloc; "expected PORTS or EXTER here{question}")
+    let sources = ["PORTS", "EXTER"];
+    proposing_nearest(alloc, "expected PORTS or EXTER here", name, &sources, "")
 }
 
 /// What is wrong with the spaces of a line, or with its end.
@@ -85,25 +85,33 @@ fn is_of_machine_file(line: &str) -> bool {
 
 /// Why the first word of a line begins no event.
 fn word_reason(alloc: Global, word: &str) -> Made<String> {
-    let question = question(alloc, word, &["run", "tick", "irq"], "")?;
-    format!(in alloc; "a line is run N, tick N or irq S{question}")
+    let words = ["run", "tick", "irq"];
+    proposing_nearest(alloc, "a line is run N, tick N or irq S", word, &words, "")
 }
 
 /// Why the parts of a line are no event, and which of them.
 fn parts_advice(alloc: Global, line: &str) -> Made<Advice> {
     let (word, rest) = line.split_once(" ").unwrap_or((line, ""));
-    let (part, reason) = if rest.contains("#") {
-        (1, format!(in alloc; "a comment has a line of its own")?)
-    } else if rest.contains(" ") {
-        (2, format!(in alloc; "a line ends with its one argument")?)
-    } else if word == "run" || word == "tick" {
-        (1, number_reason(alloc, rest)?)
-    } else if word == "irq" {
-        (1, source_reason(alloc, rest)?)
-    } else {
-        (0, word_reason(alloc, word)?)
+    if rest.contains("#") {
+        return Advice::new(
+            alloc,
+            field_span(line, 1),
+            "a comment has a line of its own",
+        );
+    }
+    if rest.contains(" ") {
+        return Advice::new(
+            alloc,
+            field_span(line, 2),
+            "a line ends with its one argument",
+        );
+    }
+    let (part, reason) = match word {
+        "run" | "tick" => (1, number_reason(alloc, rest)),
+        "irq" => (1, source_reason(alloc, rest)),
+        _ => (0, word_reason(alloc, word)),
     };
-    Ok(Advice::of_field(line, part, reason))
+    Ok(Advice::of_field(line, part, reason?))
 }
 
 /// Why a line is no event.
@@ -148,7 +156,7 @@ fn limit_reason(steps: u64, ticks: u64, events: u64) -> Option<&'static str> {
 /// The number of the line, from 1, that is past a limit, and which.
 fn past_limit(bytes: &[u8]) -> Option<(usize, &'static str)> {
     let (mut steps, mut ticks, mut events) = (0u64, 0u64, 0u64);
-    for (i, line) in bytes.split(|b| *b == 10).enumerate() {
+    for (i, line) in bytes.split(is_line_feed).enumerate() {
         let line = from_utf8(line).unwrap_or("#");
         if !line.is_empty() && !line.starts_with("#") {
             steps = steps.saturating_add(amount(line, "run "));

@@ -1,7 +1,7 @@
 //! The keys of the tables of a machine file, what each may hold, in words, and what is likely meant by another one.
 
 use crate::made::Made;
-use crate::near::{nearest, proposal};
+use crate::near::{nearest, proposing};
 use std::alloc::Global;
 use taskscript::{Array, Key, TablePlace};
 use toml::Table;
@@ -61,7 +61,7 @@ fn key_texts(alloc: Global, of: TablePlace) -> Made<Vec<&'static str>> {
 pub fn unknown_key(alloc: Global, of: TablePlace, table: &Table) -> Made<&str> {
     let keys = key_texts(alloc, of)?;
     for (key, _value) in table {
-        if !keys.iter().any(|one| key.as_str() == *one) {
+        if !keys.contains(&key.as_str()) {
             return Ok(key.as_str());
         }
     }
@@ -91,7 +91,7 @@ const OTHER_KEYS: [(&str, &str); 16] = [
 /// The first of some keys that is likely meant by a name of another system.
 fn key_meant(name: &str, keys: &[&str]) -> Option<&'static str> {
     for row in &OTHER_KEYS {
-        if name.eq_ignore_ascii_case(row.0) && keys.iter().any(|key| *key == row.1) {
+        if name.eq_ignore_ascii_case(row.0) && keys.contains(&row.1) {
             return Some(row.1);
         }
     }
@@ -105,8 +105,8 @@ pub fn unknown_key_reason(alloc: Global, of: TablePlace, key: &str) -> Made<Stri
         Some(meant) => Some(meant),
         None => nearest(alloc, key, &keys)?,
     };
-    let question = proposal(alloc, near, "")?;
+    let fault = proposing(alloc, "unknown key in this table", near, "")?;
     let its = if near.is_some() { " Its" } else { "; its" };
     let list = keys.join(alloc, ", ")?;
-    format!(in alloc; "unknown key in this table{question}{its} keys are {list}")
+    format!(in alloc; "{fault}{its} keys are {list}")
 }

@@ -1,7 +1,7 @@
 //! Labels that are twice in a body, and jumps to labels that it lacks.
 
 use crate::made::Made;
-use crate::near::question;
+use crate::near::proposing_nearest;
 use crate::said::{Said, label_of, said_by};
 use crate::show::{Advice, Span, width_of};
 use std::alloc::Global;
@@ -62,8 +62,13 @@ fn astray_reason(alloc: Global, labels: &[Label<'_>], said: &Said<'_>, name: &st
         return format!(in alloc; "the label is last; did you mean {word} {name} {first}?");
     }
     let names: Vec<&str> = labels.iter().map(|label| label.name).collect(alloc)?;
-    let question = question(alloc, name, &names, "")?;
-    format!(in alloc; "the body has no label of this name{question}")
+    proposing_nearest(
+        alloc,
+        "the body has no label of this name",
+        name,
+        &names,
+        "",
+    )
 }
 
 /// What is wrong with a line if it jumps to a label that is none of these.

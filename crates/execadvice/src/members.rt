@@ -16,9 +16,9 @@ pub fn name_of(item: &Value) -> &str {
     }
 }
 
-/// Whether one of the items has that name.
-pub fn has_named(items: &[Value], name: &str) -> bool {
-    items.iter().any(|item| name == name_of(item))
+/// The number, from 0, of the first of some items that has that name.
+pub fn position_named(items: &[Value], name: &str) -> Option<usize> {
+    items.iter().position(|item| name == name_of(item))
 }
 
 /// The bytes that the regions of a file may have together, by its version.

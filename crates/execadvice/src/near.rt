@@ -38,15 +38,21 @@ pub fn nearest<'a>(alloc: Global, text: &str, among: &[&'a str]) -> Made<Option<
     Ok(found)
 }
 
-/// The question that proposes a text, with that quote before and after it, or nothing.
-pub fn proposal(alloc: Global, near: Option<&str>, quote: &str) -> Made<String> {
+/// A sentence, and after it the question that proposes a text, if there is one, with that quote before and after the text.
+pub fn proposing(alloc: Global, sentence: &str, near: Option<&str>, quote: &str) -> Made<String> {
     match near {
-        None => Ok(String::new(alloc)),
-        Some(text) => format!(in alloc; "; did you mean {quote}{text}{quote}?"),
+        None => String::from_str(alloc, sentence),
+        Some(text) => format!(in alloc; "{sentence}; did you mean {quote}{text}{quote}?"),
     }
 }
 
-/// The question that proposes the nearest of some texts, or nothing if none is near.
-pub fn question(alloc: Global, text: &str, among: &[&str], quote: &str) -> Made<String> {
-    proposal(alloc, nearest(alloc, text, among)?, quote)
+/// A sentence, and after it the question that proposes the nearest of some texts, if one is near.
+pub fn proposing_nearest(
+    alloc: Global,
+    sentence: &str,
+    text: &str,
+    among: &[&str],
+    quote: &str,
+) -> Made<String> {
+    proposing(alloc, sentence, nearest(alloc, text, among)?, quote)
 }

@@ -15,6 +15,11 @@ pub struct Text<'a> {
     pub bytes: &'a [u8],
 }
 
+/// Whether a byte ends a line.
+pub fn is_line_feed(byte: &u8) -> bool {
+    *byte == b'\n'
+}
+
 /// Bytes as text; what is no text is shown as the empty line.
 pub fn text_or_nothing(line: &[u8]) -> &str {
     from_utf8(line).unwrap_or("")
@@ -34,7 +39,7 @@ impl<'a> Text<'a> {
     /// The line of a number, from 1.
     pub fn line(&self, number: usize) -> &'a [u8] {
         self.bytes
-            .split(|byte| *byte == b'\n')
+            .split(is_line_feed)
             .nth(number.saturating_sub(1))
             .unwrap_or(&[])
     }

@@ -4,7 +4,7 @@ use crate::escaped::shown_name;
 use crate::file::{File, item_word, name_at};
 use crate::keys::{unknown_key, unknown_key_reason, wanted_of};
 use crate::made::Made;
-use crate::members::name_of;
+use crate::members::position_named;
 use crate::regions::unfit_region;
 use crate::written::Part;
 use std::alloc::Global;
@@ -149,8 +149,7 @@ impl<'a> File<'_, 'a> {
     /// The first item that has a name, in the arrays in which it may be before that of an item of one: the key of its array, and its number from 0.
     fn first_named(&self, array: Array, name: &str) -> Option<(&'static str, usize)> {
         for other in named_arrays(array) {
-            let items = items_at(&self.table, other.key());
-            if let Some(before) = items.iter().position(|item| name == name_of(item)) {
+            if let Some(before) = position_named(items_at(&self.table, other.key()), name) {
                 return Some((other.key(), before));
             }
         }

@@ -1,10 +1,10 @@
 //! What an accepted file most likely does not mean: it refuses nothing.
 
-use crate::bodies::{Body, bodies_in};
+use crate::bodies::{Body, Spoken, bodies_in};
 use crate::labels::labels_of;
 use crate::made::Made;
 use crate::members::{member_of, name_of};
-use crate::near::{nearest, proposal};
+use crate::near::{nearest, proposing};
 use crate::show::{Advice, Span, field_span};
 use crate::variables::{Variables, is_shared, is_variable};
 use std::alloc::Global;
@@ -30,8 +30,8 @@ struct Warnings {
 }
 
 impl Warnings {
-    fn push(&mut self, place: LinePlace, span: Span, reason: &str) -> Made<()> {
-        let advice = Advice::new(self.alloc, span, reason)?;
+    fn push(&mut self, place: LinePlace, span: Span, reason: String) -> Made<()> {
+        let advice = Advice { span, reason };
         self.list.push(Warning { place, advice })?;
         Ok(())
     }
@@ -51,41 +51,63 @@ fn shared_in<'a>(alloc: Global, bodies: &[Body<'a>]) -> Made<Variables<'a>> {
     Ok(set)
 }
 
-/// Adds a warning for each variable that a body reads and that is none of those that are set: the shared ones that any body sets, those that this
-/// body sets, and those with a warning.
-fn add_unset_in<'a>(out: &mut Warnings, body: &Body<'a>, set: &mut Variables<'a>) -> Made<()> {
-    set.leave_body(out.alloc);
+/// Adds the variables that a body sets.
+fn add_targets<'a>(set: &mut Variables<'a>, body: &Body<'a>) -> Made<()> {
     for one in &body.spoken {
         if let Some(name) = one.said.target {
             set.add(name)?;
         }
     }
-    for one in &body.spoken {
-        for (part, field) in &one.said.read_values(out.alloc)? {
-            let name = *field;
-            if is_variable(name) && !set.has(name) {
-                set.add(name)?;
-                let reason = format!(in out.alloc; "{name} is read and never set, so it is 0")?;
-                out.push(one.place, field_span(one.line, *part), reason.as_str())?;
-            }
+    Ok(())
+}
+
+/// Adds a warning for each variable that a line reads and that is none of those that are set, and takes it as set from then on.
+fn add_unset_at<'a>(out: &mut Warnings, one: &Spoken<'a>, set: &mut Variables<'a>) -> Made<()> {
+    for (part, field) in &one.said.read_values(out.alloc)? {
+        let name = *field;
+        if is_variable(name) && !set.has(name) {
+            set.add(name)?;
+            let reason = format!(in out.alloc; "{name} is read and never set, so it is 0")?;
+            out.push(one.place, field_span(one.line, *part), reason)?;
         }
     }
     Ok(())
 }
 
-/// Adds a warning for each label of a body to which nothing jumps.
-fn add_unused(out: &mut Warnings, body: &Body<'_>) -> Made<()> {
-    let mut jumps = HashSet::new(out.alloc);
+/// Adds a warning for each variable that a body reads and that is none of those that are set: the shared ones that any body sets, those that its own
+/// body sets, and those with a warning.
+fn add_unset<'a>(out: &mut Warnings, bodies: &[Body<'a>]) -> Made<()> {
+    let mut set = shared_in(out.alloc, bodies)?;
+    for body in bodies {
+        set.leave_body(out.alloc);
+        add_targets(&mut set, body)?;
+        for one in &body.spoken {
+            add_unset_at(out, one, &mut set)?;
+        }
+    }
+    Ok(())
+}
+
+/// The names of the labels to which the lines of a body jump.
+fn jumps_in<'a>(alloc: Global, body: &Body<'a>) -> Made<HashSet<&'a str>> {
+    let mut jumps = HashSet::new(alloc);
     for one in &body.spoken {
         if let Some((_, name)) = one.said.jump() {
             jumps.insert(name)?;
         }
     }
+    Ok(jumps)
+}
+
+/// Adds a warning for each label of a body to which nothing jumps.
+fn add_unused(out: &mut Warnings, body: &Body<'_>) -> Made<()> {
+    let jumps = jumps_in(out.alloc, body)?;
     for label in &labels_of(out.alloc, body.lines)? {
         if !jumps.contains(label.name) {
             let line = label.line;
             let place = LinePlace { line, ..body.place };
-            out.push(place, label.span(), "nothing jumps to this label")?;
+            let reason = String::from_str(out.alloc, "nothing jumps to this label")?;
+            out.push(place, label.span(), reason)?;
         }
     }
     Ok(())
@@ -98,11 +120,12 @@ fn start_of(task: &Value) -> Option<bool> {
 
 /// Adds a warning for each task that is not added at the start.
 fn add_never_run(out: &mut Warnings, tasks: &[Value]) -> Made<()> {
-    let reason = "this task never runs: its start is false, and no line has AddTask";
+    let sentence = "this task never runs: its start is false, and no line has AddTask";
     for (item, task) in tasks.iter().enumerate() {
         if start_of(task) == Some(false) {
             let (owner, line) = (Owner::Task, 0);
             let span = Span { start: 0, width: 1 };
+            let reason = String::from_str(out.alloc, sentence)?;
             out.push(LinePlace { owner, item, line }, span, reason)?;
         }
     }
@@ -140,26 +163,52 @@ fn quoted_at<'a>(
     Ok(found)
 }
 
-/// Adds a warning for each line that asks for a name which is none of these, with the nearest of them, until too many pairs were compared.
-fn add_unknown(out: &mut Warnings, asked: &[Quoted<'_>], names: &[&str], what: &str) -> Made<()> {
-    let mut known = HashSet::new(out.alloc);
-    let mut among = Vec::new(out.alloc);
-    for name in names {
-        if known.insert(*name)? {
-            among.push(*name)?;
+/// Some names: each once in their order, and as a set.
+#[derive(Drop)]
+struct Names<'a> {
+    list: Vec<&'a str>,
+    set: HashSet<&'a str>,
+}
+
+impl<'a> Names<'a> {
+    /// These names.
+    fn new(alloc: Global, names: &[&'a str]) -> Made<Names<'a>> {
+        let mut found = Names {
+            list: Vec::new(alloc),
+            set: HashSet::new(alloc),
+        };
+        for name in names {
+            if found.set.insert(*name)? {
+                found.list.push(*name)?;
+            }
         }
+        Ok(found)
     }
+
+    /// The name that is nearest to another, unless more pairs than these are to be compared for it.
+    fn nearest(&self, alloc: Global, name: &str, pairs: &mut usize) -> Made<Option<&'a str>> {
+        if self.list.len() > *pairs {
+            return Ok(None);
+        }
+        *pairs = pairs.saturating_sub(self.list.len());
+        nearest(alloc, name, &self.list)
+    }
+}
+
+/// Adds a warning for each line that asks for a name which is none of these, with the nearest of them, until too many pairs were compared.
+fn add_unknown(
+    out: &mut Warnings,
+    asked: &[Quoted<'_>],
+    names: &[&str],
+    sentence: &str,
+) -> Made<()> {
+    let names = Names::new(out.alloc, names)?;
     let mut pairs = MOST_PAIRS;
     for one in asked {
-        if !known.contains(one.name) {
-            let mut near = None;
-            if among.len() <= pairs {
-                pairs = pairs.saturating_sub(among.len());
-                near = nearest(out.alloc, one.name, &among)?;
-            }
-            let question = proposal(out.alloc, near, "\"")?;
-            let reason = format!(in out.alloc; "{what} of this name{question}")?;
-            out.push(one.place, one.span, reason.as_str())?;
+        if !names.set.contains(one.name) {
+            let near = names.nearest(out.alloc, one.name, &mut pairs)?;
+            let reason = proposing(out.alloc, sentence, near, "\"")?;
+            out.push(one.place, one.span, reason)?;
         }
     }
     Ok(())
@@ -170,14 +219,14 @@ fn add_unknown_ports(out: &mut Warnings, bodies: &[Body<'_>]) -> Made<()> {
     let given = quoted_at(out.alloc, bodies, Word::Ports(PortWord::AddPort), 1)?;
     let names: Vec<&str> = given.iter().map(|one| one.name).collect(out.alloc)?;
     let asked = quoted_at(out.alloc, bodies, Word::Ports(PortWord::FindPort), 0)?;
-    add_unknown(out, &asked, &names, "no line adds a port")
+    add_unknown(out, &asked, &names, "no line adds a port of this name")
 }
 
 /// Adds a warning for each name that FindTask asks for, and no task has.
 fn add_unknown_tasks(out: &mut Warnings, bodies: &[Body<'_>], tasks: &[Value]) -> Made<()> {
     let names: Vec<&str> = tasks.iter().map(name_of).collect(out.alloc)?;
     let asked = quoted_at(out.alloc, bodies, Word::Tasks(TaskWord::FindTask), 0)?;
-    add_unknown(out, &asked, &names, "the file has no task")
+    add_unknown(out, &asked, &names, "the file has no task of this name")
 }
 
 /// Whether a line of some bodies has AddTask.
@@ -186,6 +235,19 @@ fn add_tasks(bodies: &[Body<'_>]) -> bool {
     bodies
         .iter()
         .any(|body| body.spoken.iter().any(|one| one.said.word == word))
+}
+
+/// Adds the warnings of a file with these bodies and tasks.
+fn add_all(out: &mut Warnings, bodies: &[Body<'_>], tasks: &[Value]) -> Made<()> {
+    add_unset(out, bodies)?;
+    for body in bodies {
+        add_unused(out, body)?;
+    }
+    if !add_tasks(bodies) {
+        add_never_run(out, tasks)?;
+    }
+    add_unknown_ports(out, bodies)?;
+    add_unknown_tasks(out, bodies, tasks)
 }
 
 /// What is worth a warning in a file that is accepted, each by the line, the part of it, and why; in this order:
@@ -197,22 +259,10 @@ fn add_tasks(bodies: &[Body<'_>]) -> bool {
 /// - names that FindPort asks for, and no AddPort gives, and names that FindTask asks for, and no task has.
 pub fn warnings_of(alloc: Global, table: &Table) -> Made<Vec<Warning>> {
     let bodies = bodies_in(alloc, table)?;
-    let tasks = items_at(table, "task");
     let mut out = Warnings {
         alloc,
         list: Vec::new(alloc),
     };
-    let mut set = shared_in(alloc, &bodies)?;
-    for body in &bodies {
-        add_unset_in(&mut out, body, &mut set)?;
-    }
-    for body in &bodies {
-        add_unused(&mut out, body)?;
-    }
-    if !add_tasks(&bodies) {
-        add_never_run(&mut out, tasks)?;
-    }
-    add_unknown_ports(&mut out, &bodies)?;
-    add_unknown_tasks(&mut out, &bodies, tasks)?;
+    add_all(&mut out, &bodies, items_at(table, "task"))?;
     Ok(out.list)
 }

@@ -32,7 +32,7 @@ fn run_buffered<R: Env + Files + AllocGlobal, W: Write + Drop, E: Write>(
 {
     let alloc = rt.alloc();
     let arguments: Vec<String> = env::args(rt)?.skip(1).collect(alloc)?;
-    let words: Vec<&str> = arguments.iter().map(|word| word.as_str()).collect(alloc)?;
+    let words: Vec<&str> = arguments.iter().map(String::as_str).collect(alloc)?;
     let mut out = Paged::new(BufWriter::with_capacity(alloc, OUTPUT_BUFFER, out)?);
     let status = run(rt, alloc, &words, &mut out, err);
     // All was flushed by now, or a write failed: what is left then is not handed over once more.

@@ -15,7 +15,7 @@ use std::io;
 use std::io::Write;
 
 /// The two paths of a command line.
-#[derive(Clone, Copy, Debug)]
+#[derive(Clone, Copy)]
 pub struct Paths<'a> {
     /// Where the machine file is.
     pub machine: &'a str,

@@ -11,7 +11,7 @@ use std::io;
 use std::io::Write;
 
 /// The status with which the program ends.
-#[derive(Clone, Copy, Debug, PartialEq, Eq)]
+#[derive(Clone, Copy)]
 pub enum Status {
     /// The machine ran to its end, or the help was printed.
     Done = 0,
@@ -35,7 +35,7 @@ impl Status {
 }
 
 /// How the program ends.
-#[derive(Debug, Drop)]
+#[derive(Drop)]
 pub enum Ending<'a> {
     /// The machine ran to its end, or the help was printed.
     Done,

@@ -6,7 +6,7 @@ use std::fmt;
 use taskscript::{EventFault, FileFault};
 
 /// Why a run did not come to its end. Its `Display` is what the program says of it.
-#[derive(Debug, Drop)]
+#[derive(Drop)]
 pub enum Fault<'a> {
     /// The machine file was refused.
     Machine(FileFault),

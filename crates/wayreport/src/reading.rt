@@ -8,20 +8,17 @@ use crate::report::{Found, Part, Report};
 use crate::text::report_text;
 use std::alloc::{AllocError, AllocFailed, Global};
 use taskscript::{Event, EventFault, read_events};
-use thiserror::Error;
 use ways::actions_of;
 
 /// How many actions a way may have: those of the longest event text and a few more.
 const MOST_ACTIONS: u64 = 2_100_008;
 
 /// Why a text is no report.
-#[derive(Clone, Copy, Debug, PartialEq, Eq, Error)]
+#[derive(Clone, Copy)]
 pub enum ReportFault {
     /// Memory was refused.
-    #[error("no memory")]
     OutOfMemory,
     /// The text is not what a search prints.
-    #[error("it is no report")]
     NotAReport,
 }
 
@@ -69,11 +66,9 @@ fn after<'a>(text: &'a str, front: &str) -> Result<&'a str, ReportFault> {
     }
 }
 
-/// A copy of a text.
-fn owned(alloc: Global, text: &str) -> Result<String, AllocError> {
-    let mut copy = String::new(alloc);
-    copy.push_str(text)?;
-    Ok(copy)
+/// What is between the front of a text and the first mark after it, and what is after the mark.
+fn between<'a>(text: &'a str, front: &str, mark: &str) -> Result<(&'a str, &'a str), ReportFault> {
+    cut(after(text, front)?, mark)
 }
 
 /// What is before the last comma of the first line, of which the number of outcomes follows.
@@ -86,7 +81,7 @@ fn title_in(line: &str) -> Result<&str, ReportFault> {
 
 /// The part that a line names, as `part 2 of 4: 226 ways`.
 fn part_in(line: &str) -> Result<Part, ReportFault> {
-    let (number, rest) = cut(after(line, "part ")?, " of ")?;
+    let (number, rest) = between(line, "part ", " of ")?;
     let (of, rest) = cut(rest, ": ")?;
     let (ways, _) = cut(rest, " way")?;
     Ok(Part {
@@ -98,13 +93,13 @@ fn part_in(line: &str) -> Result<Part, ReportFault> {
 
 /// The outcome that a line begins, as `outcome 3: 71 ways, first run 1, tick 1`, of which nothing was seen yet.
 fn found_on(alloc: Global, line: &str) -> Result<Found, ReportFault> {
-    let (_, rest) = cut(after(line, "outcome ")?, ": ")?;
+    let (_, rest) = between(line, "outcome ", ": ")?;
     let (ways, first) = cut(rest, ", first ")?;
     let (count, _) = cut(ways, " way")?;
     Ok(Found {
         seen: Vec::new(alloc),
         count: number_in(count)?,
-        first: owned(alloc, first)?,
+        first: String::from_str(alloc, first)?,
     })
 }
 
@@ -134,28 +129,59 @@ fn found_in(alloc: Global, text: &str) -> Result<Vec<Found>, ReportFault> {
     Ok(found)
 }
 
+/// What is in the lines before the outcomes, and what is after them.
+#[derive(Clone, Copy)]
+struct Head<'a> {
+    title: &'a str,
+    part: Option<Part>,
+    machine: &'a str,
+    events: &'a str,
+    see: &'a str,
+    alerts: u64,
+    after: &'a str,
+}
+
+/// The part that the next line names, if it names one, and what is after that line.
+fn part_before(text: &str) -> Result<(Option<Part>, &str), ReportFault> {
+    let (line, rest) = cut(text, "\n")?;
+    if line.starts_with("part ") {
+        Ok((Some(part_in(line)?), rest))
+    } else {
+        Ok((None, text))
+    }
+}
+
+/// The lines before the outcomes.
+fn head_in(text: &str) -> Result<Head<'_>, ReportFault> {
+    let (line, rest) = cut(text, "\n")?;
+    let title = title_in(line)?;
+    let (part, rest) = part_before(rest)?;
+    let (machine, rest) = between(rest, "machine file: SHA-256 ", "\n")?;
+    let (events, rest) = between(rest, "event text: SHA-256 ", "\n")?;
+    let (see, rest) = between(rest, "seen of a way: ", "\n")?;
+    let (alerts, after) = between(rest, "ways that end in an alert: ", "\n")?;
+    Ok(Head {
+        title,
+        part,
+        machine,
+        events,
+        see,
+        alerts: number_in(alerts)?,
+        after,
+    })
+}
+
 /// The report that a text has, if it is one.
 fn report_in(alloc: Global, text: &str) -> Result<Report, ReportFault> {
-    let (line, rest) = cut(text, "\n")?;
-    let title = owned(alloc, title_in(line)?)?;
-    let (line, after_part) = cut(rest, "\n")?;
-    let (part, rest) = if line.starts_with("part ") {
-        (Some(part_in(line)?), after_part)
-    } else {
-        (None, rest)
-    };
-    let (machine, rest) = cut(after(rest, "machine file: SHA-256 ")?, "\n")?;
-    let (events, rest) = cut(after(rest, "event text: SHA-256 ")?, "\n")?;
-    let (see, rest) = cut(after(rest, "seen of a way: ")?, "\n")?;
-    let (alerts, rest) = cut(after(rest, "ways that end in an alert: ")?, "\n")?;
+    let head = head_in(text)?;
     Ok(Report {
-        title,
-        machine: owned(alloc, machine)?,
-        events: owned(alloc, events)?,
-        see: owned(alloc, see)?,
-        part,
-        alerts: number_in(alerts)?,
-        found: found_in(alloc, rest)?,
+        title: String::from_str(alloc, head.title)?,
+        machine: String::from_str(alloc, head.machine)?,
+        events: String::from_str(alloc, head.events)?,
+        see: String::from_str(alloc, head.see)?,
+        part: head.part,
+        alerts: head.alerts,
+        found: found_in(alloc, head.after)?,
     })
 }
 

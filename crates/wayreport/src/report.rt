@@ -18,7 +18,7 @@ pub struct Found {
 }
 
 /// Which part of the ways a report is of.
-#[derive(Clone, Copy, Debug, PartialEq, Eq)]
+#[derive(Clone, Copy)]
 pub struct Part {
     /// The number of the part, from 1.
     pub number: u32,
@@ -51,13 +51,10 @@ pub struct Report {
 fn found_in(alloc: Global, outcome: &Outcome) -> Result<Found, AllocError>
     ensures { IfOk result (λ found. found_view found ≡ told (entry_of outcome.now)) }
 {
-    let mut seen = Vec::new(alloc);
-    seen.extend_from_slice(outcome.seen.as_slice())?;
-    let first = first_text(alloc, outcome.first.as_slice())?;
     Ok(Found {
-        seen,
+        seen: Vec::from_slice(alloc, outcome.seen.as_slice())?,
         count: outcome.count,
-        first,
+        first: first_text(alloc, outcome.first.as_slice())?,
     })
 }
 

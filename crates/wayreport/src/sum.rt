@@ -8,31 +8,23 @@ ghost use Rattle.wayreport.specs.Sums.{IsPartOf, IsSum, is_numbered, outcomes_in
 use crate::report::{Found, Part, Report};
 use crate::total::Total;
 use std::alloc::{AllocError, AllocFailed, Global};
-use thiserror::Error;
 
 /// Why reports have no sum. A report is named by its place among those given, from 0.
-#[derive(Clone, Copy, Debug, PartialEq, Eq, Error)]
+#[derive(Clone, Copy, Debug, PartialEq)]
 pub enum SumFault {
     /// Memory was refused.
-    #[error("no memory")]
     OutOfMemory,
     /// There is no report.
-    #[error("no report is given")]
     NoReport,
     /// A report is of all ways, and not of a part.
-    #[error("report {0} is of the whole")]
     IsWhole(usize),
     /// A report is of another search than the first: of other texts, or with other options.
-    #[error("report {0} is of another search")]
     IsOther(usize),
     /// No report is of the part of this number.
-    #[error("part {0} is missing")]
     IsMissing(u32),
     /// Two reports are of the same part; this is the second.
-    #[error("report {0} is of a part that was given before")]
     IsRepeated(usize),
     /// The counts have a sum of more than 64 bits.
-    #[error("too many ways")]
     TooManyWays,
 }
 
@@ -154,15 +146,6 @@ fn alerts_of(reports: &[Report]) -> Result<u64, SumFault>
     Ok(alerts)
 }
 
-/// A copy of a text.
-fn copied_text(alloc: Global, text: &String) -> Result<String, AllocError>
-    ensures { IfOk result (λ copy. string_bytes copy ≡ string_bytes text.now) }
-{
-    let mut copy = String::new(alloc);
-    copy.push_str(text.as_str())?;
-    Ok(copy)
-}
-
 /// A report of the whole with no outcome, of the search that another report is of.
 fn whole_of(alloc: Global, report: &Report) -> Result<Report, AllocError>
     ensures title { IfOk result (λ whole. string_bytes whole.title ≡ string_bytes report.now.title) }
@@ -172,10 +155,10 @@ fn whole_of(alloc: Global, report: &Report) -> Result<Report, AllocError>
     ensures part { IfOk result (λ whole. whole.part ≡ None) }
 {
     Ok(Report {
-        title: copied_text(alloc, &report.title)?,
-        machine: copied_text(alloc, &report.machine)?,
-        events: copied_text(alloc, &report.events)?,
-        see: copied_text(alloc, &report.see)?,
+        title: report.title.clone()?,
+        machine: report.machine.clone()?,
+        events: report.events.clone()?,
+        see: report.see.clone()?,
         part: None,
         alerts: 0,
         found: Vec::new(alloc),

@@ -35,24 +35,6 @@ impl Model for Total {
     ghost view = { λ t. entries_in t.tallies.entries };
 }
 
-/// A copy of what was seen.
-fn copied_seen(alloc: Global, seen: &[u8]) -> Result<Vec<u8>, AllocError>
-    ensures { IfOk result (λ copy. copy.items ≡ seen.now) }
-{
-    let mut copy = Vec::new(alloc);
-    copy.extend_from_slice(seen)?;
-    Ok(copy)
-}
-
-/// A copy of the text of a way.
-fn copied_first(alloc: Global, first: &String) -> Result<String, AllocError>
-    ensures { IfOk result (λ copy. string_bytes copy ≡ string_bytes first.now) }
-{
-    let mut copy = String::new(alloc);
-    copy.push_str(first.as_str())?;
-    Ok(copy)
-}
-
 impl Total {
     /// The outcomes of no part.
     pub fn new(alloc: Global) -> Total
@@ -75,8 +57,8 @@ impl Total {
             }
             return Ok(());
         }
-        let seen = copied_seen(alloc, text)?;
-        let first = copied_first(alloc, &one.first)?;
+        let seen = Vec::from_slice(alloc, text)?;
+        let first = one.first.clone()?;
         let count = one.count;
         self.tallies.insert(seen, Tally { count, first })?;
         Ok(())

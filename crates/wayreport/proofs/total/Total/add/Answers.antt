@@ -30,6 +30,6 @@ returns c =
     let before = c.self.inside.tallies.entries in
     ap entries_in c.in_ok-insert.ensures.entries
     ∙ (ap (λ (m : IndexMap (Vec ℕ) Tally _). entries_in (insert_entry (λ (a b : Vec ℕ). bytes_eq a.items b.items) m.entries c.in_ok-seen.seen tally)) c.get_mut.follows.holds-at-none
-    ∙ (opened one before c.in_ok-seen.seen tally (sym c.in_default.ensures.value) c.in_ok-seen.ensures refl c.in_ok-first.ensures
+    ∙ (opened one before c.in_ok-seen.seen tally (sym c.in_default.ensures.value) c.in_ok-seen.ensures.items refl c.in_ok-first.ensures.cases
     ∙ (ap (λ t. added t one) c.self.view_is
     ∙ ap (λ (s : List ℕ). added c.args.self.now (record { seen = s; count = count; first = first })) c.as_slice-text.ensures.value)))
