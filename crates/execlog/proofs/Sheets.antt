@@ -1,9 +1,11 @@
 -- Texts that are copied as a fixed number of bytes at once.
-use Rattle.std.proofs.Common.{◌≡◌, ◌≤◌, ◌+◌, ◌-◌, ℕ, List, [], ◌++◌, length, take, drop, replicate, ap, sym, ◌∙◌, append-nil, append_assoc, length-drop, arith}
-use Rattle.std.proofs.lemmas.List.{drop-append-le, drop-drop, drop_at, length-append, nil_from_length, take-append-drop, take-take, take_all, take_at}
+use Rattle.std.proofs.Common.{◌≡◌, ◌≤◌, ◌+◌, ◌-◌, ℕ, List, [], ◌++◌, length, take, drop, replicate, refl, ap, sym, ◌∙◌, append-nil, append_assoc, length-drop, arith}
+use Rattle.std.proofs.lemmas.List.{drop-append-le, drop-drop, drop_at, length-append, length-take-le, nil_from_length, take-append-drop, take-take, take_all, take_at}
+use Rattle.std.proofs.lemmas.Simd.{put_chunk_is}
 use Rattle.std.proofs.Math.Seq.{drop-append-add, take-add, take-append-add}
 use Rattle.execlog.proofs.Laying.{spaces_taken}
 use Rattle.execlog.specs.Rows.{IsSheet}
+use lib.Lanes.{put_chunk}
 
 -- ---- writing over bytes
 
@@ -16,6 +18,19 @@ kept_after n m new old le same =
     ∙ ap (drop (m - n)) same
     ∙ drop-drop (m - n) n old
     ∙ ap (λ (k : ℕ). drop k old) (sym whole)
+
+-- what is after bytes that were stored is kept
+pub kept_after_store : (at : ℕ) (room text : List ℕ) → at + length text ≤ length room → drop (at + length text) (put_chunk at room text) ≡ drop (at + length text) room
+kept_after_store at room text within =
+    let n : ℕ = length text in
+    let before : List ℕ = take at room in
+    let first : length before ≡ at = length-take-le at room (omega (arith, within)) in
+    let end : at + n ≡ length before + n = omega (arith, first) in
+    ap (drop (at + n)) (put_chunk_is at room text within)
+    ∙ ap (λ (k : ℕ). drop k (before ++ (text ++ drop n (drop at room)))) end
+    ∙ drop-append-add before (text ++ drop n (drop at room)) n
+    ∙ drop_at text (drop n (drop at room)) n refl
+    ∙ drop-drop n at room
 
 -- the first cells, with a text over those from a place on
 pub pushed_over : (old cells new text : List ℕ) (at len : ℕ) → at + length text ≤ len → take (at + length text) new ≡ take at cells ++ text

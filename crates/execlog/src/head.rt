@@ -1,5 +1,5 @@
 //! The columns of the number and the time of an entry. They are kept from one entry to the next, of which mostly one digit differs.
-ghost use Rattle.std.specs.Prelude.{◌≡◌, ◌∷◌, ◌<◌, ◌++◌, ◌+◌, ◌/◌, drop, length, take, OnOk};
+ghost use Rattle.std.specs.Prelude.{◌≡◌, ◌∷◌, ◌<◌, ◌≤◌, ◌++◌, ◌+◌, ◌-◌, ◌*◌, ◌/◌, drop, length, take, OnOk};
 ghost use Rattle.execlog.specs.Rows.{IsHead, columns};
 
 use crate::rows::{digit, put_column, put_millis};
@@ -21,12 +21,15 @@ pub(crate) struct Head {
     pub(crate) clock: u64,
     /// The number without its last digit.
     tens: u64,
+    /// The number with 0 for its last digit.
+    base: u64,
     room: [u8; ROOM],
     /// Where the columns begin.
     start: usize,
     /// Where the last digit of the number is.
     last: usize,
     ghost is_head: { IsHead number clock tens start last room },
+    ghost based: { base ≡ tens * 10 },
 }
 
 /// Puts a byte in the place of another.
@@ -47,10 +50,12 @@ impl Head {
         let mut room = [b' '; ROOM];
         let from_time = put_millis(&mut room, END, clock);
         let start = put_column(&mut room, from_time, number);
+        let tens = number / 10;
         Head {
             number,
             clock,
-            tens: number / 10,
+            tens,
+            base: tens * 10,
             room,
             start,
             last: from_time - 1,
@@ -60,11 +65,13 @@ impl Head {
     /// Goes on to a number, if it differs in no more than the last digit, and the time is the same.
     #[inline(always)]
     fn count_to(&mut self, number: u64)
-        requires { number / 10 ≡ self.old.tens }
+        requires least { self.old.base ≤ number }
+        requires most { number - self.old.base < 10 }
         ensures number { self.new.number ≡ number }
         ensures clock { self.new.clock ≡ self.old.clock }
     {
-        replace(&mut self.room, self.last, digit(number));
+        let last = (number - self.base) as u8;
+        replace(&mut self.room, self.last, b'0' + last);
         self.number = number;
     }
 
@@ -79,26 +86,35 @@ impl Head {
     {
         replace(&mut self.room, self.last - 1, digit(number / 10));
         replace(&mut self.room, self.last, digit(number));
-        self.tens = number / 10;
+        let tens = number / 10;
+        self.tens = tens;
+        self.base = tens * 10;
         self.number = number;
+    }
+
+    /// Goes on to any number and time.
+    #[cold]
+    #[inline(never)]
+    fn renew(&mut self, number: u64, clock: u64) {
+        *self = Head::of(number, clock);
     }
 
     /// Goes on to a number and a time. If more than two digits differ, nothing is done but `in_any_case`.
     #[inline(always)]
     pub(crate) fn foresee(&mut self, number: u64, clock: u64, in_any_case: bool) {
-        let tens = number / 10;
         if clock == self.clock {
-            if tens == self.tens {
+            if number >= self.base && number - self.base < 10 {
                 self.count_to(number);
                 return;
             }
+            let tens = number / 10;
             if tens / 10 == self.tens / 10 && tens > 0 && self.tens > 0 {
                 self.count_by_tens(number);
                 return;
             }
         }
         if in_any_case {
-            *self = Head::of(number, clock);
+            self.renew(number, clock);
         }
     }
 

@@ -224,7 +224,7 @@ fn push_around(
 }
 
 /// Adds a row: the number and the time, and a line of the trace that is of a command.
-#[inline(never)]
+#[inline(always)]
 pub(crate) fn push_framed(
     page: &mut Vec<u8>,
     head: &Head,
@@ -261,7 +261,7 @@ fn push_text(page: &mut Vec<u8>, text: &[u8]) -> Result<(), AllocError>
 }
 
 /// Adds a row: the number and the time, and a line of the trace that is of no command.
-#[inline(never)]
+#[inline(always)]
 pub(crate) fn push_bare(page: &mut Vec<u8>, head: &Head, text: &[u8]) -> Result<(), AllocError>
     ensures { OnOk result (page.new.items ≡ page.old.items ++ (columns head.now.number head.now.clock ++ (replicate 8 32 ++ (text.now ++ 10 ∷ [])))) }
 {

@@ -1,5 +1,5 @@
 -- The columns were put one after the other.
-use Rattle.std.proofs.Common.{◌≡◌, ◌++◌, ℕ, List, length, ap, ◌∙◌}
+use Rattle.std.proofs.Common.{◌≡◌, ◌++◌, ℕ, List, length, refl, ap, ◌∙◌}
 use Rattle.std.proofs.lemmas.List.{drop-replicate, length-replicate}
 use Rattle.execlog.proofs.Laying.{head_made}
 use Rattle.execlog.specs.Rows.{millis}
@@ -13,4 +13,5 @@ invariant_of-result c =
           c.ranges.number.fits many (c.put_column-start.ensures.room ∙ many)
           (c.put_millis-from_time.ensures.put ∙ ap (λ (l : List ℕ). millis c.args.clock ++ l) (drop-replicate 64 128 32))
           c.put_column-start.ensures.put;
+      based = refl;
     }
