@@ -2,17 +2,22 @@
 ghost use Rattle.std.specs.Prelude.{◌≡◌, ◌∷◌, ◌<◌, ◌≤◌, ◌++◌, ◌+◌, ◌-◌, ◌*◌, ◌/◌, drop, length, take, OnOk};
 ghost use Rattle.execlog.specs.Rows.{IsHead, columns};
 
+use crate::moves::{write_over, write_text};
 use crate::rows::{digit, put_column, put_millis};
+use crate::sheet::{WIDTH as CELLS, push_over};
 use std::alloc::AllocError;
 
 /// How many bytes there is room for.
-const ROOM: usize = 128;
+const ROOM: usize = 192;
 
 /// Where the columns end, so that there is room for the longest, and after which there are spaces.
 const END: usize = 64;
 
 /// How many bytes are copied at once; nearly all columns are shorter.
 const WIDTH: usize = 32;
+
+/// How many bytes a row is copied as before its cells are written, which is enough for columns that are short and all cells.
+const ROW: usize = 128;
 
 /// The columns of a number and a time, with spaces after them.
 #[derive(Clone, Copy)]
@@ -39,6 +44,20 @@ fn replace(room: &mut [u8], at: usize, byte: u8)
     ensures { room.new ≡ take at room.old ++ byte ∷ drop (at + 1) room.old }
 {
     room[at] = byte;
+}
+
+/// Writes cells over a row from a place on, with a text over those from another place on.
+#[inline(always)]
+fn write_row(row: &mut [u8], wide: usize, cells: &[u8; CELLS], at: usize, len: usize, text: &[u8])
+    requires room { wide + 96 ≤ length row.old }
+    requires within { at + length text.now ≤ len }
+    requires few { len ≤ 96 }
+    ensures written { take (wide + len) row.new ≡ take wide row.old
+        ++ (take at cells.now ++ (text.now ++ take (len - (at + length text.now)) (drop (at + length text.now) cells.now))) }
+    ensures room { length row.new ≡ length row.old }
+{
+    write_over(row, wide, cells);
+    write_text(row, wide + at, text);
 }
 
 impl Head {
@@ -130,6 +149,33 @@ impl Head {
         let from = page.len();
         page.extend_from_slice(&self.room[self.start..self.start + WIDTH])?;
         page.truncate(from + len);
+        Ok(())
+    }
+
+    /// Adds the columns and the first cells, that many, with a text over those from a place on.
+    #[inline(always)]
+    pub(crate) fn push_over(
+        &self,
+        page: &mut Vec<u8>,
+        cells: &[u8; CELLS],
+        at: usize,
+        len: usize,
+        text: &[u8],
+    ) -> Result<(), AllocError>
+        requires within { at + length text.now ≤ len }
+        requires few { len ≤ 96 }
+        ensures { OnOk result (page.new.items ≡ page.old.items ++ (columns self.now.number self.now.clock
+            ++ (take at cells.now ++ (text.now ++ take (len - (at + length text.now)) (drop (at + length text.now) cells.now))))) }
+    {
+        let wide = END - self.start;
+        if wide > WIDTH {
+            self.push(page)?;
+            return push_over(page, cells, at, len, text);
+        }
+        let from = page.len();
+        page.extend_from_slice(&self.room[self.start..self.start + ROW])?;
+        write_row(&mut page[from..], wide, cells, at, len, text);
+        page.truncate(from + (wide + len));
         Ok(())
     }
 }
