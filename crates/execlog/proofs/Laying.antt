@@ -168,22 +168,22 @@ pub columns_room : (n clock : ℕ) (rest : List ℕ) → n < 2 ^ 64 → columns 
 columns_room n clock rest small = ap (λ (l : List ℕ). l ++ rest) (columns_stem n clock small) ∙ append_assoc (stem (n / 10)) (digit n ∷ millis clock) rest
 
 -- the columns, as they were put one after the other
-pub head_made : (number clock from start : ℕ) (mid room : List ℕ) → number < 2 ^ 64 → length mid ≡ 128 → length room ≡ 128
-    → drop from mid ≡ millis clock ++ replicate {A = ℕ} 64 32 → drop start room ≡ padded 5 (decimal number) ++ drop from mid
+pub head_made : (number clock from start : ℕ) (mid room : List ℕ) → number < 2 ^ 64 → length mid ≡ 192 → length room ≡ 192
+    → drop from mid ≡ millis clock ++ replicate {A = ℕ} 128 32 → drop start room ≡ padded 5 (decimal number) ++ drop from mid
     → IsHead number clock (number / 10) start (from - 1) room
 head_made number clock from start mid room small many roomy time put =
-    let spaces : List ℕ = replicate {A = ℕ} 64 32 in
+    let spaces : List ℕ = replicate {A = ℕ} 128 32 in
     let s : List ℕ = stem (number / 10) in
     let whole : drop start room ≡ s ++ digit number ∷ (millis clock ++ spaces) =
     put
     ∙ ap (λ (l : List ℕ). padded 5 (decimal number) ++ l) time
     ∙ ap (λ (l : List ℕ). l ++ (millis clock ++ spaces)) (padded_stem number small)
     ∙ append_assoc s (digit number ∷ []) (millis clock ++ spaces) in
-    let long : 64 ≤ length (millis clock ++ spaces) = omega (arith, length-append (millis clock) spaces, length-replicate {A = ℕ} 64 32) in
-    let after : 128 - from ≡ length (millis clock ++ spaces) = omega (arith, many, length-drop from mid, ap length time) in
+    let long : 128 ≤ length (millis clock ++ spaces) = omega (arith, length-append (millis clock) spaces, length-replicate {A = ℕ} 128 32) in
+    let after : 192 - from ≡ length (millis clock ++ spaces) = omega (arith, many, length-drop from mid, ap length time) in
     let parts : length (s ++ digit number ∷ (millis clock ++ spaces)) ≡ length s + suc (length (millis clock ++ spaces)) =
     length-append s (digit number ∷ (millis clock ++ spaces)) in
-    let before : 128 - start ≡ length s + suc (length (millis clock ++ spaces)) = omega (arith, roomy, length-drop start room, ap length whole, parts) in
+    let before : 192 - start ≡ length s + suc (length (millis clock ++ spaces)) = omega (arith, roomy, length-drop start room, ap length whole, parts) in
     record {
       small = small;
       roomy = roomy;
@@ -198,7 +198,7 @@ head_made number clock from start mid room small many roomy time put =
 pub head_counted : {n clock tens start last : ℕ} {room : List ℕ} (m : ℕ) (new : List ℕ) → IsHead n clock tens start last room → m / 10 ≡ tens → m < 2 ^ 64
     → new ≡ take last room ++ digit m ∷ drop (last + 1) room → IsHead m clock tens start last new
 head_counted {n} {clock} {tens} {start} {last} {room} m new head same small put =
-    let rest : List ℕ = millis clock ++ replicate {A = ℕ} 64 32 in
+    let rest : List ℕ = millis clock ++ replicate {A = ℕ} 128 32 in
     let tens' : n / 10 ≡ m / 10 = sym head.tens_are ∙ sym same in
     let inside : start ≤ length room = omega (arith, head.starts, head.roomy) in
     let within : last ≤ length room = omega (arith, head.within, head.roomy) in
@@ -222,7 +222,7 @@ pub head_counted_by_tens : {n clock tens start last : ℕ} {room : List ℕ} (m 
     → mid ≡ take (last - 1) room ++ digit (m / 10) ∷ drop (last - 1 + 1) room
     → new ≡ take last mid ++ digit m ∷ drop (last + 1) mid → IsHead m clock (m / 10) start last new
 head_counted_by_tens {n} {clock} {tens} {start} {last} {room} m mid new head same some some' small put then =
-    let rest : List ℕ = millis clock ++ replicate {A = ℕ} 64 32 in
+    let rest : List ℕ = millis clock ++ replicate {A = ℕ} 128 32 in
     let t : ℕ = n / 10 in
     let u : ℕ = m / 10 in
     let s : List ℕ = before_last 3 (t / 10) in
@@ -247,7 +247,7 @@ head_counted_by_tens {n} {clock} {tens} {start} {last} {room} m mid new head sam
     let first : last - 1 ≤ length room = omega (arith, head.within, head.roomy) in
     let parts : length (take (last - 1) room ++ digit u ∷ drop (last - 1 + 1) room) ≡ length (take (last - 1) room) + suc (length (drop (last - 1 + 1) room)) =
     length-append (take (last - 1) room) (digit u ∷ drop (last - 1 + 1) room) in
-    let roomy : length mid ≡ 128 =
+    let roomy : length mid ≡ 192 =
     omega (arith, ap length put, parts, length-take-le (last - 1) room first, length-drop (last - 1 + 1) room, head.roomy, head.within) in
     let second : last ≤ length mid = omega (arith, head.within, roomy) in
     let parts' : length (take last mid ++ digit m ∷ drop (last + 1) mid) ≡ length (take last mid) + suc (length (drop (last + 1) mid)) =

@@ -61,15 +61,15 @@ pub record IsSheet (before after cells : List ℕ) (at len : ℕ) : Type 0 where
   pub len_is : len ≡ length before + length after
   pub cells_are : take len cells ≡ before ++ after
 
--- The room has, from a place on, the columns of a number and a time and 64 spaces; the last digit of the number is at another place.
+-- The room has, from a place on, the columns of a number and a time and 128 spaces; the last digit of the number is at another place.
 pub record IsHead (number clock tens start last : ℕ) (room : List ℕ) : Type 0 where
   pub small : number < 2 ^ 64
-  pub roomy : length room ≡ 128
+  pub roomy : length room ≡ 192
   pub tens_are : tens ≡ number / 10
   pub starts : start ≤ 64
   pub at_last : last ≡ start + length (stem (number / 10))
   pub within : last < 64
-  pub shows : drop start room ≡ stem (number / 10) ++ digit number ∷ (millis clock ++ replicate 64 32)
+  pub shows : drop start room ≡ stem (number / 10) ++ digit number ∷ (millis clock ++ replicate 128 32)
 
 -- the bytes are spaces up to a place
 abbrev pub IsBlank : ℕ → List ℕ → Type 0

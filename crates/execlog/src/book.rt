@@ -8,6 +8,9 @@ use crate::moment::Actor;
 use std::alloc::{AllocError, Global};
 use taskscript::{Command, Name};
 
+/// How many bytes of names are compared one by one, at most.
+const MOST_BYTES: usize = 8;
+
 /// A command as it is written.
 #[derive(Drop)]
 pub struct Place {
@@ -121,12 +124,13 @@ impl Book {
     /// The software interrupt or server of a name, by its number among both.
     ///
     /// Source: project rule.
+    #[inline(always)]
     pub fn interrupt_named(&self, name: &[u8]) -> Option<usize> {
         let place = self.index.place_of(name);
         match self.interrupts.get(place) {
             None => None,
             Some(body) => {
-                if body.name.as_str().as_bytes() == name {
+                if is_same(body.name.as_str().as_bytes(), name) {
                     Some(place)
                 } else {
                     place_named(&self.interrupts, name)
@@ -141,6 +145,23 @@ impl Book {
     pub fn task_named(&self, name: &[u8]) -> Option<usize> {
         place_named(&self.tasks, name)
     }
+}
+
+/// Whether two names are the same. Most are short, and are compared byte by byte.
+#[inline(always)]
+fn is_same(one: &[u8], other: &[u8]) -> bool {
+    if one.len() != other.len() {
+        return false;
+    }
+    if one.len() > MOST_BYTES {
+        return one == other;
+    }
+    for i in 0..one.len() {
+        if one[i] != other[i] {
+            return false;
+        }
+    }
+    true
 }
 
 /// The place of the first body of a name.

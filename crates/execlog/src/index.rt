@@ -9,6 +9,7 @@ pub(crate) struct Index {
 }
 
 /// The mark of a name: names that are numbered have different ones.
+#[inline(always)]
 fn mark_of(name: &[u8]) -> u8 {
     match name.split_last() {
         None => 0,
@@ -35,6 +36,7 @@ impl Index {
     }
 
     /// The number of a body that may have a name.
+    #[inline(always)]
     pub(crate) fn place_of(&self, name: &[u8]) -> usize {
         (self.slots[mark_of(name) as usize] as usize).saturating_sub(1)
     }

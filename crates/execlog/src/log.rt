@@ -34,8 +34,9 @@ pub enum LogFault {
     Write,
 }
 
-/// How many bytes of rows are put together, or a few more.
-const MOST_KEPT: usize = 2_048;
+/// How many bytes of rows are put together, or a few more: more than a buffer before a file keeps, so that they are not copied once more, and
+/// enough for a file to take them in few writes.
+const MOST_KEPT: usize = 524_288;
 
 /// What is kept from one entry to the next.
 #[derive(Drop)]

@@ -1,6 +1,8 @@
 //! Texts that are written over bytes, most of them in two moves of one width.
 ghost use Rattle.std.specs.Prelude.{◌≡◌, ◌≤◌, ◌++◌, ◌+◌, drop, length, take};
 
+use std::simd::prelude::*;
+
 /// Writes a text over bytes from a place on.
 #[inline(always)]
 pub(crate) fn write_over(room: &mut [u8], at: usize, text: &[u8])
@@ -12,8 +14,7 @@ pub(crate) fn write_over(room: &mut [u8], at: usize, text: &[u8])
     room[at..at + text.len()].copy_from_slice(text);
 }
 
-/// Writes a text, as long as that width, over bytes from a place on. All of it is read before the first byte is written, so that nothing asks at
-/// run time whether they overlap.
+/// Writes a text, as long as that width, over bytes from a place on, by one load and one store.
 #[inline(always)]
 fn write_block<const WIDTH: usize>(room: &mut [u8], at: usize, text: &[u8])
     requires within { at + length text.now ≤ length room.old }
@@ -22,9 +23,7 @@ fn write_block<const WIDTH: usize>(room: &mut [u8], at: usize, text: &[u8])
     ensures after { drop (at + length text.now) room.new ≡ drop (at + length text.now) room.old }
     ensures room { length room.new ≡ length room.old }
 {
-    if let Ok(block) = <[u8; WIDTH]>::try_from(text) {
-        write_over(room, at, &block);
-    }
+    Simd::<u8, WIDTH>::from_slice(text).copy_to_slice(&mut room[at..]);
 }
 
 /// Writes a text over bytes from a place on, by its first bytes and by its last ones, of that width.

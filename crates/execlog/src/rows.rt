@@ -5,7 +5,7 @@ ghost use Rattle.execlog.specs.Rows.{IsBlank, IsSheet, columns, digit, front, li
 use crate::frame::Frame;
 use crate::head::Head;
 use crate::moment::Moment;
-use crate::sheet::{Sheet, WIDTH, push_over};
+use crate::sheet::{Sheet, WIDTH};
 use itoa::write_digits;
 use std::alloc::AllocError;
 
@@ -199,8 +199,7 @@ fn push_on_sheet(
     ensures { OnOk result (page.new.items ≡ page.old.items ++ (columns head.now.number head.now.clock ++ (frame.now.before.items
         ++ (text.now ++ drop (frame.now.gap - (frame.now.gap - length text.now)) frame.now.after.items)))) }
 {
-    head.push(page)?;
-    push_over(page, &sheet.cells, sheet.at, sheet.len, text)
+    head.push_over(page, &sheet.cells, sheet.at, sheet.len, text)
 }
 
 /// Adds a row: the number and the time, and a line of the trace within what is around it.
@@ -224,7 +223,7 @@ fn push_around(
 }
 
 /// Adds a row: the number and the time, and a line of the trace that is of a command.
-#[inline(never)]
+#[inline(always)]
 pub(crate) fn push_framed(
     page: &mut Vec<u8>,
     head: &Head,
@@ -247,26 +246,26 @@ pub(crate) fn push_framed(
     }
 }
 
-/// Adds an empty column of a line, and a line of the trace.
+/// Adds the number and the time, an empty column of a line, and a line of the trace.
 #[inline(always)]
-fn push_text(page: &mut Vec<u8>, text: &[u8]) -> Result<(), AllocError>
-    ensures { OnOk result (page.new.items ≡ page.old.items ++ (replicate 8 32 ++ text.now)) }
+fn push_text(page: &mut Vec<u8>, head: &Head, text: &[u8]) -> Result<(), AllocError>
+    ensures { OnOk result (page.new.items ≡ page.old.items ++ (columns head.now.number head.now.clock ++ (replicate 8 32 ++ text.now))) }
 {
     let len = text.len();
     if len <= MOST_BARE {
-        return push_over(page, &SPACES, 8, 8 + len, text);
+        return head.push_over(page, &SPACES, 8, 8 + len, text);
     }
+    head.push(page)?;
     page.extend_from_slice(&SPACES[..8])?;
     page.extend_from_slice(text)
 }
 
 /// Adds a row: the number and the time, and a line of the trace that is of no command.
-#[inline(never)]
+#[inline(always)]
 pub(crate) fn push_bare(page: &mut Vec<u8>, head: &Head, text: &[u8]) -> Result<(), AllocError>
     ensures { OnOk result (page.new.items ≡ page.old.items ++ (columns head.now.number head.now.clock ++ (replicate 8 32 ++ (text.now ++ 10 ∷ [])))) }
 {
-    head.push(page)?;
-    push_text(page, text)?;
+    push_text(page, head, text)?;
     page.push(b'\n')?;
     Ok(())
 }

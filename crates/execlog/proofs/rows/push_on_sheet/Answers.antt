@@ -1,5 +1,5 @@
 -- The line is over the spaces of the sheet.
-use Rattle.std.proofs.Common.{◌≤◌, ◌+◌, ◌-◌, List, ℕ, length, take, drop, ap, ◌++◌, ◌∙◌, append_assoc, arith}
+use Rattle.std.proofs.Common.{◌≤◌, ◌+◌, List, ℕ, length, ap, ◌++◌, ◌∙◌, arith}
 use Rattle.execlog.proofs.Logging.{whole_then}
 use Rattle.execlog.proofs.Sheets.{sheet_row}
 use Rattle.execlog.specs.Rows.{columns}
@@ -12,10 +12,6 @@ returns c =
     let cols : List ℕ = columns c.args.head.now.number c.args.head.now.clock in
     let few : n ≤ c.args.frame.now.gap = omega (arith, c.requires.short, c.requires.sheet.0) in
     let within : s.at + n ≤ s.len = omega (arith, c.requires.short, s.fits) in
-    let over : List ℕ = take s.at s.cells ++ (c.args.text.now ++ take (s.len - (s.at + n)) (drop (s.at + n) s.cells)) in
     whole_then c.push_over.result
-    (λ e. e
-    ∙ ap (λ (l : List ℕ). l ++ over) c.in_ok-push.ensures
-    ∙ append_assoc c.args.page.now.items cols over
-    ∙ ap (λ (l : List ℕ). c.args.page.now.items ++ (cols ++ l)) (sheet_row c.args.frame.now.gap c.args.text.now c.requires.sheet.1 few within))
+    (λ e. e ∙ ap (λ (l : List ℕ). c.args.page.now.items ++ (cols ++ l)) (sheet_row c.args.frame.now.gap c.args.text.now c.requires.sheet.1 few within))
     c.push_over.ensures

@@ -10,11 +10,11 @@ use Rattle.execlog.proofs.head.Head.push.Goals as goal
 pub returns-then-len-gt-WIDTH : goal.returns-then-len-gt-WIDTH
 returns-then-len-gt-WIDTH c =
     let h = c.args.self.now in
-    let spaces : List ℕ = replicate {A = ℕ} 64 32 in
+    let spaces : List ℕ = replicate {A = ℕ} 128 32 in
     let cols : List ℕ = columns h.number h.clock in
     let shows = h.is_head.shows ∙ sym (columns_room h.number h.clock spaces h.is_head.small) in
     let long : length cols ≡ 64 - h.start =
-    columns_length h.room cols spaces h.start shows 64 (omega (arith, h.is_head.roomy, length-replicate {A = ℕ} 64 32)) h.is_head.starts in
+    columns_length h.room cols spaces h.start shows 64 (omega (arith, h.is_head.roomy, length-replicate {A = ℕ} 128 32)) h.is_head.starts in
     whole_then c.extend_from_slice.result
     (λ e. e ∙ ap (λ (l : List ℕ). c.args.page.now.items ++ l) (columns_taken h.room cols spaces h.start shows (64 - h.start) long))
     (made_whole _ _ c.extend_from_slice.result c.extend_from_slice.ensures.items)
@@ -22,11 +22,11 @@ returns-then-len-gt-WIDTH c =
 pub returns : goal.returns
 returns c =
     let h = c.args.self.now in
-    let spaces : List ℕ = replicate {A = ℕ} 64 32 in
+    let spaces : List ℕ = replicate {A = ℕ} 128 32 in
     let cols : List ℕ = columns h.number h.clock in
     let shows = h.is_head.shows ∙ sym (columns_room h.number h.clock spaces h.is_head.small) in
     let long : length cols ≡ 64 - h.start =
-    columns_length h.room cols spaces h.start shows 64 (omega (arith, h.is_head.roomy, length-replicate {A = ℕ} 64 32)) h.is_head.starts in
+    columns_length h.room cols spaces h.start shows 64 (omega (arith, h.is_head.roomy, length-replicate {A = ℕ} 128 32)) h.is_head.starts in
     let old : List ℕ = c.args.page.now.items in
     let from : c.len-from.result ≡ length old = c.len-from.ensures ∙ c.args.page.now.ok.0 in
     let within : 64 - h.start ≤ h.start + 32 - h.start = omega (arith, c.if-len-gt-WIDTH.false) in
