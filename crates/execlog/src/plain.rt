@@ -195,7 +195,7 @@ impl Plain<'_> {
     ) -> Result<(), AllocError>
         ensures { OnOk result (Gains (LaysOut (ShowsAll self.now.filter) heading.entry.moment.now None text.now) page.old.items page.new.items) }
     {
-        match cut_first(text) {
+        match cut_line(text) {
             None => push_rest(page, text),
             Some((line, rest)) => {
                 let mut cursor = cursor;

@@ -200,6 +200,7 @@ impl<S: ListSpace> Machine<S> {
     /// As those of `event`.
     ///
     /// Source: project rule.
+    #[inline(always)]
     pub fn advance<W: Sink>(&mut self, more: u32, out: &mut W) -> Result<u32, WriteFault>
         requires going { self.old.failed ≡ false }
         requires good { (W.tape out.old).state ≡ SinkState.Good }

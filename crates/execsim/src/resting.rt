@@ -90,7 +90,7 @@ impl<S: ListSpace> Kernel<S> {
     }
 
     /// The same of steps that print nothing.
-    #[inline(never)]
+    #[inline(always)]
     fn silent_steps(&mut self, most: u32) -> u32
         requires { IsSettled self.old }
         ensures within { result ≤ most }
@@ -141,6 +141,7 @@ impl<S: ListSpace> Kernel<S> {
     /// One step, and those after it that ask nothing of Exec and print nothing; at most that many of these. The answer is how many these were.
     /// The machine is settled before and after if `rests` says so; it does if the machine did plain words that print nothing, since others then
     /// often follow.
+    #[inline(always)]
     pub(crate) fn advance<W: Sink>(&mut self, rests: &mut bool, more: u32, out: &mut W) -> u32
         requires agree { IsInOrder self.old }
         requires settled { rests.old ≡ true → IsSettled self.old }
