@@ -8,7 +8,7 @@ use Rattle.std.specs.FinMap.Entries.{find-put}
 use Rattle.std.proofs.lemmas.Cmp.{nat_cmp_total}
 use Rattle.memlist.specs.Fit.{fit, round}
 use Rattle.memlist.specs.Memory.{IsWellFormed, Memory, allocated, without_block}
-use Rattle.memlist.proofs.Addresses.{fitted_fresh}
+use Rattle.memlist.proofs.Fitting.{fitted_fresh}
 use Rattle.memlist.proofs.Answered.{cases_eq, key_same, nat_eq-other}
 use Rattle.execlib.specs.declared.library.Loaded.{Loaded}
 use Rattle.execlist.specs.Answers.{kept_or}

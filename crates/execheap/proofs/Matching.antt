@@ -11,7 +11,7 @@ use Rattle.std.proofs.lemmas.List.{get_or-set_same, get_or-set_other, length-set
 use Rattle.memlist.specs.Blocks.{Blocks, block_at, freed}
 use Rattle.memlist.specs.Fit.{fit, round}
 use Rattle.memlist.specs.Memory.{Memory, IsWellFormed}
-use Rattle.memlist.proofs.Addresses.{fitted_fresh}
+use Rattle.memlist.proofs.Fitting.{fitted_fresh}
 use Rattle.memlist.proofs.Answered.{cases_eq, key_other, key_same, nat_eq-other}
 use Rattle.memlist.proofs.Keeping.{rising_sorted}
 use Rattle.execlib.specs.Libraries.{library_tag}

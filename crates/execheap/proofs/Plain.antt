@@ -7,7 +7,7 @@ use Rattle.std.specs.Ordering.{nat_cmp}
 use Rattle.memlist.specs.Blocks.{Blocks, block_at}
 use Rattle.memlist.specs.Fit.{fit, round}
 use Rattle.memlist.specs.Memory.{Memory, IsWellFormed, allocated, can_free, names, without_block}
-use Rattle.memlist.proofs.Addresses.{fitted_fresh}
+use Rattle.memlist.proofs.Fitting.{fitted_fresh}
 use Rattle.memlist.proofs.Headers.{from_eq}
 use Rattle.execlib.specs.Libraries.{library_tag}
 use Rattle.execmodel.specs.State as state

@@ -1,6 +1,5 @@
 -- A name is found among the nodes of all libraries exactly if the first library of that name is; and how these nodes are made.
-use Rattle.std.proofs.Common.{◌≡◌, ℕ, zero, suc, ◌+◌, ◌<◌, ◌≤◌, Bool, cond, List, [], ◌∷◌, ◌++◌, length, map, slice_index_or, slice_set, take, refl, sym, ap, ◌∙◌, arith, Option, Some, None}
-use Rattle.std.specs.Prelude.{bytes_eq, find}
+use Rattle.std.proofs.Common.{◌≡◌, ℕ, suc, ◌+◌, ◌<◌, ◌≤◌, Bool, cond, List, [], ◌∷◌, ◌++◌, length, map, slice_index_or, slice_set, take, refl, sym, ap, ◌∙◌, arith, Option, Some, None, bytes_eq, find}
 use Rattle.std.specs.List.{position_from, range_with_len}
 use Rattle.std.proofs.lemmas.List.{get_or-map, get_or-set_other, take_more, take_more_set}
 use Rattle.execlist.specs.Lists.{Key, blank, home, is_named, name_is}
@@ -29,19 +28,6 @@ found name libraries =
     ∙ ap (λ (key : Key). name_is key.name name) (get_or-map key_of libraries k no_library blank small))
 
 -- ---- making
-
-one_more_from : (a n : ℕ) → range_with_len a (suc n) ≡ range_with_len a n ++ (a + n) ∷ []
-one_more_from a zero = ap (λ k. k ∷ []) (omega arith)
-one_more_from a (suc n) =
-    let same : a + 1 + n ≡ a + suc n = omega arith in
-    ap (λ l. a ∷ l) (one_more_from (a + 1) n ∙ ap (λ k. range_with_len (a + 1) n ++ k ∷ []) same)
-
--- one more number
-pub one_more : (n : ℕ) → numbers (n + 1) ≡ numbers n ++ n ∷ []
-one_more n =
-    let more : n + 1 ≡ suc n = omega arith in
-    let place : 0 + n ≡ n = omega arith in
-    ap (range_with_len 0) more ∙ one_more_from 0 n ∙ ap (λ k. range_with_len 0 n ++ k ∷ []) place
 
 -- the nodes after the one that is linked are where they were
 pub still_nowhere : (homes : List (Option ℕ)) (i : ℕ) → ((t : ℕ) → i ≤ t → home homes t ≡ None)

@@ -1,7 +1,5 @@
 -- A node that is put into a list, or taken out of it.
-use Rattle.std.proofs.Common.{◌≡◌, ℕ, zero, suc, ◌<◌, List, [], ◌∷◌, ◌++◌, length, set, refl, sym, ap, subst, ◌∙◌, arith}
-use Rattle.std.proofs.lemmas.List.{get_or-set_same, get_or-set_other}
-use lib.ListN.{length-set}
+use Rattle.std.proofs.Common.{◌≡◌, ℕ, zero, suc, ◌<◌, List, [], ◌∷◌, ◌++◌, length, set, refl, sym, ap, subst, ◌∙◌, arith, length-set, get_or-set_same, get_or-set_other}
 use Rattle.execlist.specs.Links.{Link, no_link, link_at, set_next, set_prev, set_home, linked, unlinked}
 use Rattle.execlist.specs.Chains.{Follows, Misses, Apart, AtHome, Below}
 

@@ -1,6 +1,5 @@
 -- The definitions compute: small cases that hold by computing both sides.
-use Rattle.std.specs.Prelude.{◌≡◌, ℕ, ℤ, pos, negsuc, [], ◌∷◌, Some, None, slice_index_or}
-use Rattle.std.proofs.Common.{refl}
+use Rattle.std.proofs.Common.{refl, ◌≡◌, ℕ, ℤ, pos, negsuc, [], ◌∷◌, Some, None, slice_index_or}
 use Rattle.execlist.specs.Order.{chosen, order, without}
 
 -- the priorities 0, 5, 0, -128, 127, 5

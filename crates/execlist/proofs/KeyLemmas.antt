@@ -1,7 +1,6 @@
 -- The keys of the nodes of a space, of which the first are stored.
-use Rattle.std.proofs.Common.{◌≡◌, ℕ, zero, suc, ◌+◌, ◌-◌, ◌<◌, ◌≤◌, List, [], ◌∷◌, ◌++◌, length, get_or, set, map, replicate, refl, sym, ap, ◌∙◌, arith, append_assoc}
+use Rattle.std.proofs.Common.{◌≡◌, ℕ, zero, suc, ◌+◌, ◌-◌, ◌<◌, ◌≤◌, List, [], ◌∷◌, ◌++◌, length, get_or, set, map, replicate, refl, sym, ap, ◌∙◌, arith, append_assoc, Option, None, Some, slice_get}
 use Rattle.std.proofs.lemmas.List.{length-map, length-append, length-replicate, replicate-append-replicate, replicate_more, map-append, length-set, map-set}
-use Rattle.std.specs.Prelude.{Option, None, Some, slice_get}
 use Rattle.execlist.specs.Lists.{Key, blank, key_at}
 use Rattle.execlist.specs.DigestKeys.{digest_key_of, digest_keys_of, keys_in}
 use Rattle.execlist.specs.declared.digest.DigestKey.{DigestKey}

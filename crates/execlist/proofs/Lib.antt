@@ -8,15 +8,11 @@ mod Computed
 pub mod Values
 pub mod Cells
 pub mod Rows
-pub mod Rooms
 pub mod Steps
 pub mod Memory
-pub mod Sharing
 pub mod Chains
 pub mod Linked
 pub mod Read
 pub mod Empty
 pub mod LinkLemmas
 pub mod KeyLemmas
-pub mod Fresh
-pub mod PoolResets

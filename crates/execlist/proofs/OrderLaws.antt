@@ -1,13 +1,10 @@
 -- The laws of `order` and `chosen`.
-use Rattle.std.proofs.Common.{◌≡◌, ℕ, zero, suc, ◌<◌, Bool, true, false, cond, not, eqb, List, [], ◌∷◌, length, get_or, refl, sym, ◌∙◌, ap, arith, Option, Some, None, MatchOption, All}
-use Rattle.std.specs.Prelude.{ℤ, ◌≤ℤ◌, ◌<ℤ◌, int_lt, filter, fold, slice_index_or, find}
+use Rattle.std.proofs.Common.{◌≡◌, ℕ, zero, suc, ◌<◌, Bool, true, false, cond, not, eqb, List, [], ◌∷◌, length, get_or, refl, sym, ◌∙◌, ap, arith, Option, Some, None, MatchOption, All, ℤ, ◌≤ℤ◌, ◌<ℤ◌, int_lt, filter, fold, slice_index_or, find}
 use Rattle.std.specs.List.{AllByRecursion}
 use Rattle.std.proofs.lemmas.Grind.{fold-append}
-use Rattle.std.proofs.lemmas.List.Elements.{filter_passes}
-use Rattle.std.proofs.lemmas.Bool.{both_ways, not-true, eq-eqb}
+use Rattle.std.proofs.lemmas.List.Elements.{filter_passes, All-head, All-tail}
+use Rattle.std.proofs.lemmas.Bool.{both_ways, not-true, eq-eqb, cond-true, cond-false}
 use Rattle.std.proofs.lemmas.Int.{ints}
-use Rattle.std.proofs.lemmas.Bool.{cond-true, cond-false}
-use Rattle.std.proofs.lemmas.List.Elements.{All-head, All-tail}
 use Rattle.execlist.specs.Order.{OrderTakesArrival, is_lower, enqueue, order, first, chosen, chosen_or, IsEarliestGreatest, OrderLeavesOut, FirstOfOrderIsChosen, ChosenIsEarliestGreatest, OrderReadsMembersKeys, FoundInOrderIsChosen, without, OrderRekeyed}
 
 lt_trans : (a b c : ℤ) → int_lt a b ≡ true → int_lt b c ≡ true → int_lt a c ≡ true
@@ -16,10 +13,10 @@ lt_trans a b c p q = grind (arith, ints)
 le_lt : (a b c : ℤ) → int_lt a b ≡ false → int_lt a c ≡ true → int_lt b c ≡ true
 le_lt a b c p q = grind (arith, ints)
 
-le_trans : (a b c : ℤ) → int_lt a b ≡ false → int_lt b c ≡ false → int_lt a c ≡ false
+pub le_trans : (a b c : ℤ) → int_lt a b ≡ false → int_lt b c ≡ false → int_lt a c ≡ false
 le_trans a b c p q = grind (arith, ints)
 
-lt_le : (a b : ℤ) → int_lt a b ≡ true → int_lt b a ≡ false
+pub lt_le : (a b : ℤ) → int_lt a b ≡ true → int_lt b a ≡ false
 lt_le a b p = grind (arith, ints)
 
 lt_from : (a b : ℤ) → int_lt a b ≡ true → a <ℤ b
@@ -31,7 +28,7 @@ le_from a b p = grind (arith, ints)
 le_le : (a b c : ℤ) → a ≤ℤ b → b ≤ℤ c → a ≤ℤ c
 le_le a b c p q = omega (arith, ints)
 
-not_self : (a : ℤ) → int_lt a a ≡ false
+pub not_self : (a : ℤ) → int_lt a a ≡ false
 not_self a = grind (arith, ints)
 
 le_self : (a : ℤ) → a ≤ℤ a

@@ -1,6 +1,5 @@
 -- Walks by `next_place` and `prev_place` meet a whole sequence, and end.
-use Rattle.std.proofs.Common.{◌≡◌, ℕ, zero, suc, ◌+◌, ◌<◌, ◌≤◌, Bool, true, false, cond, List, [], ◌∷◌, ◌++◌, length, refl, sym, ap, ◌∙◌, subst, arith, Option, Some, None, append_assoc}
-use Rattle.std.specs.Prelude.{map, reverse}
+use Rattle.std.proofs.Common.{◌≡◌, ℕ, zero, suc, ◌+◌, ◌<◌, ◌≤◌, Bool, true, false, cond, List, [], ◌∷◌, ◌++◌, length, refl, sym, ap, ◌∙◌, subst, arith, Option, Some, None, append_assoc, map, reverse}
 use Rattle.std.proofs.lemmas.Bool.{cond-true, cond-false, eq-eqb, eqb-true}
 use Rattle.std.proofs.lemmas.List.{reverse-reverse, reverse-append, length-reverse, append-nil}
 use Rattle.execlist.specs.Order.{first}
@@ -15,7 +14,7 @@ ends : (step : Place → Option Place) (most : ℕ) → places_met step most Non
 ends step zero = refl
 ends step (suc most) = refl
 
-at_home : (o : Option ℕ) (h : ℕ) → is_at o h ≡ true → o ≡ Some h
+pub at_home : (o : Option ℕ) (h : ℕ) → is_at o h ≡ true → o ≡ Some h
 at_home None h e = cc
 at_home (Some k) h e = ap (λ n. Some n) (eqb-true k h e)
 

@@ -1,13 +1,11 @@
 -- The list of all linked nodes, when a node is put in or taken out.
-use Rattle.std.proofs.Common.{◌≡◌, ◌≢◌, ℕ, zero, suc, ◌+◌, ◌-◌, ◌<◌, ◌≤◌, Bool, true, false, cond, not, eqb, List, [], ◌∷◌, ◌++◌, length, get_or, take, drop, map, refl, sym, ◌∙◌, ap, arith, inl, inr, Option, Some, None, is_some, append_assoc, replicate, length-append, length-take, length-drop, add-one}
-use Rattle.std.specs.Prelude.{ℤ, slice_set, insert, remove, All, ◌⊎◌, slice_index, IfSome}
+use Rattle.std.proofs.Common.{◌≡◌, ◌≢◌, ℕ, zero, suc, ◌+◌, ◌-◌, ◌<◌, ◌≤◌, Bool, true, false, cond, not, eqb, List, [], ◌∷◌, ◌++◌, length, get_or, take, drop, map, refl, sym, ◌∙◌, ap, arith, inl, inr, Option, Some, None, is_some, append_assoc, replicate, length-append, length-take, length-drop, add-one, slice_set, insert, remove, All, ◌⊎◌, slice_index, IfSome}
 use Rattle.std.specs.List.{range_with_len}
 use Rattle.std.proofs.lemmas.Bool.{cond-true, cond-false, eqb-true, eqb-false, eq-eqb, ne_eqb, cases_eq, cases_lt}
-use Rattle.std.proofs.lemmas.List.{get_or-set_same, get_or-set_other, length-set}
-use Rattle.std.proofs.lemmas.List.{same_lists, take-append-drop, take_all, drop_all, get_or_past, append-nil, set-get_or, get_or_read}
+use Rattle.std.proofs.lemmas.List.{get_or-set_same, get_or-set_other, length-set, same_lists, take-append-drop, get_or_past, append-nil, set-get_or, get_or_read}
 use Rattle.std.proofs.lemmas.List.Elements.{filter-append, filter_more}
 use Rattle.std.proofs.lemmas.List.FromFn.{length-map-range_with_len, get_or-map-range_with_len}
-use Rattle.execlist.specs.Order.{enqueue, first, without}
+use Rattle.execlist.specs.Order.{first, without}
 use Rattle.execlist.specs.Lists.{home, is_at, times, sequence, part_before, part_after, put_after, last}
 use Rattle.execlist.specs.Plain.{nodes_of, sequences_of, linked_count, IsSpace}
 
@@ -66,7 +64,13 @@ times-append n (x ∷ xs) ys = by_case (eqb x n) (times-append n xs ys) where
 pub times_same : (n : ℕ) (xs : List ℕ) → times n (n ∷ xs) ≡ suc (times n xs)
 times_same n xs = cond-true _ _ _ (eq-eqb n n refl)
 
-times_other : (n m : ℕ) (xs : List ℕ) → m ≢ n → times m (n ∷ xs) ≡ times m xs
+pub times_later : (t x : ℕ) (xs : List ℕ) → times t xs ≤ times t (x ∷ xs)
+times_later t x xs = by_case (eqb x t) where
+  by_case : (b : Bool) → times t xs ≤ cond b (suc (times t xs)) (times t xs)
+  by_case true = omega arith
+  by_case false = omega arith
+
+pub times_other : (n m : ℕ) (xs : List ℕ) → m ≢ n → times m (n ∷ xs) ≡ times m xs
 times_other n m xs ne = cond-false _ _ _ (ne_eqb n m (λ e. ne (sym e)))
 
 times_at : (xs : List ℕ) (k d : ℕ) → k < length xs → 0 < times (get_or xs k d) xs
@@ -76,6 +80,19 @@ times_at (x ∷ xs) (suc k) d l = by_case (eqb x (get_or xs k d)) (times_at xs k
   by_case : (b : Bool) → 0 < times (get_or xs k d) xs → 0 < cond b (suc (times (get_or xs k d) xs)) (times (get_or xs k d) xs)
   by_case true ih = omega arith
   by_case false ih = ih
+
+-- One more number.
+pub range_more : (a n : ℕ) → range_with_len a (suc n) ≡ range_with_len a n ++ (a + n) ∷ []
+range_more a zero = ap (λ k. k ∷ []) (omega arith)
+range_more a (suc n) =
+    let same : a + 1 + n ≡ a + suc n = omega arith in
+    ap (λ l. a ∷ l) (range_more (a + 1) n ∙ ap (λ k. range_with_len (a + 1) n ++ k ∷ []) same)
+
+pub one_more : (n : ℕ) → range_with_len 0 (n + 1) ≡ range_with_len 0 n ++ n ∷ []
+one_more n =
+    let more : n + 1 ≡ suc n = omega arith in
+    let place : 0 + n ≡ n = omega arith in
+    ap (range_with_len 0) more ∙ range_more 0 n ∙ ap (λ k. range_with_len 0 n ++ k ∷ []) place
 
 -- The parts round a place.
 split_at : (all : List ℕ) (i : ℕ) → take i all ++ drop i all ≡ all
@@ -266,12 +283,29 @@ parts_fresh all i n l e once =
     let t = times-append n (take i all) (n ∷ drop (suc i) all) in let r = ap (times n) (split_round all i n l e) in let o = times_same n (drop (suc i) all) in
     (omega arith, omega arith)
 
-without_fresh : (n : ℕ) (xs : List ℕ) → times n xs ≡ 0 → without n xs ≡ xs
+pub without_fresh : (n : ℕ) (xs : List ℕ) → times n xs ≡ 0 → without n xs ≡ xs
 without_fresh n [] e = refl
 without_fresh n (x ∷ xs) e = by_case (eqb x n) e (without_fresh n xs) where
   by_case : (b : Bool) → cond b (suc (times n xs)) (times n xs) ≡ 0 → (times n xs ≡ 0 → without n xs ≡ xs) → cond (not b) (x ∷ without n xs) (without n xs) ≡ x ∷ xs
   by_case true z ih = absurd (omega arith)
   by_case false z ih = ap (λ l. x ∷ l) (ih z)
+
+pub times_without : (n : ℕ) (xs : List ℕ) → times n (without n xs) ≡ 0
+times_without n [] = refl
+times_without n (x ∷ xs) = by_case (eqb x n) refl (times_without n xs) where
+  by_case : (b : Bool) → eqb x n ≡ b → times n (without n xs) ≡ 0 → times n (cond (not b) (x ∷ without n xs) (without n xs)) ≡ 0
+  by_case true e ih = ih
+  by_case false e ih = cond-false _ _ _ e ∙ ih
+
+pub times_without_other : (n t : ℕ) (xs : List ℕ) → (t ≡ n → ⊥) → times t (without n xs) ≡ times t xs
+times_without_other n t [] other = refl
+times_without_other n t (x ∷ xs) other = by_case (cases_eq x n) (times_without_other n t xs other) where
+  by_case : (x ≡ n) ⊎ (x ≡ n → ⊥) → times t (without n xs) ≡ times t xs → times t (without n (x ∷ xs)) ≡ times t (x ∷ xs)
+  by_case (inl same) ih =
+      ap (times t) (cond-false _ _ _ (ap not (eq-eqb x n same))) ∙ ih
+      ∙ sym (cond-false _ _ _ (ne_eqb x t (λ e. other (sym e ∙ same))))
+  by_case (inr differs) ih =
+      ap (times t) (cond-true _ _ _ (ap not (ne_eqb x n differs))) ∙ ap (λ k. cond (eqb x t) (suc k) k) ih
 
 pub without_round : (n : ℕ) (xs ys : List ℕ) → times n xs ≡ 0 → times n ys ≡ 0 → without n (xs ++ n ∷ ys) ≡ xs ++ ys
 without_round n xs ys a b =
@@ -334,16 +368,6 @@ module _ (headers : ℕ) (all : List ℕ) (homes : List (Option ℕ)) (i h n : �
   pub put_first : i ≡ 0 → sequences_of headers (insert all i n) (slice_set homes n (Some h)) ≡ slice_set (sequences_of headers all homes) h (n ∷ sequence (sequences_of headers all homes) h)
   put_first e =
       put_sequences (n ∷ sequence (sequences_of headers all homes) h) (ap (λ j. nodes_of homes h (take j all) ++ n ∷ nodes_of homes h (drop j all)) e ∙ ap (λ l. n ∷ l) (sym (sequence_is headers all homes h header)))
-
-  pub put_last : i ≡ length all → sequences_of headers (insert all i n) (slice_set homes n (Some h)) ≡ slice_set (sequences_of headers all homes) h (sequence (sequences_of headers all homes) h ++ n ∷ [])
-  put_last e =
-      let all_of = take_all i all (omega arith) in
-      let none_of = drop_all i all (omega arith) in
-      put_sequences (sequence (sequences_of headers all homes) h ++ n ∷ []) (ap (λ l. nodes_of homes h l ++ n ∷ nodes_of homes h (drop i all)) all_of ∙ ap (λ l. nodes_of homes h all ++ n ∷ nodes_of homes h l) none_of ∙ ap (λ l. l ++ n ∷ []) (sym (sequence_is headers all homes h header)))
-
-  pub put_in_order : (key : ℕ → ℤ) → enqueue key (nodes_of homes h all) n ≡ nodes_of homes h (take i all) ++ n ∷ nodes_of homes h (drop i all) → sequences_of headers (insert all i n) (slice_set homes n (Some h)) ≡ slice_set (sequences_of headers all homes) h (enqueue key (sequence (sequences_of headers all homes) h) n)
-  put_in_order key e =
-      put_sequences (enqueue key (sequence (sequences_of headers all homes) h) n) (sym e ∙ ap (λ q. enqueue key q n) (sym (sequence_is headers all homes h header)))
 
 -- A node after another.
 put_after_held : (homes : List (Option ℕ)) (all : List ℕ) (i h n p : ℕ) → i < length all → get_or all i 0 ≡ p → home homes p ≡ Some h → times p all ≡ 1 → nodes_of homes h (take (suc i) all) ++ n ∷ nodes_of homes h (drop (suc i) all) ≡ put_after (Some p) n (nodes_of homes h all)

@@ -27,9 +27,7 @@ use denote.Triple.Statement.{Contract}
 use Rattle.core.specs.Mem.Slots.Ownership.{slots, owned}
 use Rattle.core.specs.Mem.Slots.{slots_items, slots_filled, slots_ptr, slots_len}
 use Rattle.core.specs.contracts.slots.Slots.from_raw_parts as FR
-use Rattle.core.specs.contracts.slots.Slots.from_raw_parts.Key as from
 use Rattle.core.specs.contracts.slots.Slots.into_raw_parts as IR
-use Rattle.core.specs.contracts.slots.Slots.into_raw_parts.Key as into
 use Rattle.core.proofs.mem.Param.{El, el_x, R}
 use Rattle.core.proofs.slots.Places.{sz}
 use Rattle.core.proofs.slots.Opens.{Sr, words_val, row_val, row_had, row_made}

@@ -1,5 +1,5 @@
 -- The machine values of a block. Assumes `Logic`.
-use Rattle.std.proofs.Common.{◌≡◌, ℕ, List, [], ◌∷◌, ◌++◌, refl, ◌∙◌}
+use Rattle.std.proofs.Common.{◌≡◌, ℕ, List, [], ◌∷◌, ◌++◌, refl, ◌∙◌, zero, suc}
 use seplogic.Ra.Ura.{Ura}
 use mir.Val.{Val, vstruct, vcons, vnil, of_list}
 use base.Logic.{ent, emp}
@@ -11,7 +11,6 @@ use denote.RawPtr.{Ptr, RawPtr, ptr_val}
 use denote.Shadow.{shadow, makes_shadow}
 use denote.Signature.{Slot, plain}
 use denote.Struct.Struct.{Struct}
-use Prim.Native.Nat.{zero, suc}
 
 abbrev pub slot_at : {n : ℕ} → ℕ → List (Slot n) → Slot n
 slot_at k [] = plain (λ _. unit)

@@ -1,5 +1,5 @@
 //! A list space in vectors: one list of all linked nodes, in which the nodes of a header are in their
-//! order, and for each node its header and its key. A call reads that list once or twice from end to end.
+//! order, and for each node its header and its key. A call reads that list once or twice from end to end, and a walk does so for each node.
 ghost use Rattle.std.specs.Prelude.{◌≡◌, ℕ, ◌<◌, ◌≤◌, ◌+◌, List, [], ◌∷◌, ◌++◌, Option, Some, None, true, false, length, insert, remove, slice_set, slice_index, slice_index_or, drop, take, find, map, option_map, All, IfOk, IfSome, IsSome, vec_len, if◌then◌else◌};
 ghost use Rattle.execlist.specs.Order.{first, is_lower, enqueue};
 ghost use Rattle.execlist.specs.Lists.{sequence, blank, part_from, home, pri_of, is_at, is_named, times, last, name_is};
@@ -48,29 +48,6 @@ fn place_of(all: &[NodeId], n: NodeId) -> usize
     unreachable!()
 }
 
-/// The place of the header's first node of lower priority, or the end of the list.
-fn place_for(
-    all: &[NodeId],
-    homes: &[Option<HeaderId>],
-    keys: &[NodeKey],
-    h: HeaderId,
-    n: NodeId,
-) -> usize
-    requires known { All (λ m. m < length homes.now) all.now }
-    requires keyed { length keys.now ≡ length homes.now }
-    requires node { n < length keys.now }
-    ensures within { result ≤ length all.now }
-    ensures value { enqueue (pri_of (keys_of keys.now)) (nodes_of homes.now h all.now) n
-        ≡ nodes_of homes.now h (take result all.now) ++ n ∷ nodes_of homes.now h (drop result all.now) }
-{
-    for (i, m) in all.iter().enumerate() {
-        if is_at(homes[*m], h) && keys[*m].pri < keys[n].pri {
-            return i;
-        }
-    }
-    all.len()
-}
-
 /// The first node of the header, from a place on.
 fn first_of(all: &[NodeId], homes: &[Option<HeaderId>], h: HeaderId, from: usize) -> Option<NodeId>
     requires known { All (λ m. m < length homes.now) all.now }
@@ -97,29 +74,6 @@ fn last_of(all: &[NodeId], homes: &[Option<HeaderId>], h: HeaderId, to: usize) -
     while i > 0 {
         i -= 1;
         if is_at(homes[all[i]], h) {
-            return Some(all[i]);
-        }
-    }
-    None
-}
-
-/// The first node of the header that has the name, from a place on.
-fn first_named(
-    all: &[NodeId],
-    homes: &[Option<HeaderId>],
-    keys: &[NodeKey],
-    h: HeaderId,
-    from: usize,
-    name: &str,
-) -> Option<NodeId>
-    requires known { All (λ m. m < length homes.now) all.now }
-    requires keyed { length keys.now ≡ length homes.now }
-    ensures value { result
-        ≡ find (is_named (keys_of keys.now) name.now) (nodes_of homes.now h (drop from all.now)) }
-    ensures home { IfSome result (λ n. home homes.now n ≡ Some h) }
-{
-    for i in from..all.len() {
-        if is_at(homes[all[i]], h) && keys[all[i]].is_named(name) {
             return Some(all[i]);
         }
     }
@@ -243,27 +197,6 @@ impl ListSpace for PlainSpace {
 
     fn set_key(&mut self, n: NodeId, pri: i8, name: Option<Name>) {
         self.keys[n] = NodeKey { pri, name };
-    }
-
-    // The three calls below have bodies of their own: a walk by `succ` would read the list for each node.
-    fn add_tail(&mut self, h: HeaderId, n: NodeId) {
-        let end = self.order.len();
-        self.place(end, h, n);
-    }
-
-    fn enqueue(&mut self, h: HeaderId, n: NodeId) {
-        let at = place_for(&self.order, &self.homes, &self.keys, h, n);
-        self.place(at, h, n);
-    }
-
-    fn find_name(&self, h: HeaderId, after: Option<NodeId>, name: &str) -> Option<NodeId> {
-        match after {
-            None => first_named(&self.order, &self.homes, &self.keys, h, 0, name),
-            Some(n) => {
-                let at = place_of(&self.order, n);
-                first_named(&self.order, &self.homes, &self.keys, h, at + 1, name)
-            }
-        }
     }
 
     ghost stands = { λ s. s.stands };

@@ -13,7 +13,7 @@ use Rattle.memlist.specs.Fit.{fit, round}
 use Rattle.memlist.specs.Memory.{IsWellFormed}
 use Rattle.memlist.proofs.Fitting.{fitted_well_formed}
 use Rattle.memlist.proofs.Keeping.{freed_well_formed}
-use Rattle.memlist.proofs.Addresses.{fitted_fresh}
+use Rattle.memlist.proofs.Fitting.{fitted_fresh}
 use Rattle.iorequest.specs.declared.request.Request.{Request as TimerRequest}
 use Rattle.execmodel.specs.State.{Call, Object, Library, Request, Block, Heap, Waiting as Queued, Mark, State}
 use Rattle.execmodel.specs.Requests.{with_request}

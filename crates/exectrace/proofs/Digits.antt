@@ -1,10 +1,8 @@
 -- The digits of a printed value write that value.
-use Rattle.std.proofs.Common.{◌≡◌, ℕ, Bool, true, ◌+◌, ◌*◌, ◌/◌, ◌%◌, ◌^◌, ◌<◌, List, [], ◌∷◌, refl, sym, ap, subst, ◌∙◌, zero-add, arith, drop}
-use Rattle.std.specs.Prelude.{◌==◌, codes, slice_index_or}
+use Rattle.std.proofs.Common.{◌≡◌, ℕ, Bool, true, ◌+◌, ◌*◌, ◌/◌, ◌%◌, ◌^◌, ◌<◌, List, [], ◌∷◌, refl, sym, ap, subst, ◌∙◌, zero-add, arith, drop, eqb-true, ◌==◌, codes, slice_index_or}
 use Rattle.std.specs.Char.{digit_value}
 use Rattle.std.specs.List.{range_with_len}
 use Rattle.std.specs.Str.Parse.{digits_value}
-use Rattle.std.proofs.lemmas.Bool.{eqb-true}
 use Rattle.std.proofs.lemmas.List.FromFn.{get_or-range_with_len}
 use Rattle.std.proofs.lemmas.List.Sums.{AllPass-from_list_all}
 use Rattle.std.proofs.Math.Nat.{div-add-mod, div-div-eq-div-mul, div-one, div-eq_of_lt}

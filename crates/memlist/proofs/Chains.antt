@@ -1,8 +1,6 @@
 -- What the words of a chain say, and what they say after a chunk was written.
-use Rattle.std.proofs.Common.{◌≡◌, ◌≢◌, ℕ, zero, suc, ◌+◌, ◌-◌, ◌*◌, ◌/◌, ◌%◌, ◌<◌, ◌≤◌, false, cond, List, [], ◌∷◌, ◌++◌, length, set, get_or, refl, sym, ◌∙◌, ap, subst, arith, length-set}
-use Rattle.std.specs.Prelude.{nat_eq, slice_get, None, Some}
+use Rattle.std.proofs.Common.{◌≡◌, ◌≢◌, ℕ, zero, suc, ◌+◌, ◌-◌, ◌*◌, ◌/◌, ◌%◌, ◌<◌, ◌≤◌, false, cond, List, [], ◌∷◌, ◌++◌, length, set, get_or, refl, sym, ◌∙◌, ap, subst, arith, length-set, get_or-set_same, get_or-set_other, nat_eq, slice_get, None, Some}
 use Rattle.std.specs.List.{sum_by}
-use Rattle.std.proofs.lemmas.List.{get_or-set_same, get_or-set_other}
 use Rattle.std.proofs.lemmas.List.Sums.{sum_by-append, sum_by-cons}
 use Rattle.memlist.specs.declared.gap.Gap.{Gap}
 use Rattle.memlist.specs.Blocks.{Blocks, stretch, gaps_between}
@@ -82,7 +80,7 @@ apart_stretch low from to next free high h l k a b e s =
     (λ lt. (h, omega arith, a, omega arith, omega arith, apart_lower next (from + (to - from) + 1) free high (omega arith) s))
     (λ le. apart_lower next low free high l s)
 
-laid_ends : (from : ℕ) (blocks : Blocks) (to : ℕ) → IsLaid from blocks to → from ≤ to
+pub laid_ends : (from : ℕ) (blocks : Blocks) (to : ℕ) → IsLaid from blocks to → from ≤ to
 laid_ends from [] to laid = laid
 laid_ends from (block ∷ rest) to laid = omega (arith, laid.0, laid_ends (block.0 + block.1.0) rest to laid.4)
 

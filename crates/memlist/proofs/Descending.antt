@@ -1,9 +1,7 @@
 -- The gap below an address by the table of blocks: what a look at a unit says, and where the descent begins.
-use Rattle.std.proofs.Common.{◌≡◌, ◌≢◌, ℕ, suc, ◌+◌, ◌-◌, ◌*◌, ◌/◌, ◌<◌, ◌≤◌, true, false, cond, List, [], ◌∷◌, ◌++◌, length, take, drop, get_or, refl, sym, ◌∙◌, ap, subst, arith, append_assoc, append-nil}
-use Rattle.std.specs.Prelude.{nat_eq, Some}
+use Rattle.std.proofs.Common.{◌≡◌, ◌≢◌, ℕ, suc, ◌+◌, ◌-◌, ◌*◌, ◌/◌, ◌<◌, ◌≤◌, true, false, cond, List, [], ◌∷◌, ◌++◌, length, take, drop, get_or, refl, sym, ◌∙◌, ap, subst, arith, append_assoc, append-nil, nat_eq, Some, length-take-le, take-append-drop}
 use Rattle.std.specs.List.{AllByRecursion}
 use Rattle.std.proofs.Math.Seq.{take-suc}
-use Rattle.std.proofs.lemmas.List.{length-take-le, take-append-drop}
 use Rattle.memlist.specs.declared.gap.Gap.{Gap}
 use Rattle.memlist.specs.declared.slot.Slot.{Slot}
 use Rattle.memlist.specs.declared.region.Region.{Region}
@@ -16,9 +14,10 @@ use Rattle.memlist.specs.Areas.{IsHeader, entries}
 use Rattle.memlist.specs.Descent.{IsLook, last_left}
 use Rattle.memlist.proofs.Answered.{nat_eq-other}
 use Rattle.memlist.proofs.Gaps.{stretch_cases, stretch_none, stretch_some}
-use Rattle.memlist.proofs.Headers.{aligned_region, ends_within, live_within, place_of_unit, place_within}
+use Rattle.memlist.proofs.Headers.{aligned_region, live_within, place_of_unit, place_within}
 use Rattle.memlist.proofs.Walking.{same_part}
 use Rattle.memlist.proofs.Writing.{last_append}
+use Rattle.memlist.proofs.Chains.{laid_ends}
 
 -- Parts of a table
 
@@ -52,7 +51,7 @@ gaps-below : (from : ℕ) (blocks : Blocks) (to : ℕ) → IsLaid from blocks to
 gaps-below from [] to laid = stretch_cases (AllByRecursion (λ (gap : Gap). gap.address < to)) from to (λ lt. (lt, tt)) (λ le. tt)
 gaps-below from (block ∷ rest) to laid =
     let later = gaps-below (block.0 + block.1.0) rest to laid.4 in
-    let ends = ends_within (block.0 + block.1.0) rest to laid.4 in
+    let ends = laid_ends (block.0 + block.1.0) rest to laid.4 in
     stretch_cases (λ gs. AllByRecursion (λ (gap : Gap). gap.address < to) (gs ++ gaps_between (block.0 + block.1.0) rest to)) from block.0
     (λ lt. (omega (arith, lt, ends), later)) (λ le. later)
 

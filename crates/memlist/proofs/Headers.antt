@@ -1,12 +1,12 @@
 -- What a header's fields keep: places in the table, and the invariant after a block is put and after one is freed.
-use Rattle.std.proofs.Common.{◌≡◌, ◌≢◌, ℕ, zero, suc, ◌+◌, ◌-◌, ◌*◌, ◌/◌, ◌%◌, ◌<◌, ◌≤◌, Bool, true, false, cond, List, [], ◌∷◌, ◌++◌, length, set, get_or, replicate, refl, sym, ◌∙◌, ap, subst, arith, length-set}
-use Rattle.std.specs.Prelude.{nat_eq, nat_lt, nat_le, ◌&&◌, IsTrue, IsSome, Option, Some, None}
+use Rattle.std.proofs.Common.{◌≡◌, ◌≢◌, ℕ, zero, suc, ◌+◌, ◌-◌, ◌*◌, ◌/◌, ◌%◌, ◌<◌, ◌≤◌, true, false, cond, List, [], ◌∷◌, ◌++◌, length, set, get_or, replicate, refl, sym, ◌∙◌, ap, subst, arith, length-set, nat_eq, nat_lt, nat_le, ◌&&◌, IsTrue, IsSome, Option, Some, None}
 use Rattle.std.specs.List.{AllByRecursion, sum_by}
 use Rattle.std.specs.Ordering.{nat_cmp}
 use Rattle.std.specs.FinMap.{put}
 use Rattle.std.proofs.lemmas.Bool.Decides.{nat_tests}
 use Rattle.std.proofs.lemmas.List.{length-replicate}
 use Rattle.std.proofs.lemmas.List.Sums.{sum_by-cons, sum_by-append}
+use Rattle.std.proofs.lemmas.Bool.{and_parts}
 use Rattle.memlist.specs.declared.gap.Gap.{Gap}
 use Rattle.memlist.specs.declared.region.Region.{Region}
 use Rattle.memlist.specs.declared.slot.Slot.{Slot}
@@ -19,6 +19,7 @@ use Rattle.memlist.specs.Areas.{Area, IsHeader, area_gaps, entries, block_of}
 use Rattle.memlist.proofs.Answered.{cases_eq, found_here, found_later}
 use Rattle.memlist.proofs.Gaps.{stretch_cases, taken, frees}
 use Rattle.memlist.proofs.Slots.{entries-put, entries-freed, found-entries, found_between}
+use Rattle.memlist.proofs.Chains.{laid_ends}
 
 -- Regions
 
@@ -30,14 +31,6 @@ from_lt a b e = grind (arith, nat_tests, e)
 
 pub from_le : (a b : ℕ) → nat_le a b ≡ true → a ≤ b
 from_le a b e = grind (arith, nat_tests, e)
-
-pub and_left : (a b : Bool) → a && b ≡ true → a ≡ true
-and_left true b e = refl
-and_left false b e = e
-
-pub and_right : (a b : Bool) → a && b ≡ true → b ≡ true
-and_right true b e = e
-and_right false b e = let bad : false ≡ true = e in cc
 
 pub record IsAligned (region : Region) : Type 0 where
   pub base : region.base % 8 ≡ 0
@@ -51,13 +44,13 @@ aligned_region region e =
     let b = nat_eq (region.size % 8) 0 in
     let c = nat_lt 0 region.size in
     let d = nat_le 4096 region.base in
-    let three = and_left (a && b && c) d e in
-    let two = and_left (a && b) c three in
+    let three = (and_parts (a && b && c) d e).0 in
+    let two = (and_parts (a && b) c three).0 in
     record {
-      base = from_eq (region.base % 8) 0 (and_left a b two);
-      size = from_eq (region.size % 8) 0 (and_right a b two);
-      some = from_lt 0 region.size (and_right (a && b) c three);
-      above = from_le 4096 region.base (and_right (a && b && c) d e);
+      base = from_eq (region.base % 8) 0 (and_parts a b two).0;
+      size = from_eq (region.size % 8) 0 (and_parts a b two).1;
+      some = from_lt 0 region.size (and_parts (a && b) c three).1;
+      above = from_le 4096 region.base (and_parts (a && b && c) d e).1;
     }
 
 pub reach_region : (region : Region) → IsTrue (is_in_reach region) → region_end region ≤ 2147483648
@@ -71,7 +64,7 @@ pub inside_region : (region : Region) (address : ℕ) → IsTrue (is_in region a
 inside_region region address e =
     let a = nat_le region.base address in
     let b = nat_lt address (region_end region) in
-    record { low = from_le region.base address (and_left a b e); high = from_lt address (region_end region) (and_right a b e) }
+    record { low = from_le region.base address (and_parts a b e).0; high = from_lt address (region_end region) (and_parts a b e).1 }
 
 -- Blocks and gaps lie within their region
 
@@ -85,12 +78,6 @@ pub record IsWithin (from to address size : ℕ) : Type 0 where
 within_more : (from low to address size : ℕ) → from ≤ low → IsWithin low to address size → IsWithin from to address size
 within_more from low to address size h w = record { low = omega (arith, w.low); high = w.high; some = w.some; place = w.place; whole = w.whole }
 
--- what is laid ends no earlier than it begins
-pub ends_within : (from : ℕ) (blocks : Blocks) (to : ℕ) → IsLaid from blocks to → from ≤ to
-ends_within from [] to laid = laid
-ends_within from (block ∷ rest) to laid =
-    let later = ends_within (block.0 + block.1.0) rest to laid.4 in omega (arith, laid.0, later)
-
 pub block_within : (from : ℕ) (blocks : Blocks) (to address n tag : ℕ) → IsLaid from blocks to → block_at address blocks ≡ Some (n, tag) → IsWithin from to address n
 block_within from [] to address n tag laid found = cc
 block_within from (block ∷ rest) to address n tag laid found =
@@ -100,7 +87,7 @@ block_within from (block ∷ rest) to address n tag laid found =
     let size : block.1.0 ≡ n = ap (λ (v : ℕ × ℕ). v.0) here in
     subst (λ a. IsWithin from to a n) same
     (subst (λ m. IsWithin from to block.0 m) size
-    record { low = laid.0; high = ends_within (block.0 + block.1.0) rest to laid.4; some = laid.1; place = laid.2; whole = laid.3 }))
+    record { low = laid.0; high = laid_ends (block.0 + block.1.0) rest to laid.4; some = laid.1; place = laid.2; whole = laid.3 }))
     (λ other.
     within_more from (block.0 + block.1.0) to address n (omega (arith, laid.0))
     (block_within (block.0 + block.1.0) rest to address n tag laid.4 (found_later address block (Some (n, tag)) rest other found)))
@@ -117,7 +104,7 @@ gaps_within from [] to a b laid =
     stretch_cases (AllByRecursion (IsGapWithin from to)) from to
     (λ lt. (record { low = omega arith; high = omega arith; some = omega arith; place = a; whole = omega arith }, tt)) (λ le. tt)
 gaps_within from (block ∷ rest) to a b laid =
-    let high = ends_within (block.0 + block.1.0) rest to laid.4 in
+    let high = laid_ends (block.0 + block.1.0) rest to laid.4 in
     let later = gaps_within_more from (block.0 + block.1.0) to (gaps_between (block.0 + block.1.0) rest to) (omega (arith, laid.0))
     (gaps_within (block.0 + block.1.0) rest to (omega (arith, laid.2, laid.3)) b laid.4) in
     stretch_cases (λ gap. AllByRecursion (IsGapWithin from to) (gap ++ gaps_between (block.0 + block.1.0) rest to)) from block.0

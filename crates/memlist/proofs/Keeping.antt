@@ -1,14 +1,13 @@
 -- What keeps a memory well formed.
-use Rattle.std.proofs.Common.{◌≡◌, ℕ, zero, suc, ◌+◌, ◌<◌, Bool, true, false, List, [], ◌∷◌, get_or, refl, sym, ◌∙◌, ap, subst, arith}
-use Rattle.std.specs.Prelude.{nat_eq, not, ◌&&◌, ◌||◌, Some, None, slice_get}
+use Rattle.std.proofs.Common.{◌≡◌, ℕ, zero, suc, ◌+◌, ◌<◌, Bool, true, false, List, [], ◌∷◌, get_or, refl, sym, ◌∙◌, ap, subst, arith, nat_eq, not, ◌&&◌, ◌||◌, Some, None, slice_get}
 use Rattle.std.specs.List.{AllByRecursion, list_all, list_any}
-use Rattle.std.specs.Option.{option_map}
 use Rattle.std.specs.Ordering.{nat_cmp, is_lt}
 use Rattle.std.specs.declared.cmp.Ordering.TheVariants.{Equal}
 use Rattle.std.specs.FinMap.{is_sorted, put}
 use Rattle.std.specs.FinMap.Entries.{below_all, where_key}
 use Rattle.std.proofs.lemmas.List.Elements.{recursion_from_All}
-use Rattle.std.proofs.lemmas.Option.{slice_get-get_or, slice_get-map}
+use Rattle.std.proofs.lemmas.Option.{slice_get-get_or}
+use Rattle.std.proofs.lemmas.Bool.{not-true, and_parts, or_parts}
 use Rattle.memlist.specs.declared.region.Region.{Region}
 use Rattle.memlist.specs.Regions.{are_apart, overlaps, region_end, regions_fault}
 use Rattle.memlist.specs.Blocks.{Blocks, blocks_in, freed, is_in}
@@ -17,10 +16,8 @@ use Rattle.memlist.specs.Areas.{Area, AreMemory, IsLaidArea, greatest_total, mer
 use Rattle.memlist.proofs.Answered.{cmp_greater, cmp_less, cmp_same, put_after, put_before}
 use Rattle.memlist.proofs.Gaps.{laid_lower}
 use Rattle.memlist.proofs.Slots.{AllFrom}
-use Rattle.memlist.proofs.Headers.{and_left, and_right}
-use Rattle.memlist.proofs.Merged.{AllAnswer, IsRising, cases_bool, cases_order, from_where, put_same, where_fail, where_pass, where_put_fail, where_put_pass}
-use Rattle.memlist.proofs.Together.{apart_in, apart_out, blocks_of_area, keys_in, rising_merged}
-use Rattle.memlist.proofs.Memories.{apart_memory, small_reach, sound_regions}
+use Rattle.memlist.proofs.Merged.{AllAnswer, IsRising, cases_bool, cases_order, from_where, put_same, where_fail, where_pass, where_put_fail, where_put_pass, apart_in, apart_out, blocks_of_area, keys_in, rising_merged}
+use Rattle.memlist.proofs.Memories.{apart_memory, small_reach, sound_regions, region_at}
 
 -- Order
 
@@ -31,23 +28,11 @@ from_cmp a b e =
     (λ eq. let bad : false ≡ true = ap is_lt (sym (subst (λ k. nat_cmp a k ≡ Equal) eq (cmp_same a))) ∙ e in cc)
     (λ gt. let bad : false ≡ true = ap is_lt (sym (cmp_greater a b gt)) ∙ e in cc)
 
-or_left : (a b : Bool) → a || b ≡ false → a ≡ false
-or_left true b e = let bad : true ≡ false = e in cc
-or_left false b e = refl
-
-or_right : (a b : Bool) → a || b ≡ false → b ≡ false
-or_right true b e = let bad : true ≡ false = e in cc
-or_right false b e = e
-
-from_not : (b : Bool) → not b ≡ true → b ≡ false
-from_not true e = let bad : false ≡ true = e in cc
-from_not false e = refl
-
 from_below : (x : ℕ) (blocks : Blocks) → below_all nat_cmp x blocks ≡ true → AllFrom (x + 1) blocks
 from_below x [] e = tt
 from_below x (block ∷ rest) e =
-    let lt = from_cmp x block.0 (and_left (is_lt (nat_cmp x block.0)) (below_all nat_cmp x rest) e) in
-    (omega (arith, lt), from_below x rest (and_right (is_lt (nat_cmp x block.0)) (below_all nat_cmp x rest) e))
+    let lt = from_cmp x block.0 (and_parts (is_lt (nat_cmp x block.0)) (below_all nat_cmp x rest) e).0 in
+    (omega (arith, lt), from_below x rest (and_parts (is_lt (nat_cmp x block.0)) (below_all nat_cmp x rest) e).1)
 
 below_from : (x : ℕ) (blocks : Blocks) → AllFrom (x + 1) blocks → below_all nat_cmp x blocks ≡ true
 below_from x [] all = refl
@@ -60,7 +45,7 @@ sorted_rising (block ∷ rest) h = ap (λ b. b && is_sorted nat_cmp rest) (below
 pub rising_sorted : (blocks : Blocks) → is_sorted nat_cmp blocks ≡ true → IsRising blocks
 rising_sorted [] e = tt
 rising_sorted (block ∷ rest) e =
-    (from_below block.0 rest (and_left (below_all nat_cmp block.0 rest) (is_sorted nat_cmp rest) e), rising_sorted rest (and_right (below_all nat_cmp block.0 rest) (is_sorted nat_cmp rest) e))
+    (from_below block.0 rest (and_parts (below_all nat_cmp block.0 rest) (is_sorted nat_cmp rest) e).0, rising_sorted rest (and_parts (below_all nat_cmp block.0 rest) (is_sorted nat_cmp rest) e).1)
 
 -- Homes
 
@@ -78,7 +63,7 @@ pub from_home : (regions : List Region) (blocks : Blocks) → AtHome regions blo
 from_home regions [] e = tt
 from_home regions (block ∷ rest) e =
     let others = list_all (λ (block : ℕ × (ℕ × ℕ)). list_any (λ region. is_in region block.0) regions) rest in
-    (and_left (in_some regions block.0) others e, from_home regions rest (and_right (in_some regions block.0) others e))
+    ((and_parts (in_some regions block.0) others e).0, from_home regions rest (and_parts (in_some regions block.0) others e).1)
 
 pub answers_put : (p : ℕ → Bool) (b : Bool) (a : ℕ) (v : ℕ × ℕ) (xs : Blocks) → p a ≡ b → AllAnswer p b xs → AllAnswer p b (put nat_cmp a v xs)
 answers_put p b a v [] h all = (h, tt)
@@ -118,9 +103,6 @@ homes_merged : (regions : List Region) (areas : List Area) → AllByRecursion (�
 homes_merged regions [] homes laid = tt
 homes_merged regions (area ∷ rest) homes laid =
     answers_put_all (in_some regions) true area.blocks (merged rest) (answers_by (is_in area.region) (in_some regions) area.blocks homes.0 (keys_in area laid.0)) (homes_merged regions rest homes.1 laid.1)
-
-region_at : (areas : List Area) (k : ℕ) (area : Area) → slice_get areas k ≡ Some area → slice_get (regions_of areas) k ≡ Some area.region
-region_at areas k area at = slice_get-map (λ (area : Area). area.region) areas k ∙ ap (option_map (λ (area : Area). area.region)) at
 
 homes_of : (areas : List Area) → AllByRecursion (λ (area : Area). (k : ℕ) → is_in area.region k ≡ true → in_some (regions_of areas) k ≡ true) areas
 homes_of areas =
@@ -210,15 +192,15 @@ none_overlap_at : (region : Region) (regions : List Region) (place : ℕ) (other
 none_overlap_at region [] place other e at = cc
 none_overlap_at region (x ∷ rest) zero other e at =
     let here : x ≡ other = cc in
-    subst (λ r. overlaps region r ≡ false) here (or_left (overlaps region x) (list_any (overlaps region) rest) e)
-none_overlap_at region (x ∷ rest) (suc place) other e at = none_overlap_at region rest place other (or_right (overlaps region x) (list_any (overlaps region) rest) e) at
+    subst (λ r. overlaps region r ≡ false) here (or_parts (overlaps region x) (list_any (overlaps region) rest) e).0
+none_overlap_at region (x ∷ rest) (suc place) other e at = none_overlap_at region rest place other (or_parts (overlaps region x) (list_any (overlaps region) rest) e).1 at
 
 laid_elsewhere : (region : Region) (regions : List Region) (blocks : Blocks) (a : ℕ) (v : ℕ × ℕ) → is_in region a ≡ true → list_any (overlaps region) regions ≡ false → AreLaid regions blocks → AreLaid regions (put nat_cmp a v blocks)
 laid_elsewhere region [] blocks a v inside e laid = tt
 laid_elsewhere region (x ∷ rest) blocks a v inside e laid =
-    let out = apart_in region x a (or_left (overlaps region x) (list_any (overlaps region) rest) e) inside in (
+    let out = apart_in region x a (or_parts (overlaps region x) (list_any (overlaps region) rest) e).0 inside in (
       subst (λ bs. IsLaid x.base bs (region_end x)) (sym (where_put_fail (is_in x) a v blocks out)) laid.0,
-      laid_elsewhere region rest blocks a v inside (or_right (overlaps region x) (list_any (overlaps region) rest) e) laid.1,
+      laid_elsewhere region rest blocks a v inside (or_parts (overlaps region x) (list_any (overlaps region) rest) e).1 laid.1,
     )
 
 pub are_laid_put : (regions : List Region) (blocks : Blocks) (place : ℕ) (region : Region) (a : ℕ) (v : ℕ × ℕ) → are_apart regions ≡ true → IsRising blocks → slice_get regions place ≡ Some region → is_in region a ≡ true
@@ -226,14 +208,14 @@ pub are_laid_put : (regions : List Region) (blocks : Blocks) (place : ℕ) (regi
 are_laid_put [] blocks place region a v apart rising at inside new laid = cc
 are_laid_put (x ∷ rest) blocks zero region a v apart rising at inside new laid =
     let here : x ≡ region = cc in
-    let e = from_not (list_any (overlaps x) rest) (and_left (not (list_any (overlaps x) rest)) (are_apart rest) apart) in (
+    let e = not-true (list_any (overlaps x) rest) (and_parts (not (list_any (overlaps x) rest)) (are_apart rest) apart).0 in (
       subst (λ (r : Region). IsLaid r.base (blocks_in r (put nat_cmp a v blocks)) (region_end r)) (sym here)
           (subst (λ bs. IsLaid region.base bs (region_end region)) (sym (where_put_pass (is_in region) a v blocks inside rising)) new),
       laid_elsewhere x rest blocks a v (subst (λ (r : Region). is_in r a ≡ true) (sym here) inside) e laid.1,
     )
 are_laid_put (x ∷ rest) blocks (suc place) region a v apart rising at inside new laid =
-    let e = from_not (list_any (overlaps x) rest) (and_left (not (list_any (overlaps x) rest)) (are_apart rest) apart) in
+    let e = not-true (list_any (overlaps x) rest) (and_parts (not (list_any (overlaps x) rest)) (are_apart rest) apart).0 in
     let out = apart_out x region a (none_overlap_at x rest place region e at) inside in (
       subst (λ bs. IsLaid x.base bs (region_end x)) (sym (where_put_fail (is_in x) a v blocks out)) laid.0,
-      are_laid_put rest blocks place region a v (and_right (not (list_any (overlaps x) rest)) (are_apart rest) apart) rising at inside new laid.1,
+      are_laid_put rest blocks place region a v (and_parts (not (list_any (overlaps x) rest)) (are_apart rest) apart).1 rising at inside new laid.1,
     )

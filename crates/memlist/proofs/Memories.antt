@@ -1,13 +1,13 @@
 -- A memory as a whole: what its headers keep, if a block fits, and what a change of one header does to its value.
-use Rattle.std.proofs.Common.{◌≡◌, ◌≢◌, ℕ, zero, suc, ◌+◌, ◌*◌, ◌^◌, ◌<◌, ◌≤◌, Bool, true, false, cond, List, [], ◌∷◌, ◌++◌, length, set, get_or, map, refl, sym, ◌∙◌, ap, subst, arith}
-use Rattle.std.specs.Prelude.{bit_and, nat_eq, nat_le, not, ◌&&◌, Option, Some, None, is_some, slice_get, IsSome, IsSomeAnd, IfSome}
+use Rattle.std.proofs.Common.{◌≡◌, ◌≢◌, ℕ, zero, suc, ◌+◌, ◌*◌, ◌^◌, ◌<◌, ◌≤◌, Bool, true, false, cond, List, [], ◌∷◌, ◌++◌, length, set, get_or, map, refl, sym, ◌∙◌, ap, subst, arith, bit_and, nat_eq, nat_le, not, ◌&&◌, Option, Some, None, is_some, slice_get, IsSome, IsSomeAnd, IfSome}
 use Rattle.std.specs.List.{AllByRecursion, filter, flat_map, list_all, sum_by}
 use Rattle.std.specs.Option.{option_map, option_and_then}
 use Rattle.std.specs.Ordering.{nat_cmp}
 use Rattle.std.specs.FinMap.{put}
 use Rattle.std.proofs.lemmas.List.Elements.{recursion_from_All}
 use Rattle.std.proofs.lemmas.List.Sums.{sum_by-cons}
-use Rattle.std.proofs.lemmas.Option.{slice_get-get_or}
+use Rattle.std.proofs.lemmas.Option.{slice_get-get_or, slice_get-map}
+use Rattle.std.proofs.lemmas.Bool.{and_parts}
 use Rattle.execlist.specs.Order.{chosen}
 use Rattle.memlist.specs.declared.gap.Gap.{Gap}
 use Rattle.memlist.specs.declared.memory.Offer.{Offer}
@@ -22,10 +22,11 @@ use Rattle.memlist.specs.Chain.{IsLinked, first_or}
 use Rattle.memlist.specs.Areas.{Area, AreMemory, IsFreeChain, IsLaidArea, area_gaps, empty_area, greatest_total, memory_of, merged, regions_of}
 use Rattle.memlist.specs.Choice.{IsHome, IsLowest, IsOffer, chosen_of, free_of, installed_of, largest_of, offers, sizes_of, suitable_of}
 use Rattle.memlist.proofs.Answered.{nat_eq-other}
-use Rattle.memlist.proofs.Headers.{IsAligned, IsGapWithin, aligned_region, among, and_left, and_right, end_aligned, from_le, gaps_within, sizes_fill}
+use Rattle.memlist.proofs.Headers.{IsAligned, IsGapWithin, aligned_region, among, end_aligned, from_le, gaps_within, sizes_fill}
 use Rattle.memlist.proofs.Chains.{apart_count, gaps_apart, read_chain}
 use Rattle.memlist.proofs.Choices.{free-cons}
-use Rattle.memlist.proofs.Together.{AreApart, apart_areas, at_place, found_in_none, found_of_area, gaps_of_area, is_in-true, merged-freed, merged-put, nat_le-true}
+use Rattle.memlist.proofs.Merged.{AreApart, apart_areas, at_place, found_in_none, found_of_area, gaps_of_area, is_in-true, merged-freed, merged-put}
+use Rattle.memlist.proofs.Tiling.{nat_le-true}
 
 -- Sound regions
 
@@ -52,16 +53,16 @@ sound_regions total regions e =
 
 pub small_total : (total : ℕ) (regions : List Region) → are_small total regions ≡ true → total_size regions ≤ total
 small_total total regions e =
-    from_le (total_size regions) total (and_right (nat_le (length regions) 8) (nat_le (total_size regions) total)
-    (and_left (nat_le (length regions) 8 && nat_le (total_size regions) total) (list_all is_in_reach regions) e))
+    from_le (total_size regions) total (and_parts (nat_le (length regions) 8) (nat_le (total_size regions) total)
+    (and_parts (nat_le (length regions) 8 && nat_le (total_size regions) total) (list_all is_in_reach regions) e).0).1
 
 pub small_reach : (total : ℕ) (regions : List Region) → are_small total regions ≡ true → list_all is_in_reach regions ≡ true
-small_reach total regions e = and_right (nat_le (length regions) 8 && nat_le (total_size regions) total) (list_all is_in_reach regions) e
+small_reach total regions e = (and_parts (nat_le (length regions) 8 && nat_le (total_size regions) total) (list_all is_in_reach regions) e).1
 
 small_within : (total greater : ℕ) (regions : List Region) → total ≤ greater → are_small total regions ≡ true → are_small greater regions ≡ true
 small_within total greater regions within e =
-    let few = and_left (nat_le (length regions) 8) (nat_le (total_size regions) total)
-    (and_left (nat_le (length regions) 8 && nat_le (total_size regions) total) (list_all is_in_reach regions) e) in
+    let few = (and_parts (nat_le (length regions) 8) (nat_le (total_size regions) total)
+    (and_parts (nat_le (length regions) 8 && nat_le (total_size regions) total) (list_all is_in_reach regions) e).0).0 in
     let room = nat_le-true (total_size regions) greater (omega (arith, within, small_total total regions e)) in
     ap (λ b. b && nat_le (total_size regions) greater && list_all is_in_reach regions) few
     ∙ ap (λ b. b && list_all is_in_reach regions) room
@@ -88,8 +89,8 @@ read_at P (y ∷ ys) (suc place) x h is = read_at P ys place x h is
 
 list_all_at : (areas : List Area) (place : ℕ) (area : Area) → slice_get areas place ≡ Some area → list_all is_aligned (regions_of areas) ≡ true → is_aligned area.region ≡ true
 list_all_at [] place area at e = cc
-list_all_at (x ∷ rest) zero area at e = let here : x ≡ area = cc in subst (λ (a : Area). is_aligned a.region ≡ true) here (and_left (is_aligned x.region) (list_all is_aligned (regions_of rest)) e)
-list_all_at (x ∷ rest) (suc place) area at e = list_all_at rest place area at (and_right (is_aligned x.region) (list_all is_aligned (regions_of rest)) e)
+list_all_at (x ∷ rest) zero area at e = let here : x ≡ area = cc in subst (λ (a : Area). is_aligned a.region ≡ true) here (and_parts (is_aligned x.region) (list_all is_aligned (regions_of rest)) e).0
+list_all_at (x ∷ rest) (suc place) area at e = list_all_at rest place area at (and_parts (is_aligned x.region) (list_all is_aligned (regions_of rest)) e).1
 
 pub aligned_at : (areas : List Area) (place : ℕ) (area : Area) → AreMemory areas → slice_get areas place ≡ Some area → IsAligned area.region
 aligned_at areas place area m at = aligned_region area.region (list_all_at areas place area at (sound_regions greatest_total (regions_of areas) m.sound).aligned)
@@ -360,9 +361,7 @@ module _ (areas : List Area) (reqs : ℕ) where
 -- The words of a region
 
 pub region_at : (areas : List Area) (k : ℕ) (area : Area) → slice_get areas k ≡ Some area → slice_get (regions_of areas) k ≡ Some area.region
-region_at [] k area at = cc
-region_at (x ∷ rest) zero area at = let same : x ≡ area = cc in ap (λ (a : Area). Some a.region) same
-region_at (x ∷ rest) (suc k) area at = region_at rest k area at
+region_at areas k area at = slice_get-map (λ (area : Area). area.region) areas k ∙ ap (option_map (λ (area : Area). area.region)) at
 
 pub free_chain : (areas : List Area) (k : ℕ) (area : Area) (words : List ℕ) → AreMemory areas → slice_get areas k ≡ Some area → 4 * length words ≡ area.region.size
     → IsLinked area.region.base words (area_gaps area) 0 → IfSome (slice_get (regions_of areas) k) (λ region. IsFreeChain region words (gaps region (merged areas)))

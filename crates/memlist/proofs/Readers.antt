@@ -1,6 +1,5 @@
 -- The gaps of a memory, read one after another.
-use Rattle.std.proofs.Common.{◌≡◌, ℕ, zero, suc, true, false, ◌<◌, ◌≤◌, cond, List, [], ◌∷◌, ◌++◌, length, refl, ◌∙◌, ap, arith, append-nil}
-use Rattle.std.specs.Prelude.{None, Some, nat_le, slice_get}
+use Rattle.std.proofs.Common.{◌≡◌, ℕ, zero, suc, true, false, ◌<◌, ◌≤◌, cond, List, [], ◌∷◌, ◌++◌, length, refl, ◌∙◌, ap, arith, append-nil, None, Some, nat_le, slice_get}
 use Rattle.std.specs.List.{AllByRecursion}
 use Rattle.std.proofs.lemmas.Bool.Decides.{nat_tests}
 use Rattle.memlist.specs.declared.gap.Gap.{Gap}
@@ -8,7 +7,7 @@ use Rattle.memlist.specs.Areas.{Area, AreMemory, area_gaps, merged, regions_of}
 use Rattle.memlist.specs.Chain.{IsPassed}
 use Rattle.memlist.specs.Readers.{gap_from, gaps_in}
 use Rattle.memlist.proofs.Memories.{apart_memory, region_at}
-use Rattle.memlist.proofs.Together.{gaps_of_area}
+use Rattle.memlist.proofs.Merged.{gaps_of_area}
 use Rattle.memlist.proofs.Walking.{ahead, nothing_ahead}
 
 -- the lowest gap from an address on is the first after those that are below it

@@ -1,8 +1,7 @@
 -- How blocks and gaps tile a region.
-use Rattle.std.proofs.Common.{◌≡◌, ◌⊎◌, ℕ, zero, suc, ◌+◌, ◌-◌, ◌%◌, ◌<◌, ◌≤◌, Bool, true, false, cond, List, [], ◌∷◌, ◌++◌, length, get_or, map, refl, sym, ◌∙◌, ap, subst, arith, ⊎_elim, inl, inr}
-use Rattle.std.specs.Prelude.{nat_le, ◌&&◌, Some, slice_get}
+use Rattle.std.proofs.Common.{◌≡◌, ◌⊎◌, ℕ, zero, suc, ◌+◌, ◌-◌, ◌%◌, ◌<◌, ◌≤◌, Bool, true, false, cond, List, [], ◌∷◌, ◌++◌, length, get_or, map, refl, sym, ◌∙◌, ap, subst, arith, ⊎_elim, inl, inr, nat_le, ◌&&◌, Some, slice_get}
 use Rattle.std.specs.List.{AllByRecursion, Any, count_by, list_all, sum_by}
-use Rattle.std.proofs.lemmas.Bool.{cases_lt}
+use Rattle.std.proofs.lemmas.Bool.{cases_lt, and_parts}
 use Rattle.std.proofs.lemmas.Bool.Decides.{nat_tests}
 use Rattle.std.proofs.lemmas.List.Elements.{All-from_recursion}
 use Rattle.std.proofs.lemmas.List.Sums.{sum_by-append, sum_by-cons}
@@ -14,11 +13,11 @@ use Rattle.memlist.specs.Memory.{AreLaid, IsLaid, IsWellFormed}
 use Rattle.memlist.specs.Pieces.{IsMaximal, IsTiled, holds_unit, stretch_of}
 use Rattle.memlist.specs.Joins.{IsSpread}
 use Rattle.memlist.proofs.Gaps.{spread_gaps, stretch_cases}
-use Rattle.memlist.proofs.Headers.{IsAligned, aligned_region, and_left, and_right, end_aligned, sizes_fill}
+use Rattle.memlist.proofs.Headers.{IsAligned, aligned_region, end_aligned, sizes_fill}
 
 -- Units
 
-nat_le-true : (a b : ℕ) → a ≤ b → nat_le a b ≡ true
+pub nat_le-true : (a b : ℕ) → a ≤ b → nat_le a b ≡ true
 nat_le-true a b h = grind (arith, nat_tests)
 
 nat_le-false : (a b : ℕ) → b < a → nat_le a b ≡ false
@@ -181,8 +180,8 @@ laid_at (x ∷ rest) blocks (suc place) region at laid = laid_at rest blocks pla
 
 pub aligned_in : (regions : List Region) (place : ℕ) (region : Region) → slice_get regions place ≡ Some region → list_all is_aligned regions ≡ true → IsAligned region
 aligned_in [] place region at e = cc
-aligned_in (x ∷ rest) zero region at e = let here : x ≡ region = cc in subst IsAligned here (aligned_region x (and_left (is_aligned x) (list_all is_aligned rest) e))
-aligned_in (x ∷ rest) (suc place) region at e = aligned_in rest place region at (and_right (is_aligned x) (list_all is_aligned rest) e)
+aligned_in (x ∷ rest) zero region at e = let here : x ≡ region = cc in subst IsAligned here (aligned_region x (and_parts (is_aligned x) (list_all is_aligned rest) e).0)
+aligned_in (x ∷ rest) (suc place) region at e = aligned_in rest place region at (and_parts (is_aligned x) (list_all is_aligned rest) e).1
 
 pub tiled : (regions : List Region) (blocks : Blocks) (place : ℕ) (region : Region) → IsWellFormed regions blocks → slice_get regions place ≡ Some region → IsTiled region blocks
 unfolding gaps count

@@ -1,3 +1,2 @@
 -- The lemma files of `msgport`.
 pub mod Linking
-mod AtFirst

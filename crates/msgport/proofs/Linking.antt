@@ -1,15 +1,17 @@
 -- What is linked where: a port that is not public is in no list, a message that is not held in none of those, a free port has no message, and what
 -- is freed leaves nothing after.
-use Rattle.std.proofs.Common.{◌≡◌, ◌≢◌, ℕ, zero, suc, ◌<◌, ◌≤◌, true, false, cond, not, eqb, List, [], ◌∷◌, ◌++◌, length, refl, sym, ◌∙◌, ap, subst, arith, inl, inr, Option, Some, None, is_some, slice_set, IsTrue}
-use Rattle.std.specs.Prelude.{◌⊎◌, ◌||◌, Bool, nat_lt, unwrap_or}
+use Rattle.std.proofs.Common.{◌≡◌, ◌≢◌, ℕ, zero, suc, ◌<◌, ◌≤◌, true, false, cond, not, eqb, List, [], ◌∷◌, ◌++◌, length, refl, sym, ◌∙◌, ap, subst, arith, inl, inr, Option, Some, None, is_some, slice_set, IsTrue, drop, replicate, length-append, ◌⊎◌, ◌||◌, Bool, nat_lt, unwrap_or, IsSome}
 use Rattle.std.proofs.lemmas.Bool.{cond-true, cond-false, eq-eqb, ne_eqb, cases_eq, cases_lt, lt-ltb}
-use Rattle.std.proofs.lemmas.List.{length-set}
+use Rattle.std.proofs.lemmas.List.{length-set, length-drop, length-replicate}
 use Rattle.execlist.specs.Order.{first, without}
 use Rattle.execlist.specs.Lists.{sequence, home, is_at, times}
-use Rattle.execlist.specs.Pool.{slot}
+use Rattle.execlist.specs.Pool.{slot, Pooled, free_below}
 use Rattle.msgport.specs.declared.fault.PortFault.TheVariants.{Unknown, Link}
-use Rattle.msgport.specs.Ports.{MessagePorts, IsHeld, is_port, is_message, is_queued, is_linked, loose_fault, reply_fault, messages_of, appended, port_freed, message_freed}
-use Rattle.execlist.proofs.Pools.{item_of, slot_known, slot_other, slot_same}
+use Rattle.msgport.specs.Ports.{MessagePorts, IsHeld, is_port, is_message, is_queued, is_linked, loose_fault, reply_fault, messages_of, appended, port_freed, message_freed, no_ports}
+use Rattle.execlist.proofs.Pools.{item_of, slot_known, slot_other, slot_same, slot_new}
+use Rattle.execlist.proofs.LinkLemmas.{none-there}
+use Rattle.msgport.specs.Port.{Port}
+use Rattle.msgport.specs.declared.message.Message.{Message}
 
 -- how often a node of that home is in header h
 abbrev standing : Option ℕ → ℕ → ℕ
@@ -34,10 +36,6 @@ not_listed all n (Some zero) one stands none = absurd (let bad = rw (stands 0) a
 not_listed all n (Some (suc k)) one stands none =
     absurd (omega (arith, ap (times n) (only_one all k one), stands (suc k), stands_at (suc k)))
 
-nothing_stands : (xs : List ℕ) → ((m : ℕ) → times m xs ≡ 0) → xs ≡ []
-nothing_stands [] none = refl
-nothing_stands (x ∷ xs) none = absurd (omega (arith, none x, cond-true (eqb x x) (suc (times x xs)) (times x xs) (eq-eqb x x refl)))
-
 not_at : (o : Option ℕ) (h : ℕ) → (o ≡ Some h → ⊥) → standing o h ≡ 0
 not_at None h other = refl
 not_at (Some k) h other = by_case (cases_eq k h) where
@@ -48,7 +46,7 @@ not_at (Some k) h other = by_case (cases_eq k h) where
 -- a header without a node is empty
 pub empty_where : (all : List (List ℕ)) (places : List (Option ℕ)) (h : ℕ) → ((m : ℕ) → times m (sequence all h) ≡ standing (home places m) h)
     → ((m : ℕ) → home places m ≡ Some h → ⊥) → sequence all h ≡ []
-empty_where all places h stands nobody = nothing_stands (sequence all h) (λ m. stands m ∙ not_at (home places m) h (nobody m))
+empty_where all places h stands nobody = none-there (sequence all h) (λ m. stands m ∙ not_at (home places m) h (nobody m))
 
 first_none : (xs : List ℕ) → IsTrue (not (is_some (first xs))) → xs ≡ []
 first_none [] none = refl
@@ -197,3 +195,38 @@ module _ {lists : ℕ} {listings : List (Option ℕ)} {stores : ℕ} {holdings :
     live_port = λ n p e. held.live_port n p (left_home s.places m n p e);
     live_listed = held.live_listed;
   }
+
+-- ---- no port and no message: what always holds of ports holds at first
+
+-- no node is anywhere
+nowhere : (count n h : ℕ) → home (replicate count None) n ≡ Some h → false ≡ true
+nowhere count n h there = ap is_some (sym (slot_new ℕ count n) ∙ there)
+
+-- No port and no link, and any messages: what always holds of ports holds when all are freed.
+pub held_when_freed : (ports messages : ℕ) (all : Pooled Message) → length all.slots ≡ messages
+    → IsHeld 1 (replicate ports None) 1 (replicate messages None) (record (no_ports ports messages) { messages = all })
+held_when_freed ports messages all many = record {
+  one_list = refl;
+  one_store = refl;
+  each_queue = length-replicate ports [] ∙ sym (length-replicate {A = Option Port} ports None);
+  each_listing = length-replicate {A = Option ℕ} ports None ∙ sym (length-replicate {A = Option Port} ports None);
+  each_place = length-replicate {A = Option ℕ} messages None ∙ sym many;
+  each_holding = length-replicate {A = Option ℕ} messages None ∙ sym many;
+  apart = λ m h there. (let bad = nowhere messages m h there in cc);
+  live_held = λ m h there. (let bad = nowhere messages m h there in cc);
+  live_message = λ m p there. (let bad = nowhere messages m p there in cc);
+  live_port = λ m p there. (let bad = nowhere messages m p there in cc);
+  live_listed = λ p h there. (let bad = nowhere ports p h there in cc);
+}
+
+pub held_at_first : (ports messages : ℕ) → IsHeld 1 (replicate ports None) 1 (replicate messages None) (no_ports ports messages)
+held_at_first ports messages = held_when_freed ports messages (no_ports ports messages).messages (length-replicate {A = Option Message} messages None)
+
+-- as many numbers as before
+pub length-below : {A : Type 0} (count : ℕ) (pool : Pooled A) → count ≤ length pool.slots → length (free_below count pool).slots ≡ length pool.slots
+length-below {A = A} count pool within =
+    omega (arith, within, length-append (replicate {A = Option A} count None) (drop count pool.slots), length-replicate {A = Option A} count None, length-drop count pool.slots)
+
+pub holds_item : {A : Type 0} (o : Option A) → IsTrue (is_some o) → IsSome o
+holds_item None e = cc
+holds_item (Some a) e = refl

@@ -1,12 +1,11 @@
 -- What follows from a schedule's being sound, and the schedules that calls on the tasks lead to.
-use Rattle.std.proofs.Common.{◌≡◌, ◌≢◌, ℕ, ◌<◌, zero, suc, Bool, true, false, cond, not, eqb, List, [], ◌∷◌, Option, Some, None, IfSome, length, slice_set, refl, sym, ap, ◌∙◌, arith}
-use Rattle.std.specs.Prelude.{ℤ}
-use Rattle.std.proofs.lemmas.Bool.{eq-eqb}
+use Rattle.std.proofs.Common.{◌≡◌, ◌≢◌, ℕ, ◌<◌, zero, suc, Bool, true, false, cond, List, [], ◌∷◌, Option, Some, None, IfSome, length, slice_set, refl, sym, ap, ◌∙◌, arith, ℤ, eq-eqb}
 use Rattle.std.proofs.lemmas.List.{set-get_or}
 use Rattle.execlist.specs.Order.{enqueue, first, without}
 use Rattle.execlist.specs.Lists.{times}
 use Rattle.taskq.specs.Tasks.{Tasks, state_at, is_ready}
 use Rattle.execlist.specs.Disciplines.{pri_at, by_priority}
+use Rattle.execlist.proofs.PlainLemmas.{without_fresh}
 use Rattle.taskq.specs.declared.TaskState.{TaskState}
 use Rattle.taskq.specs.declared.TaskState.TheVariants.{Absent, Ready, Running, Waiting, Removed}
 use Rattle.taskq.specs.declared.Why.TheVariants.{Signals, Sem}
@@ -146,14 +145,6 @@ displaced_is s q r e put_back =
     ap (λ queue. record s { queue = queue; running = None }) put_back
     ∙ ap (λ (o : Option ℕ). record (displaced by_priority o s) { running = None }) (sym e)
 
--- a task that is not among the ready ones leaves them as they are
-without_absent : (t : ℕ) (xs : List ℕ) → times t xs ≡ 0 → without t xs ≡ xs
-without_absent t [] e = refl
-without_absent t (x ∷ xs) e = by_case (eqb x t) e (without_absent t xs) where
-  by_case : (b : Bool) → cond b (suc (times t xs)) (times t xs) ≡ 0 → (times t xs ≡ 0 → without t xs ≡ xs) → cond (not b) (x ∷ without t xs) (without t xs) ≡ x ∷ xs
-  by_case true z ih = absurd (omega arith)
-  by_case false z ih = ap (λ l. x ∷ l) (ih z)
-
 -- the tasks with the running one removed: it was not among the ready ones
 pub retired : (s : Schedule) (q : Tasks) (t : ℕ) → state_at s.queue.states t ≡ Running
     → times t s.queue.ready ≡ cond (is_ready (state_at s.queue.states t)) 1 0
@@ -162,7 +153,7 @@ pub retired : (s : Schedule) (q : Tasks) (t : ℕ) → state_at s.queue.states t
     → record s { queue = q; running = None } ≡ leaves t s
 unfolding leaves
 retired s q t running once a b c d =
-    let ready = without_absent t s.queue.ready (once ∙ ap (λ v. cond (is_ready v) 1 0) running) in
+    let ready = without_fresh t s.queue.ready (once ∙ ap (λ v. cond (is_ready v) 1 0) running) in
     ap (λ queue. record s { queue = queue; running = None }) (tasks_are q _ _ _ _ (a ∙ ready) b c d)
 
 -- the tasks with t removed

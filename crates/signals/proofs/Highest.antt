@@ -1,7 +1,6 @@
 -- Laws of the highest free signal: it is free, all higher ones are allocated, and no other signal is like that.
-use Rattle.std.proofs.Common.{ℕ, zero, suc, ◌+◌, ◌≡◌, ◌≤◌, ◌<◌, Bool, true, false, not, List, [], ◌∷◌, refl, arith, Option, Some, None, MatchOption}
+use Rattle.std.proofs.Common.{ℕ, zero, suc, ◌+◌, ◌≡◌, ◌≤◌, ◌<◌, Bool, true, false, not, List, [], ◌∷◌, refl, arith, Option, Some, None, MatchOption, find}
 use Rattle.std.proofs.lemmas.Bool.{cond_both, not-true, not-false}
-use Rattle.std.specs.Prelude.{find}
 use Rattle.signals.specs.Signals.{has_signal, highest_free, IsHighestFree}
 
 -- the k signals from 16 on, the highest first

@@ -1,12 +1,11 @@
 -- Who waits where: at a semaphore without waiters nobody waits, so that it may become free, and at a free one nobody waits.
-use Rattle.std.proofs.Common.{◌≡◌, ◌≢◌, ℕ, suc, ◌<◌, true, false, cond, eqb, List, [], ◌∷◌, length, refl, sym, ◌∙◌, ap, subst, arith, inl, inr, Option, Some, None, is_some, slice_set, IsTrue}
-use Rattle.std.specs.Prelude.{◌⊎◌, unwrap_or}
+use Rattle.std.proofs.Common.{◌≡◌, ◌≢◌, ℕ, ◌<◌, true, false, cond, List, [], ◌∷◌, length, refl, sym, ◌∙◌, ap, subst, arith, inl, inr, Option, Some, None, is_some, slice_set, IsTrue, length-set, ◌⊎◌, unwrap_or}
 use Rattle.std.proofs.lemmas.Bool.{cond-true, cond-false, eq-eqb, ne_eqb, cases_eq}
-use Rattle.std.proofs.lemmas.List.{length-set}
 use Rattle.execlist.specs.Order.{first}
 use Rattle.execlist.specs.Lists.{is_at, times}
 use Rattle.execlist.specs.Pool.{slot, written}
 use Rattle.execlist.proofs.Pools.{slot_same, slot_other, slot_known, item_of}
+use Rattle.execlist.proofs.LinkLemmas.{none-there}
 use Rattle.sigsem.specs.declared.semaphore.Sem.{Sem}
 use Rattle.sigsem.specs.Semaphores.{Semaphores, IsHeld, IsSound, IsCounted, free_sem, is_sem, waits_at, waiters_of}
 
@@ -25,10 +24,6 @@ first_none (x ∷ xs) none = let bad : true ≡ false = ap is_some none in cc
 pub nobody_at : (xs : List ℕ) (t s : ℕ) (place : Option ℕ) → times t xs ≡ standing place s → first xs ≡ None → place ≡ Some s → ⊥
 nobody_at xs t s place stands none e =
     omega (arith, ap (times t) (first_none xs none), stands, ap (λ p. standing p s) e, stands_at s)
-
-nothing_stands : (xs : List ℕ) → ((t : ℕ) → times t xs ≡ 0) → xs ≡ []
-nothing_stands [] none = refl
-nothing_stands (x ∷ xs) none = absurd (omega (arith, none x, cond-true (eqb x x) (suc (times x xs)) (times x xs) (eq-eqb x x refl)))
 
 not_at : (place : Option ℕ) (s : ℕ) → (place ≡ Some s → ⊥) → standing place s ≡ 0
 not_at None s other = refl
@@ -66,7 +61,7 @@ module _ {m : Semaphores} (held : IsHeld m) where
     stands = stands;
     live = λ t s e. owned_lives (slot m.sems.slots s) (held.owned t s e);
     owned = held.owned;
-    unwanted = λ s free. nothing_stands (waiters_of s m) (λ t. stands s t ∙ not_at (waits_at t m) s (λ e. let owned = held.owned t s e in cc));
+    unwanted = λ s free. none-there (waiters_of s m) (λ t. stands s t ∙ not_at (waits_at t m) s (λ e. let owned = held.owned t s e in cc));
     counted = held.counted;
     each_queue = held.each_queue;
   }

@@ -1,33 +1,13 @@
 -- The servers of a source, put into its chain one after another.
-use Rattle.std.proofs.Common.{◌≡◌, ℕ, zero, suc, ◌+◌, ◌<◌, Bool, true, false, cond, List, [], ◌∷◌, ◌++◌, length, refl, sym, ap, ◌∙◌, subst, arith, Option, Some, None, All, IfSome}
-use Rattle.std.specs.Prelude.{ℤ, filter, slice_get}
+use Rattle.std.proofs.Common.{◌≡◌, ℕ, zero, suc, ◌+◌, ◌<◌, Bool, true, false, cond, List, [], ◌∷◌, ◌++◌, length, refl, sym, ap, ◌∙◌, subst, arith, Option, Some, None, All, IfSome, ℤ, filter, slice_get}
 use Rattle.std.specs.List.{range_with_len}
-use Rattle.std.proofs.lemmas.List.Elements.{All-cons, All-nil, All-head, All-tail}
+use Rattle.std.proofs.lemmas.List.Elements.{All-cons, All-nil, All-head, All-tail, filter-append}
 use Rattle.execlist.specs.Order.{enqueue, order, is_lower}
 use Rattle.execlist.proofs.OrderLaws.{order_takes}
+use Rattle.execlist.proofs.PlainLemmas.{one_more}
 use Rattle.softint.specs.declared.source.Source.{Source}
 use Rattle.softint.specs.declared.interrupt.Server.{Server}
 use Rattle.softint.specs.Interrupts.{chain, server_pri, serves}
-
-one_more_from : (a n : ℕ) → range_with_len a (suc n) ≡ range_with_len a n ++ (a + n) ∷ []
-one_more_from a zero = ap (λ k. k ∷ []) (omega arith)
-one_more_from a (suc n) =
-    let same : a + 1 + n ≡ a + suc n = omega arith in
-    ap (λ l. a ∷ l) (one_more_from (a + 1) n ∙ ap (λ k. range_with_len (a + 1) n ++ k ∷ []) same)
-
-one_more : (n : ℕ) → range_with_len 0 (n + 1) ≡ range_with_len 0 n ++ n ∷ []
-one_more n =
-    let more : n + 1 ≡ suc n = omega arith in
-    let place : 0 + n ≡ n = omega arith in
-    ap (range_with_len 0) more ∙ one_more_from 0 n ∙ ap (λ k. range_with_len 0 n ++ k ∷ []) place
-
-filter-joins : (test : ℕ → Bool) (xs ys : List ℕ) → filter test (xs ++ ys) ≡ filter test xs ++ filter test ys
-filter-joins test [] ys = refl
-filter-joins test (x ∷ xs) ys = by_case (test x) (filter-joins test xs ys) where
-  by_case : (b : Bool) → filter test (xs ++ ys) ≡ filter test xs ++ filter test ys
-      → cond b (x ∷ filter test (xs ++ ys)) (filter test (xs ++ ys)) ≡ cond b (x ∷ filter test xs) (filter test xs) ++ filter test ys
-  by_case true ih = ap (λ l. x ∷ l) ih
-  by_case false ih = ih
 
 module _ (key : ℕ → ℤ) (test : ℕ → Bool) where
   -- those of the first n numbers that pass, by key
@@ -39,7 +19,7 @@ module _ (key : ℕ → ℤ) (test : ℕ → Bool) where
   chain_begins = refl
 
   one_more_passes : (n : ℕ) (b : Bool) → test n ≡ b → filter test (range_with_len 0 (n + 1)) ≡ filter test (range_with_len 0 n) ++ cond b (n ∷ []) []
-  one_more_passes n b e = ap (filter test) (one_more n) ∙ filter-joins test (range_with_len 0 n) (n ∷ []) ∙ ap (λ c. filter test (range_with_len 0 n) ++ cond c (n ∷ []) []) e
+  one_more_passes n b e = ap (filter test) (one_more n) ∙ filter-append test (range_with_len 0 n) (n ∷ []) ∙ ap (λ c. filter test (range_with_len 0 n) ++ cond c (n ∷ []) []) e
 
   -- a number that passes is put in by its key
   pub chain_takes : (n : ℕ) → test n ≡ true → chain_to (n + 1) ≡ enqueue key (chain_to n) n

@@ -1,15 +1,16 @@
 -- The caused interrupts, kept in a header for each priority, are one sequence by priority.
-use Rattle.std.proofs.Common.{◌≡◌, ◌≢◌, ℕ, zero, suc, ◌+◌, ◌<◌, ◌≤◌, Bool, true, false, cond, not, eqb, List, [], ◌∷◌, ◌++◌, length, slice_set, refl, sym, ap, ◌∙◌, subst, arith, inl, inr, Option, Some, None, IfSome, map, append_assoc}
-use Rattle.std.specs.Prelude.{◌⊎◌, ℤ, drop, int_lt, is_none, is_some, IsSome}
+use Rattle.std.proofs.Common.{◌≡◌, ◌≢◌, ℕ, zero, suc, ◌+◌, ◌<◌, ◌≤◌, Bool, true, false, cond, not, eqb, List, [], ◌∷◌, ◌++◌, length, slice_set, refl, sym, ap, ◌∙◌, subst, arith, inl, inr, Option, Some, None, IfSome, map, append_assoc, ◌⊎◌, ℤ, drop, int_lt, is_none, is_some, IsSome}
 use Rattle.std.proofs.lemmas.Bool.{cond-true, cond-false, eq-eqb, ne_eqb, cases_eq}
 use Rattle.std.proofs.lemmas.Int.{ints}
-use Rattle.std.proofs.lemmas.List.{get_or-set_other, get_or-set_same, length-set}
+use Rattle.std.proofs.lemmas.List.{get_or-set_other, get_or-set_same, get_or_past, length-set}
+use Rattle.std.proofs.lemmas.List.Elements.{filter-append}
 use Rattle.execlist.specs.Order.{enqueue, first, without, is_lower}
 use Rattle.execlist.specs.Lists.{sequence, home, part_after, times, is_at}
 use Rattle.softint.specs.declared.interrupt.Soft.{Soft}
 use Rattle.softint.specs.Interrupts.{Interrupts, IsHeld, joined, header_pri, causes, taken_off}
 use Rattle.execlist.specs.Disciplines.{pri_at}
 use Rattle.execlist.proofs.Walks.{absent_after}
+use Rattle.execlist.proofs.PlainLemmas.{times_later, times-append, without_fresh}
 
 -- ---- how often a number is
 
@@ -17,29 +18,15 @@ use Rattle.execlist.proofs.Walks.{absent_after}
 stands_here : (x : ℕ) (xs : List ℕ) → 1 ≤ times x (x ∷ xs)
 stands_here x xs = omega (arith, cond-true (eqb x x) (suc (times x xs)) (times x xs) (eq-eqb x x refl))
 
-stands_later : (t x : ℕ) (xs : List ℕ) → times t xs ≤ times t (x ∷ xs)
-stands_later t x xs = by_case (eqb x t) where
-  by_case : (b : Bool) → times t xs ≤ cond b (suc (times t xs)) (times t xs)
-  by_case true = omega arith
-  by_case false = omega arith
-
-times-joins : (t : ℕ) (xs ys : List ℕ) → times t (xs ++ ys) ≡ times t xs + times t ys
-times-joins t [] ys = omega arith
-times-joins t (x ∷ xs) ys = by_case (eqb x t) (times-joins t xs ys) where
-  by_case : (b : Bool) → times t (xs ++ ys) ≡ times t xs + times t ys
-      → cond b (suc (times t (xs ++ ys))) (times t (xs ++ ys)) ≡ cond b (suc (times t xs)) (times t xs) + times t ys
-  by_case true ih = omega (arith, ih)
-  by_case false ih = ih
-
 -- what is in no header is nowhere
 pub nowhere : (t : ℕ) (all : List (List ℕ)) → ((k : ℕ) → times t (sequence all k) ≡ 0) → times t (joined all) ≡ 0
 nowhere t [] none = refl
-nowhere t (xs ∷ rest) none = omega (arith, times-joins t xs (joined rest), none 0, nowhere t rest (λ k. none (suc k)))
+nowhere t (xs ∷ rest) none = omega (arith, times-append t xs (joined rest), none 0, nowhere t rest (λ k. none (suc k)))
 
 pub somewhere : (t h : ℕ) (all : List (List ℕ)) → times t (sequence all h) ≤ times t (joined all)
 somewhere t h [] = omega arith
-somewhere t zero (xs ∷ rest) = omega (arith, times-joins t xs (joined rest))
-somewhere t (suc h) (xs ∷ rest) = omega (arith, times-joins t xs (joined rest), somewhere t h rest)
+somewhere t zero (xs ∷ rest) = omega (arith, times-append t xs (joined rest))
+somewhere t (suc h) (xs ∷ rest) = omega (arith, times-append t xs (joined rest), somewhere t h rest)
 
 -- ---- an arrival
 
@@ -49,7 +36,7 @@ module _ (key : ℕ → ℤ) (x : ℕ) where
   passed [] ys high = refl
   passed (y ∷ xs) ys high =
       cond-false _ _ _ (high y (stands_here y xs))
-      ∙ ap (λ l. y ∷ l) (passed xs ys (λ t here. high t (omega (arith, here, stands_later t y xs))))
+      ∙ ap (λ l. y ∷ l) (passed xs ys (λ t here. high t (omega (arith, here, times_later t y xs))))
 
   -- it goes before those of lower key
   goes_first : (all : List (List ℕ)) → ((k t : ℕ) → 1 ≤ times t (sequence all k) → is_lower key t x ≡ true) → enqueue key (joined all) x ≡ x ∷ joined all
@@ -81,30 +68,18 @@ first_arrived key (y ∷ ys) x = by_case (is_lower key y x) where
 
 -- ---- a departure
 
-without_absent : (t : ℕ) (xs : List ℕ) → times t xs ≡ 0 → without t xs ≡ xs
-without_absent t [] e = refl
-without_absent t (x ∷ xs) e = by_case (eqb x t) e (without_absent t xs) where
-  by_case : (b : Bool) → cond b (suc (times t xs)) (times t xs) ≡ 0 → (times t xs ≡ 0 → without t xs ≡ xs) → cond (not b) (x ∷ without t xs) (without t xs) ≡ x ∷ xs
-  by_case true z ih = absurd (omega (arith, z))
-  by_case false z ih = ap (λ l. x ∷ l) (ih z)
-
 without-joins : (t : ℕ) (xs ys : List ℕ) → without t (xs ++ ys) ≡ without t xs ++ without t ys
-without-joins t [] ys = refl
-without-joins t (x ∷ xs) ys = by_case (not (eqb x t)) (without-joins t xs ys) where
-  by_case : (b : Bool) → without t (xs ++ ys) ≡ without t xs ++ without t ys
-      → cond b (x ∷ without t (xs ++ ys)) (without t (xs ++ ys)) ≡ cond b (x ∷ without t xs) (without t xs) ++ without t ys
-  by_case true ih = ap (λ l. x ∷ l) ih
-  by_case false ih = ih
+without-joins t xs ys = filter-append (λ x. not (eqb x t)) xs ys
 
 pub departs : (t : ℕ) (all : List (List ℕ)) (h : ℕ) → ((k : ℕ) → k ≢ h → times t (sequence all k) ≡ 0)
     → joined (slice_set all h (without t (sequence all h))) ≡ without t (joined all)
 departs t [] h other = refl
 departs t (xs ∷ rest) zero other =
-    ap (λ l. without t xs ++ l) (sym (without_absent t (joined rest) (nowhere t rest (λ k. other (suc k) (λ e. omega (arith, e))))))
+    ap (λ l. without t xs ++ l) (sym (without_fresh t (joined rest) (nowhere t rest (λ k. other (suc k) (λ e. omega (arith, e))))))
     ∙ sym (without-joins t xs (joined rest))
 departs t (xs ∷ rest) (suc h) other =
     ap (λ l. xs ++ l) (departs t rest h (λ k ne. other (suc k) (λ e. ne (omega (arith, e)))))
-    ∙ ap (λ l. l ++ without t (joined rest)) (sym (without_absent t xs (other 0 (λ e. omega (arith, e)))))
+    ∙ ap (λ l. l ++ without t (joined rest)) (sym (without_fresh t xs (other 0 (λ e. omega (arith, e)))))
     ∙ sym (without-joins t xs (joined rest))
 
 -- ---- the first
@@ -301,6 +276,4 @@ next_behind all homes i h next stands own e =
     ap first rest ∙ first_joins (part_after i (sequence all h)) (joined (drop (suc h) all)) ∙ ap (λ o. first_or_below o (first (joined (drop (suc h) all)))) (sym e)
 
 pub home_beyond : (homes : List (Option ℕ)) (i : ℕ) → length homes ≤ i → home homes i ≡ None
-home_beyond [] i far = refl
-home_beyond (x ∷ homes) zero far = absurd (omega (arith, far))
-home_beyond (x ∷ homes) (suc i) far = home_beyond homes i (omega (arith, far))
+home_beyond homes i far = get_or_past homes i None far

@@ -1,7 +1,6 @@
 -- How the first task of each mark is noted, from the last task to the first.
-use Rattle.std.proofs.Common.{◌≡◌, ◌≢◌, ℕ, ◌<◌, ◌≤◌, ◌+◌, List, length, slice_index_or, slice_set, ap, ◌∙◌, arith}
+use Rattle.std.proofs.Common.{◌≡◌, ◌≢◌, ℕ, ◌<◌, ◌≤◌, ◌+◌, List, length, slice_index_or, slice_set, ap, ◌∙◌, arith, length-set}
 use Rattle.std.proofs.lemmas.Grind.{common_steps}
-use Rattle.std.proofs.lemmas.List.{length-set}
 use Rattle.taskq.specs.Marks.{mark, AreFirstsFrom}
 use Rattle.taskq.specs.Tasks.{name_at}
 

@@ -1,15 +1,15 @@
 -- Where tasks are, and what their priorities are, after one of them has changed.
-use Rattle.std.proofs.Common.{◌≡◌, ℕ, ◌<◌, ◌≤◌, ◌+◌, zero, suc, Bool, true, false, cond, not, eqb, List, [], ◌∷◌, ◌++◌, Option, Some, None, IfSome, map, take, length, replicate, slice_set, slice_index_or, refl, sym, ap, ◌∙◌, arith}
-use Rattle.std.specs.Prelude.{ℤ, pos, find}
+use Rattle.std.proofs.Common.{◌≡◌, ℕ, ◌<◌, ◌≤◌, ◌+◌, zero, suc, Bool, true, false, cond, List, [], ◌∷◌, ◌++◌, Option, Some, None, IfSome, map, take, length, replicate, slice_set, slice_index_or, refl, sym, ap, ◌∙◌, arith, ℤ, pos, find}
 use Rattle.std.specs.List.{range_with_len}
 use Rattle.std.proofs.lemmas.Bool.{cond-true, cond-false}
-use Rattle.std.proofs.lemmas.List.{length-set, length-map, map-set, set-get_or, set-set, get_or-set_same, get_or_read, take_more, take_more_set}
+use Rattle.std.proofs.lemmas.List.{length-set, length-map, map-set, set-get_or, set-set, get_or-set_same, get_or_read, take_more, take_more_set, get_or_past}
 use Rattle.execlist.specs.Order.{enqueue, without}
 use Rattle.execlist.specs.Lists.{Key, pri_of, times, sequence, is_at}
 use Rattle.taskq.specs.declared.TaskState.{TaskState}
 use Rattle.taskq.specs.declared.TaskState.TheVariants.{Absent, Ready, Running, Waiting, Removed}
 use Rattle.taskq.specs.Tasks.{home_for, state_at, pris_of, is_ready, is_live}
 use Rattle.execlist.specs.Disciplines.{pri_at}
+use Rattle.execlist.proofs.PlainLemmas.{mapped_replicate, without_fresh}
 use Rattle.std.proofs.Math.Path.{fun_ext}
 
 -- Homes.
@@ -35,13 +35,10 @@ home_from_state states t v e = home_of_state states t ∙ ap home_for e
 
 -- there is no task past the last
 pub home_beyond : (states : List TaskState) (t : ℕ) → length states ≤ t → slice_index_or (map home_for states) t None ≡ None
-home_beyond [] t far = refl
-home_beyond (x ∷ xs) zero far = absurd (omega (arith, far))
-home_beyond (x ∷ xs) (suc t) far = home_beyond xs t (omega (arith, far))
+home_beyond states t far = get_or_past (map home_for states) t None (omega (arith, far, length-map states home_for))
 
 pub homes_absent : (n : ℕ) → map home_for (replicate n Absent) ≡ replicate n None
-homes_absent zero = refl
-homes_absent (suc n) = ap (λ l. None ∷ l) (homes_absent n)
+homes_absent n = mapped_replicate home_for n Absent None refl
 
 pub headers_kept : (all : List (List ℕ)) (h : ℕ) (xs : List ℕ) → length (slice_set all h xs) ≡ length all
 headers_kept all h xs = length-set all h xs
@@ -112,16 +109,8 @@ departed all new (Some h) t one own e =
     ap (λ l. sequence l 0) (e ∙ ap (λ k. slice_set all k (without t (sequence all k))) here)
     ∙ only_written all (without t (sequence all 0)) one
 
--- a task that doesn't are in the sequence leaves it as it is
-without_absent : (t : ℕ) (xs : List ℕ) → times t xs ≡ 0 → without t xs ≡ xs
-without_absent t [] e = refl
-without_absent t (x ∷ xs) e = by_case (eqb x t) e (without_absent t xs) where
-  by_case : (b : Bool) → cond b (suc (times t xs)) (times t xs) ≡ 0 → (times t xs ≡ 0 → without t xs ≡ xs) → cond (not b) (x ∷ without t xs) (without t xs) ≡ x ∷ xs
-  by_case true z ih = absurd (omega arith)
-  by_case false z ih = ap (λ l. x ∷ l) (ih z)
-
 pub not_there : (t : ℕ) (xs : List ℕ) (o : Option ℕ) → o ≡ None → times t xs ≡ cond (is_at o 0) 1 0 → xs ≡ without t xs
-not_there t xs o none law = sym (without_absent t xs (law ∙ ap (λ k. cond (is_at k 0) 1 0) none))
+not_there t xs o none law = sym (without_fresh t xs (law ∙ ap (λ k. cond (is_at k 0) 1 0) none))
 
 -- New tasks.
 

@@ -1,10 +1,10 @@
 -- Of requests of two kinds the chosen one is the better of the chosen of each kind, and if these are equal the one that is first.
-use Rattle.std.proofs.Common.{◌≡◌, ℕ, suc, Bool, true, false, cond, not, eqb, List, [], ◌∷◌, refl, sym, ap, ◌∙◌, arith, inl, inr, Option, Some, None}
-use Rattle.std.specs.Prelude.{◌⊎◌, ◌||◌, ◌&&◌, ℤ, int_lt, filter}
+use Rattle.std.proofs.Common.{◌≡◌, ℕ, suc, Bool, true, false, cond, not, eqb, List, [], ◌∷◌, refl, sym, ap, ◌∙◌, arith, inl, inr, Option, Some, None, ◌⊎◌, ◌||◌, ◌&&◌, ℤ, int_lt, filter}
 use Rattle.std.proofs.lemmas.Bool.{cond-true, cond-false, eq-eqb, ne_eqb, cases_eq, both_ways, false≢true, true≢false}
 use Rattle.std.proofs.lemmas.Int.{ints}
 use Rattle.execlist.specs.Order.{chosen, chosen_or, is_lower}
 use Rattle.execlist.specs.Lists.{part_before, times}
+use Rattle.execlist.proofs.OrderLaws.{le_trans, lt_le, not_self}
 use Rattle.timerdev.specs.Held.{is_before}
 use Rattle.timerdev.proofs.Times.{stands_here}
 
@@ -25,17 +25,8 @@ before_further a b x xs not_a not_b =
 
 -- ---- keys
 
-lower_not : (x y : ℤ) → int_lt x y ≡ true → int_lt y x ≡ false
-lower_not x y e = grind (arith, ints)
-
 lower_up : (x y z : ℤ) → int_lt x y ≡ true → int_lt z y ≡ false → int_lt x z ≡ true
 lower_up x y z p q = grind (arith, ints)
-
-not_self : (x : ℤ) → int_lt x x ≡ false
-not_self x = grind (arith, ints)
-
-not_lower_trans : (x y z : ℤ) → int_lt x y ≡ false → int_lt y z ≡ false → int_lt x z ≡ false
-not_lower_trans x y z p q = grind (arith, ints)
 
 apart_by_key : (key : ℕ → ℤ) (x y : ℕ) → is_lower key x y ≡ true → eqb x y ≡ false
 apart_by_key key x y e = by_case (cases_eq x y) where
@@ -100,7 +91,7 @@ module _ (key : ℕ → ℤ) where
   better_not_lower a b xs e = by_case (is_lower key b a) refl (is_lower key a b) refl e where
     by_case : (l : Bool) → is_lower key b a ≡ l → (m : Bool) → is_lower key a b ≡ m → (l || (not m && is_before a b xs)) ≡ true
         → is_lower key a b ≡ false
-    by_case true lower m is e = lower_not (key b) (key a) lower
+    by_case true lower m is e = lt_le (key b) (key a) lower
     by_case false lower true is e = absurd (false≢true e)
     by_case false lower false is e = is
 
@@ -118,7 +109,7 @@ module _ (key : ℕ → ℤ) where
       ap (λ t. is_lower key b x || (not (is_lower key x b) && t)) (before_others b x xs other)
       ∙ by_case (is_lower key b x) refl (is_lower key x b) refl where
         by_case : (l : Bool) → is_lower key b x ≡ l → (m : Bool) → is_lower key x b ≡ m → (l || (not m && true)) ≡ not m
-        by_case true lower true is = absurd (both_ways (is_lower key x b) (lower_not (key b) (key x) lower) is)
+        by_case true lower true is = absurd (both_ways (is_lower key x b) (lt_le (key b) (key x) lower) is)
         by_case true lower false is = refl
         by_case false lower true is = refl
         by_case false lower false is = refl
@@ -157,7 +148,7 @@ module _ (key : ℕ → ℤ) where
     by_case false lower true is =
         cond-false _ _ _ lower
         ∙ sym (cond-true _ _ _ (better_in_front b x xs (other b refl) ∙ ap not
-        (not_lower_trans (key x) (key a) (key b) lower (better_not_lower a b xs is))))
+        (le_trans (key x) (key a) (key b) lower (better_not_lower a b xs is))))
     by_case false lower false is =
         sym (ap (λ t. cond t (Some x) (Some b)) (better_in_front b x xs (other b refl)) ∙ turned x b (is_lower key x b))
 
@@ -177,7 +168,7 @@ module _ (key : ℕ → ℤ) where
     by_case false lower true is = sym (ap (λ t. cond t (Some a) (Some x)) (better_behind a x xs))
     by_case false lower false is =
         cond-false _ _ _ lower
-        ∙ sym (cond-false _ _ _ (better_behind a x xs ∙ not_lower_trans (key x) (key b) (key a) lower (worse_not_lower a b xs is)))
+        ∙ sym (cond-false _ _ _ (better_behind a x xs ∙ le_trans (key x) (key b) (key a) lower (worse_not_lower a b xs is)))
 
   -- one more in front that is of neither
   joins_neither : (x : ℕ) (xs : List ℕ) (o p : Option ℕ) → ((a : ℕ) → o ≡ Some a → eqb x a ≡ false)

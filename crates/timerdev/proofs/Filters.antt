@@ -1,27 +1,27 @@
 -- The requests that pass a test, and the records of those that wait, if one more comes or one goes.
-use Rattle.std.proofs.Common.{◌≡◌, ℕ, zero, suc, ◌≤◌, Bool, true, false, cond, not, eqb, List, [], ◌∷◌, ◌++◌, refl, sym, ap, ◌∙◌, arith, inl, inr}
-use Rattle.std.specs.Prelude.{◌⊎◌, ◌||◌, IsTrue, filter}
+use Rattle.std.proofs.Common.{◌≡◌, ℕ, zero, suc, ◌≤◌, Bool, true, false, cond, not, eqb, List, [], ◌∷◌, ◌++◌, refl, sym, ap, ◌∙◌, arith, inl, inr, ◌⊎◌, ◌||◌, IsTrue, filter}
 use Rattle.std.specs.List.{All, list_any}
 use Rattle.std.proofs.lemmas.Bool.{cond-true, cond-false, eq-eqb, ne_eqb, cases_eq}
 use Rattle.execlist.specs.Order.{without}
 use Rattle.execlist.specs.Lists.{times}
+use Rattle.execlist.proofs.PlainLemmas.{times_later}
 use Rattle.timerdev.specs.Timing.{Due, Waiting}
 use Rattle.timerdev.specs.Held.{waiting_for}
-use Rattle.timerdev.proofs.Times.{not_front, not_behind, stands_here, stands_later}
+use Rattle.timerdev.proofs.Times.{not_front, not_behind, stands_here}
 
 -- what holds of each request that is in a list holds at each place of it
 pub all_that_stand : (P : ℕ → Type 0) (xs : List ℕ) → ((t : ℕ) → 1 ≤ times t xs → P t) → All P xs
 all_that_stand P [] each k d l = absurd (omega (arith, l))
 all_that_stand P (x ∷ xs) each zero d l = each x (stands_here x xs)
 all_that_stand P (x ∷ xs) each (suc k) d l =
-    all_that_stand P xs (λ t here. each t (omega (arith, here, stands_later t x xs))) k d (omega (arith, l))
+    all_that_stand P xs (λ t here. each t (omega (arith, here, times_later t x xs))) k d (omega (arith, l))
 
 -- two tests that agree on all that are there
 pub filter_agrees : (p q : ℕ → Bool) (xs : List ℕ) → ((t : ℕ) → 1 ≤ times t xs → q t ≡ p t) → filter q xs ≡ filter p xs
 filter_agrees p q [] each = refl
 filter_agrees p q (x ∷ xs) each =
     ap (λ b. cond b (x ∷ filter q xs) (filter q xs)) (each x (stands_here x xs))
-    ∙ ap (λ l. cond (p x) (x ∷ l) l) (filter_agrees p q xs (λ t here. each t (omega (arith, here, stands_later t x xs))))
+    ∙ ap (λ l. cond (p x) (x ∷ l) l) (filter_agrees p q xs (λ t here. each t (omega (arith, here, times_later t x xs))))
 
 -- one more, of which alone the tests may differ
 pub filter_joined : (p q : ℕ → Bool) (r : ℕ) (xs : List ℕ) → times r xs ≡ 0 → ((t : ℕ) → (t ≡ r → ⊥) → q t ≡ p t)

@@ -1,17 +1,12 @@
 -- Where a request is, reported by its home.
-use Rattle.std.proofs.Common.{◌≡◌, ℕ, zero, suc, ◌<◌, ◌≤◌, cond, not, eqb, List, [], ◌∷◌, length, refl, sym, ap, ◌∙◌, arith, inl, inr, Option, Some, None, is_some, slice_index_or}
-use Rattle.std.specs.Prelude.{◌⊎◌, IsSome}
-use Rattle.std.proofs.lemmas.Bool.{cond-true, eq-eqb, cases_lt}
+use Rattle.std.proofs.Common.{◌≡◌, ℕ, zero, suc, ◌<◌, ◌≤◌, cond, not, eqb, List, length, refl, sym, ap, ◌∙◌, arith, Option, Some, None, is_some, IsSome}
+use Rattle.std.proofs.lemmas.Bool.{cond-true, eq-eqb}
 use Rattle.execlist.specs.Lists.{home, sequence, times, is_at}
+use Rattle.execlist.proofs.PlainLemmas.{home_header, home_known}
 
 -- each request is in the header that is its home, once, and in no other
 abbrev pub Stands : List (List ℕ) → List (Option ℕ) → Type 0
 Stands all homes = (h r : ℕ) → times r (sequence all h) ≡ cond (is_at (home homes r) h) 1 0
-
-pub home_known : (homes : List (Option ℕ)) (i h : ℕ) → home homes i ≡ Some h → i < length homes
-home_known [] i h e = cc
-home_known (x ∷ homes) zero h e = omega arith
-home_known (x ∷ homes) (suc i) h e = omega (arith, home_known homes i h e)
 
 pub some_known : (homes : List (Option ℕ)) (i : ℕ) → IsSome (home homes i) → i < length homes
 some_known homes i some = at (home homes i) refl some where
@@ -19,20 +14,9 @@ some_known homes i some = at (home homes i) refl some where
   at None e some = cc
   at (Some h) e some = home_known homes i h e
 
-pub beyond : {A : Type 0} (xs : List A) (i : ℕ) (d : A) → length xs ≤ i → slice_index_or xs i d ≡ d
-beyond [] i d l = refl
-beyond (x ∷ xs) zero d l = absurd (omega (arith, l))
-beyond (x ∷ xs) (suc i) d l = beyond xs i d (omega (arith, l))
-
 -- a home is a header that there is
 pub home_there : (all : List (List ℕ)) (homes : List (Option ℕ)) (r h : ℕ) → Stands all homes → home homes r ≡ Some h → h < length all
-home_there all homes r h stands e = by_case (cases_lt h (length all)) where
-  by_case : (h < length all) ⊎ (length all ≤ h) → h < length all
-  by_case (inl there) = there
-  by_case (inr outside) =
-      let here : times r (sequence all h) ≡ 1 = stands h r ∙ ap (λ o. cond (is_at o h) 1 0) e
-      ∙ cond-true {A = ℕ} (eqb h h) 1 0 (eq-eqb h h refl) in
-      absurd (omega (arith, here, ap (times r) (beyond all h [] outside)))
+home_there all homes r h stands e = home_header all homes r h (stands h r) e
 
 -- with one header, a request is in it if it has a home
 pub only_header : (all : List (List ℕ)) (homes : List (Option ℕ)) (r : ℕ) → length all ≡ 1 → Stands all homes

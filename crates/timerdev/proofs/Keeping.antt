@@ -1,17 +1,109 @@
 -- What the code keeps of the requests that wait, if one more comes or one goes.
-use Rattle.std.proofs.Common.{◌≡◌, ℕ, Bool, ◌+◌, ◌<◌, ◌≤◌, cond, not, eqb, List, [], ◌∷◌, ◌++◌, length, refl, sym, ap, ◌∙◌, subst, arith, inl, inr, Option, Some, None, IfSome, is_some, slice_set, slice_index_or}
-use Rattle.std.specs.Prelude.{◌⊎◌, ℤ, IsSome, filter, replicate}
-use Rattle.std.proofs.lemmas.Bool.{cond-true, cond-false, eq-eqb, ne_eqb, cases_eq, cases_lt}
-use Rattle.std.proofs.lemmas.List.{get_or-set_other, get_or-set_same, get_or-replicate, length-set, length-replicate, append-nil}
-use Rattle.execlist.specs.Order.{enqueue, order, without}
-use Rattle.execlist.specs.Lists.{home, sequence, times, is_at}
-use Rattle.execlist.proofs.OrderLaws.{order_takes, order_leaves_out}
+use Rattle.std.proofs.Common.{◌≡◌, ℕ, suc, ◌<◌, ◌≤◌, Bool, true, false, cond, eqb, List, [], ◌∷◌, slice_set, refl, ap, ◌∙◌, arith, inl, inr, Some, None, ◌+◌, not, ◌++◌, length, sym, subst, Option, IfSome, is_some, slice_index_or, ◌⊎◌, ℤ, pos, neg_ℤ, int_lt, nat_le, find, fold, filter, IsSome, replicate}
+use Rattle.std.proofs.lemmas.Bool.{cond-false, cond-true, eq-eqb, ne_eqb, cases_eq, cases_lt}
+use Rattle.std.proofs.lemmas.Int.{ints}
+use Rattle.std.proofs.lemmas.List.{get_or-set_other, get_or-set_same, get_or-replicate, length-set, length-replicate, append-nil, get_or_past}
+use Rattle.execlist.specs.Order.{enqueue, first, is_lower, order, without}
+use Rattle.execlist.specs.Lists.{times, home, sequence, is_at}
+use Rattle.execlist.proofs.OrderLaws.{order_reads_keys, order_takes, order_leaves_out}
+use Rattle.execlist.proofs.PlainLemmas.{times_later, times-append, without_fresh, times_without, times_without_other}
+use Rattle.timerdev.specs.Held.{Rises, NoneBefore, due_at, sooner_of, Held, IsHeld, begun_in, due_for, due_in, on_timer, waiting_for}
+use Rattle.timerdev.proofs.Times.{is_front, stands_here, times_filter}
+use Rattle.timerdev.proofs.Filters.{all_that_stand, filter_joined, filter_left, waiting_joined, waiting_left}
 use Rattle.timerdev.specs.Timing.{AtClock, AtSystem, Due, Timer, Waiting}
-use Rattle.timerdev.specs.Held.{Held, IsHeld, Rises, begun_in, due_at, due_for, due_in, on_timer, sooner_of, waiting_for}
-use Rattle.timerdev.proofs.Times.{times-joins, without_absent, without_same, without_other}
-use Rattle.timerdev.proofs.Filters.{filter_joined, filter_left, waiting_joined, waiting_left}
-use Rattle.timerdev.proofs.Homes.{Stands, beyond, home_there}
-use Rattle.timerdev.proofs.Queue.{order_redue, rises_order}
+use Rattle.timerdev.proofs.Homes.{Stands, home_there}
+
+-- ---- the requests of a header are by their times, and the first of them is due if any is
+
+-- ---- due times
+
+-- the key of a later time is lower
+later : (a b : ℕ) → int_lt (neg_ℤ (pos b)) (neg_ℤ (pos a)) ≡ true → a < b
+later a b l = grind (arith, ints)
+
+not_later : (a b : ℕ) → int_lt (neg_ℤ (pos b)) (neg_ℤ (pos a)) ≡ false → b ≤ a
+not_later a b l = grind (arith, ints)
+
+pub is_later : (a b : ℕ) → a < b → int_lt (neg_ℤ (pos b)) (neg_ℤ (pos a)) ≡ true
+is_later a b l = grind (arith, ints)
+
+pub is_not_later : (a b : ℕ) → b ≤ a → int_lt (neg_ℤ (pos b)) (neg_ℤ (pos a)) ≡ false
+is_not_later a b l = grind (arith, ints)
+
+-- ---- rising
+
+times-enqueue : (key : ℕ → ℤ) (t r : ℕ) (xs : List ℕ) → times t (enqueue key xs r) ≡ times t (r ∷ xs)
+times-enqueue key t r [] = refl
+times-enqueue key t r (x ∷ xs) = by_case (is_lower key x r) (times-enqueue key t r xs) where
+  behind : (a b : Bool) → times t (enqueue key xs r) ≡ cond b (suc (times t xs)) (times t xs)
+      → cond a (suc (times t (enqueue key xs r))) (times t (enqueue key xs r))
+      ≡ cond b (suc (cond a (suc (times t xs)) (times t xs))) (cond a (suc (times t xs)) (times t xs))
+  behind true true e = ap suc e
+  behind true false e = ap suc e
+  behind false true e = e
+  behind false false e = e
+
+  by_case : (b : Bool) → times t (enqueue key xs r) ≡ times t (r ∷ xs)
+      → times t (cond b (r ∷ x ∷ xs) (x ∷ enqueue key xs r)) ≡ times t (r ∷ x ∷ xs)
+  by_case true e = refl
+  by_case false e = behind (eqb x t) (eqb r t) e
+
+rises_enqueue : (dues : List ℕ) (r : ℕ) (xs : List ℕ) → Rises (due_at dues) xs → Rises (due_at dues) (enqueue (sooner_of dues) xs r)
+rises_enqueue dues r [] rises = ((λ t here. absurd (omega (arith, here))), tt)
+rises_enqueue dues r (x ∷ xs) rises = by_case (is_lower (sooner_of dues) x r) refl (rises_enqueue dues r xs rises.1) where
+  by_case : (b : Bool) → is_lower (sooner_of dues) x r ≡ b → Rises (due_at dues) (enqueue (sooner_of dues) xs r)
+      → Rises (due_at dues) (cond b (r ∷ x ∷ xs) (x ∷ enqueue (sooner_of dues) xs r))
+  by_case true e ih = (none, rises) where
+    none : NoneBefore (due_at dues) (due_at dues r) (x ∷ xs)
+    none t here = at (is_front t x xs here) where
+      at : (x ≡ t) ⊎ (1 ≤ times t xs) → due_at dues r ≤ due_at dues t
+      at (inl same) = omega (arith, later (due_at dues r) (due_at dues x) e, ap (due_at dues) same)
+      at (inr there) = omega (arith, later (due_at dues r) (due_at dues x) e, rises.0 t there)
+  by_case false e ih = (none, ih) where
+    none : NoneBefore (due_at dues) (due_at dues x) (enqueue (sooner_of dues) xs r)
+    none t here = at (is_front t r xs (omega (arith, here, times-enqueue (sooner_of dues) t r xs))) where
+      at : (r ≡ t) ⊎ (1 ≤ times t xs) → due_at dues x ≤ due_at dues t
+      at (inl same) = omega (arith, not_later (due_at dues r) (due_at dues x) e, ap (due_at dues) same)
+      at (inr there) = rises.0 t there
+
+rises_all : (dues s xs : List ℕ) → Rises (due_at dues) s → Rises (due_at dues) (fold (enqueue (sooner_of dues)) s xs)
+rises_all dues s [] rises = rises
+rises_all dues s (x ∷ xs) rises = rises_all dues (enqueue (sooner_of dues) s x) xs (rises_enqueue dues x s rises)
+
+-- in order of their times the times rise
+pub rises_order : (dues xs : List ℕ) → Rises (due_at dues) (order (sooner_of dues) xs)
+unfolding order
+rises_order dues xs = rises_all dues [] xs tt
+
+-- a request that is not there may have another time
+pub order_redue : (dues : List ℕ) (r time : ℕ) (p : ℕ → Bool) (xs : List ℕ) → times r xs ≡ 0
+    → order (sooner_of (slice_set dues r time)) (filter p xs) ≡ order (sooner_of dues) (filter p xs)
+order_redue dues r time p xs none =
+    order_reads_keys ℕ (sooner_of dues) (sooner_of (slice_set dues r time)) (filter p xs) (all_that_stand _ (filter p xs) same) where
+      same : (t : ℕ) → 1 ≤ times t (filter p xs) → sooner_of (slice_set dues r time) t ≡ sooner_of dues t
+      same t here =
+          ap (λ n. neg_ℤ (pos n)) (get_or-set_other dues r t time 0
+          (λ e. omega (arith, here, none, times_filter p t xs, ap (λ k. times k xs) e)))
+
+-- ---- the first that is due
+
+-- if none is due, none is found
+late : (dues : List ℕ) (time least : ℕ) (xs : List ℕ) → time < least → NoneBefore (due_at dues) least xs
+    → find (λ r. nat_le (due_at dues r) time) xs ≡ None
+late dues time least [] past none = refl
+late dues time least (x ∷ xs) past none =
+    let after : time < due_at dues x = omega (arith, past, none x (stands_here x xs)) in
+    let no_le : nat_le (due_at dues x) time ≡ false = grind arith in
+    cond-false _ _ _ no_le ∙ late dues time least xs past (λ t here. none t (omega (arith, here, times_later t x xs)))
+
+pub none_found : (dues : List ℕ) (time r : ℕ) (xs : List ℕ) → Rises (due_at dues) xs → Some r ≡ first xs → time < due_at dues r
+    → find (λ r. nat_le (due_at dues r) time) xs ≡ None
+none_found dues time r [] rises e l = cc
+none_found dues time r (x ∷ xs) rises e l =
+    let same : r ≡ x = cc in
+    let after : time < due_at dues x = omega (arith, l, ap (due_at dues) same) in
+    let no_le : nat_le (due_at dues x) time ≡ false = grind arith in
+    cond-false _ _ _ no_le ∙ late dues time (due_at dues x) xs after rises.0
 
 -- the timer with other requests that wait
 abbrev pub with_waiting : Held → List Waiting → Held
@@ -56,7 +148,7 @@ departed all new homes r stands has taken k = at (home homes r) refl has taken w
         ∙ ap (λ j. without r (sequence all j)) (sym same)
     by_case (inr other) =
         ap (λ l. sequence l k) taken ∙ written_other all h k (without r (sequence all h)) other
-        ∙ sym (without_absent r (sequence all k) (stands k r ∙ ap {B = ℕ} (λ o. cond (is_at o k) 1 0) e
+        ∙ sym (without_fresh r (sequence all k) (stands k r ∙ ap {B = ℕ} (λ o. cond (is_at o k) 1 0) e
         ∙ cond-false {A = ℕ} (eqb h k) 1 0 (ne_eqb h k (λ same. other (sym same)))))
 
 -- ---- none waits
@@ -69,7 +161,7 @@ same_everywhere : {A : Type 0} (n i : ℕ) (d : A) → slice_index_or (replicate
 same_everywhere n i d = by_case (cases_lt i n) where
   by_case : (i < n) ⊎ (n ≤ i) → slice_index_or (replicate n d) i d ≡ d
   by_case (inl small) = get_or-replicate n i d d small
-  by_case (inr large) = beyond (replicate n d) i d (omega (arith, large, length-replicate n d))
+  by_case (inr large) = get_or_past (replicate n d) i d (omega (arith, large, length-replicate n d))
 
 pub held_none : (n : ℕ) (queues all : List (List ℕ)) (homes begun : List (Option ℕ)) (dues : List ℕ)
     → queues ≡ replicate 2 [] → homes ≡ replicate n None → all ≡ replicate 1 [] → begun ≡ replicate n None → length dues ≡ n
@@ -165,7 +257,7 @@ module _ (queues all : List (List ℕ)) (homes begun : List (Option ℕ)) (dues 
         ∙ append-nil (begun_in homes k (sequence all 0))))
 
   waits_joined : (t : ℕ) → times t (sequence all' 0) ≡ cond (is_some (home homes' t)) 1 0
-  waits_joined t = ap (times t) last_now ∙ times-joins t (sequence all 0) (r ∷ []) ∙ by_case (cases_eq t r) where
+  waits_joined t = ap (times t) last_now ∙ times-append t (sequence all 0) (r ∷ []) ∙ by_case (cases_eq t r) where
     by_case : (t ≡ r) ⊎ (t ≡ r → ⊥) → times t (sequence all 0) + times t (r ∷ []) ≡ cond (is_some (home homes' t)) 1 0
     by_case (inl same) =
         let once : times t (r ∷ []) ≡ 1 = cond-true {A = ℕ} (eqb r t) 1 0 (eq-eqb r t (sym same)) in
@@ -220,11 +312,11 @@ module _ (queues all : List (List ℕ)) (homes begun : List (Option ℕ)) (dues 
   waits_left t = ap (times t) ends ∙ by_case (cases_eq t r) where
     by_case : (t ≡ r) ⊎ (t ≡ r → ⊥) → times t (without r (sequence all 0)) ≡ cond (is_some (home homes' t)) 1 0
     by_case (inl same) =
-        ap (λ k. times k (without r (sequence all 0))) same ∙ without_same r (sequence all 0)
+        ap (λ k. times k (without r (sequence all 0))) same ∙ times_without r (sequence all 0)
         ∙ sym (ap (λ o. cond {A = ℕ} (is_some o) 1 0) (ap (home homes') same ∙ ap (λ l. home l r) own
         ∙ get_or-set_same homes r None None known))
     by_case (inr other) =
-        without_other r t (sequence all 0) other ∙ held.waits t ∙ sym (ap (λ o. cond {A = ℕ} (is_some o) 1 0) (home_kept t other))
+        times_without_other r t (sequence all 0) other ∙ held.waits t ∙ sym (ap (λ o. cond {A = ℕ} (is_some o) 1 0) (home_kept t other))
 
   held_left : IsHeld queues' homes' all' begun' dues
   held_left = record {

@@ -3,7 +3,6 @@ pub mod Times
 pub mod Filters
 pub mod Choice
 pub mod Homes
-pub mod Queue
 pub mod Walk
 pub mod Keeping
 pub mod Next

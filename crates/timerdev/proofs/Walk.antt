@@ -1,73 +1,13 @@
 -- A walk along the requests that wait, from the last of them to the first.
-use Rattle.std.proofs.Common.{◌≡◌, ℕ, suc, ◌+◌, ◌<◌, ◌≤◌, Bool, true, false, cond, not, eqb, List, [], ◌∷◌, ◌++◌, length, refl, sym, ap, ◌∙◌, subst, arith, inl, inr, Option, Some, None}
-use Rattle.std.specs.Prelude.{◌⊎◌}
+use Rattle.std.proofs.Common.{length-append, ◌≡◌, ℕ, suc, ◌+◌, ◌<◌, ◌≤◌, true, false, not, eqb, List, [], ◌∷◌, ◌++◌, length, refl, sym, ap, ◌∙◌, subst, arith, inl, inr, Option, Some, None, ◌⊎◌}
 use Rattle.std.proofs.lemmas.Bool.{cond-true, cond-false, eq-eqb, ne_eqb, cases_eq}
 use Rattle.execlist.specs.Order.{enqueue}
-use Rattle.execlist.specs.Lists.{part_from, part_before, part_after, put_after, times, last, is_at}
+use Rattle.execlist.specs.Lists.{part_from, part_before, part_after, put_after, times, last}
 use Rattle.timerdev.specs.Held.{Rises, due_at, is_before, sooner_of}
-use Rattle.timerdev.proofs.Queue.{is_later, is_not_later}
-use Rattle.timerdev.proofs.Times.{stands_here, stands_later, times-joins}
-
--- no request is twice
-abbrev pub Once : List ℕ → Type 0
-Once seq = (n : ℕ) → times n seq ≤ 1
-
-pub once_from : (seq : List ℕ) (homes : ℕ → Option ℕ) (h : ℕ) → ((n : ℕ) → times n seq ≡ cond (is_at (homes n) h) 1 0) → Once seq
-once_from seq homes h law = λ n. by_case (is_at (homes n) h) (law n) where
-  by_case : {t : ℕ} (b : Bool) → t ≡ cond b 1 0 → t ≤ 1
-  by_case true e = omega (arith, e)
-  by_case false e = omega (arith, e)
-
-less_once : (x : ℕ) (xs : List ℕ) → Once (x ∷ xs) → Once xs
-less_once x xs once = λ n. omega (arith, once n, stands_later n x xs)
-
--- a request that is in the rest is not the one in front
-apart : (x y : ℕ) (xs : List ℕ) → Once (x ∷ xs) → 1 ≤ times y xs → eqb x y ≡ false
-apart x y xs once here = by_case (eqb x y) (once y) where
-  by_case : (b : Bool) → cond b (suc (times y xs)) (times y xs) ≤ 1 → b ≡ false
-  by_case true k = absurd (omega (arith, k, here))
-  by_case false k = refl
-
-last_stands : (m : ℕ) (xs : List ℕ) → last xs ≡ Some m → 1 ≤ times m xs
-last_stands m [] e = cc
-last_stands m (x ∷ []) e = let same : x ≡ m = cc in omega (arith, stands_here x [], ap (λ k. times k (x ∷ [])) same)
-last_stands m (x ∷ y ∷ xs) e = omega (arith, last_stands m (y ∷ xs) e, stands_later m x (y ∷ xs))
-
-last_some : (x : ℕ) (xs : List ℕ) → last (x ∷ xs) ≡ None → ⊥
-last_some x [] e = cc
-last_some x (y ∷ xs) e = last_some y xs e
-
--- the requests up to one, that one included
-abbrev pub upto : Option ℕ → List ℕ → List ℕ
-upto None seq = []
-upto (Some n) seq = part_before n seq ++ n ∷ []
-
--- ---- two parts
-
--- if the first part ends, the second begins
-after_last : (front back : List ℕ) (o : Option ℕ) → Once (front ++ back) → last front ≡ o → part_from o (front ++ back) ≡ back
-after_last [] back None once e = refl
-after_last [] back (Some m) once e = cc
-after_last (x ∷ front) back None once e = absurd (last_some x front e)
-after_last (x ∷ []) back (Some m) once e =
-    let same : x ≡ m = cc in
-    cond-true _ _ _ (eq-eqb x m same)
-after_last (x ∷ y ∷ front) back (Some m) once e =
-    let here : 1 ≤ times m (y ∷ front ++ back) = omega (arith, times-joins m (y ∷ front) back, last_stands m (y ∷ front) e) in
-    cond-false _ _ _ (apart x m (y ∷ front ++ back) once here)
-    ∙ after_last (y ∷ front) back (Some m) (less_once x (y ∷ front ++ back) once) e
-
-upto_last : (front back : List ℕ) (o : Option ℕ) → Once (front ++ back) → last front ≡ o → upto o (front ++ back) ≡ front
-upto_last [] back None once e = refl
-upto_last [] back (Some m) once e = cc
-upto_last (x ∷ front) back None once e = absurd (last_some x front e)
-upto_last (x ∷ []) back (Some m) once e =
-    let same : x ≡ m = cc in
-    ap (λ l. l ++ m ∷ []) (cond-true _ _ _ (eq-eqb x m same)) ∙ ap (λ k. k ∷ []) (sym same)
-upto_last (x ∷ y ∷ front) back (Some m) once e =
-    let here : 1 ≤ times m (y ∷ front ++ back) = omega (arith, times-joins m (y ∷ front) back, last_stands m (y ∷ front) e) in
-    ap (λ l. l ++ m ∷ []) (cond-false _ _ _ (apart x m (y ∷ front ++ back) once here))
-    ∙ ap (λ l. x ∷ l) (upto_last (y ∷ front) back (Some m) (less_once x (y ∷ front ++ back) once) e)
+use Rattle.execlist.proofs.Walks.{Once, from_before, from_last, upto, upto_before}
+use Rattle.execlist.proofs.PlainLemmas.{times_later, times-append}
+use Rattle.timerdev.proofs.Keeping.{is_later, is_not_later}
+use Rattle.timerdev.proofs.Times.{stands_here}
 
 -- a list falls into the parts round an item
 parts : (m : ℕ) (seq : List ℕ) → 1 ≤ times m seq → part_before m seq ++ m ∷ part_after m seq ≡ seq
@@ -91,28 +31,11 @@ abbrev pub Passed : List ℕ → ℕ → Option ℕ → List ℕ → Type 0
 Passed dues due after seq = (t : ℕ) → 1 ≤ times t (part_from after seq) → due < due_at dues t
 
 pub walk_begins : (dues : List ℕ) (due : ℕ) (seq : List ℕ) → Once seq → Passed dues due (last seq) seq
-walk_begins dues due seq once t here =
-    absurd (omega (arith, here, ap (times t) (behind_last seq once))) where
-      nothing_more : (xs : List ℕ) → xs ++ [] ≡ xs
-      nothing_more [] = refl
-      nothing_more (x ∷ xs) = ap (λ l. x ∷ l) (nothing_more xs)
-
-      behind_last : (seq : List ℕ) → Once seq → part_from (last seq) seq ≡ []
-      behind_last seq once =
-          ap (part_from (last seq)) (sym (nothing_more seq))
-          ∙ after_last seq [] (last seq) (subst Once (sym (nothing_more seq)) once) refl
+walk_begins dues due seq once t here = absurd (omega (arith, here, ap (times t) (from_last seq once)))
 
 module _ (seq : List ℕ) (m : ℕ) (once : Once seq) (here : 1 ≤ times m seq) where
-  whole : part_before m seq ++ m ∷ part_after m seq ≡ seq
-  whole = parts m seq here
-
-  whole_once : Once (part_before m seq ++ m ∷ part_after m seq)
-  whole_once = subst Once (sym whole) once
-
-  from_next : part_from (last (part_before m seq)) seq ≡ m ∷ part_after m seq
-  from_next =
-      ap (part_from (last (part_before m seq))) (sym whole)
-      ∙ after_last (part_before m seq) (m ∷ part_after m seq) (last (part_before m seq)) whole_once refl
+  before_it : upto (last (part_before m seq)) seq ≡ part_before m seq
+  before_it = upto_before m seq once (omega (arith, here))
 
   pub walk_steps : (dues : List ℕ) (due : ℕ) → due < due_at dues m → Passed dues due (Some m) seq
       → Passed dues due (last (part_before m seq)) seq
@@ -123,22 +46,13 @@ module _ (seq : List ℕ) (m : ℕ) (once : Once seq) (here : 1 ≤ times m seq)
         passed t (omega (
           arith,
           there,
-          ap (times t) from_next,
+          ap (times t) (from_before m seq once (omega (arith, here))),
           cond-false (eqb m t) (suc (times t (part_after m seq)))
               (times t (part_after m seq)) (ne_eqb m t other),
         ))
 
   pub walk_shorter : length (upto (last (part_before m seq)) seq) < length (upto (Some m) seq)
-  walk_shorter =
-      omega (
-        arith,
-        longer (part_before m seq),
-        ap length (ap (upto (last (part_before m seq))) (sym whole)
-            ∙ upto_last (part_before m seq) (m ∷ part_after m seq) (last (part_before m seq)) whole_once refl),
-      ) where
-        longer : (xs : List ℕ) → length (xs ++ m ∷ []) ≡ length xs + 1
-        longer [] = refl
-        longer (x ∷ xs) = omega (arith, longer xs)
+  walk_shorter = omega (arith, ap length before_it, length-append (part_before m seq) (m ∷ []))
 
 -- ---- the walk back from one request to another
 
@@ -147,23 +61,18 @@ abbrev pub Tells : (a b : ℕ) → Option ℕ → List ℕ → Type 0
 Tells a b next seq = times a (part_before b seq) ≡ times a (upto next seq)
 
 module _ (seq : List ℕ) (m : ℕ) (once : Once seq) (here : 1 ≤ times m seq) where
-  pub upto_before : upto (last (part_before m seq)) seq ≡ part_before m seq
-  upto_before =
-      ap (upto (last (part_before m seq))) (sym (whole seq m once here))
-      ∙ upto_last (part_before m seq) (m ∷ part_after m seq) (last (part_before m seq)) (whole_once seq m once here) refl
-
   pub tells_first : (a : ℕ) → Tells a m (last (part_before m seq)) seq
-  tells_first a = ap (times a) (sym upto_before)
+  tells_first a = ap (times a) (sym (before_it seq m once here))
 
   pub tells_further : (a b : ℕ) → (m ≡ a → ⊥) → Tells a b (Some m) seq → Tells a b (last (part_before m seq)) seq
   tells_further a b other tells =
       let none : times a (m ∷ []) ≡ 0 = cond-false {A = ℕ} (eqb m a) 1 0 (ne_eqb m a other) in
-      omega (arith, tells, times-joins a (part_before m seq) (m ∷ []), none, tells_first a)
+      omega (arith, tells, times-append a (part_before m seq) (m ∷ []), none, tells_first a)
 
 pub tells_here : (a b m : ℕ) (seq : List ℕ) → m ≡ a → Tells a b (Some m) seq → is_before a b seq ≡ true
 tells_here a b m seq same tells =
     ap not (ne_eqb (times a (part_before b seq)) 0 (λ e. omega
-    (arith, e, tells, times-joins a (part_before m seq) (m ∷ []), stands_here a [], ap (λ k. times a (k ∷ [])) same)))
+    (arith, e, tells, times-append a (part_before m seq) (m ∷ []), stands_here a [], ap (λ k. times a (k ∷ [])) same)))
 
 pub tells_none : (a b : ℕ) (seq : List ℕ) → Tells a b None seq → is_before a b seq ≡ false
 tells_none a b seq tells = ap not (eq-eqb (times a (part_before b seq)) 0 tells)
@@ -176,7 +85,7 @@ module _ (dues : List ℕ) (r : ℕ) where
   passes [] ys early = refl
   passes (x ∷ xs) ys early =
       cond-false _ _ _ (is_not_later (due_at dues r) (due_at dues x) (early x (stands_here x xs)))
-      ∙ ap (λ l. x ∷ l) (passes xs ys (λ t here. early t (omega (arith, here, stands_later t x xs))))
+      ∙ ap (λ l. x ∷ l) (passes xs ys (λ t here. early t (omega (arith, here, times_later t x xs))))
 
   goes_first : (xs : List ℕ) → ((t : ℕ) → 1 ≤ times t xs → due_at dues r < due_at dues t) → enqueue (sooner_of dues) xs r ≡ r ∷ xs
   goes_first [] late = refl
@@ -188,7 +97,7 @@ module _ (dues : List ℕ) (r : ℕ) where
   rises_to [] m back rises t here = absurd (omega (arith, here))
   rises_to (x ∷ front) m back rises t here = by_case (cases_eq x t) (rises_to front m back rises.1 t) where
     m_later : 1 ≤ times m (front ++ m ∷ back)
-    m_later = omega (arith, times-joins m front (m ∷ back), stands_here m back)
+    m_later = omega (arith, times-append m front (m ∷ back), stands_here m back)
 
     by_case : (x ≡ t) ⊎ (x ≡ t → ⊥) → (1 ≤ times t front → due_at dues t ≤ due_at dues m) → due_at dues t ≤ due_at dues m
     by_case (inl same) ih = omega (arith, rises.0 m m_later, ap (due_at dues) same)

@@ -2,8 +2,9 @@
 use Rattle.std.proofs.Common.{◌<◌, ◌+◌, length, map, slice_set, take, sym, ◌∙◌, ap, arith, [], ◌∷◌, ◌++◌, Some}
 use Rattle.std.proofs.lemmas.List.{get_or-map, length-map, length-set}
 use Rattle.execlist.specs.Lists.{blank, home, sequence}
+use Rattle.execlist.proofs.PlainLemmas.{one_more}
 use Rattle.execlib.specs.Libraries.{no_library, description_of, key_of}
-use Rattle.execlib.proofs.Names.{one_more, still_nowhere, one_more_key}
+use Rattle.execlib.proofs.Names.{still_nowhere, one_more_key}
 use Rattle.execlib.proofs.libs.names_of.Goals as goal
 
 pub loop-i-preserved : goal.loop-i-preserved

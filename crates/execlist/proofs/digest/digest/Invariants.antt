@@ -1,6 +1,5 @@
 -- The digest so far is that of the bytes read.
-use Rattle.std.proofs.Common.{◌≡◌, take}
-use Rattle.std.specs.Prelude.{fold}
+use Rattle.std.proofs.Common.{◌≡◌, take, fold}
 use Rattle.execlist.specs.Digest.{digest_step}
 use Rattle.execlist.proofs.digest.digest.Given as goal
 

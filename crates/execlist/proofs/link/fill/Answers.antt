@@ -1,6 +1,5 @@
 -- One key of a new node more is stored.
-use Rattle.std.proofs.Common.{◌≡◌, ◌≤◌, ◌+◌, ◌-◌, [], ◌∷◌, ◌++◌, length, replicate, ap, ◌∙◌, arith}
-use Rattle.std.specs.Prelude.{is_ok, if◌then◌else◌}
+use Rattle.std.proofs.Common.{◌≡◌, ◌≤◌, ◌+◌, ◌-◌, [], ◌∷◌, ◌++◌, length, replicate, ap, ◌∙◌, arith, is_ok, if◌then◌else◌}
 use Rattle.execlist.specs.Lists.{blank}
 use Rattle.execlist.specs.DigestKeys.{digest_keys_of}
 use Rattle.execlist.proofs.KeyLemmas.{pushed, stored-length}

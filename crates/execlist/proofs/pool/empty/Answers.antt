@@ -1,7 +1,6 @@
 -- One number more is free.
-use Rattle.std.proofs.Common.{None, ap, ◌∙◌, arith}
-use Rattle.std.specs.Prelude.{slice_set}
-use Rattle.execlist.proofs.PoolResets.{emptied}
+use Rattle.std.proofs.Common.{None, ap, ◌∙◌, arith, slice_set}
+use Rattle.execlist.proofs.Pools.{emptied}
 use Rattle.execlist.proofs.pool.empty.Goals as goal
 
 pub loop-n-preserved : goal.loop-n-preserved

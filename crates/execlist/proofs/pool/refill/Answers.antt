@@ -1,9 +1,8 @@
 -- The stack has room for one number more, and then holds it.
-use Rattle.std.proofs.Common.{◌≡◌, ◌+◌, [], ◌∷◌, ◌++◌, length, ap, ◌∙◌, arith}
-use Rattle.std.specs.Prelude.{is_ok, if◌then◌else◌}
+use Rattle.std.proofs.Common.{◌≡◌, ◌+◌, [], ◌∷◌, ◌++◌, length, ap, ◌∙◌, arith, is_ok, if◌then◌else◌}
 use Rattle.std.specs.List.{range_with_len}
 use Rattle.std.proofs.lemmas.List.FromFn.{length-range_with_len}
-use Rattle.execlist.proofs.PoolResets.{range_pushed}
+use Rattle.execlist.proofs.Pools.{range_pushed}
 use Rattle.execlist.proofs.pool.refill.Goals as goal
 
 pub unwrap-requires : goal.unwrap-requires

@@ -1,6 +1,5 @@
 -- The proof of `put_long_call`: puts the line of a call whose parts may have no room in one piece.
-use Rattle.std.proofs.Common.{refl}
-use Rattle.std.specs.Prelude.{codes}
+use Rattle.std.proofs.Common.{refl, codes}
 use Rattle.exectrace.specs.Trace.{outcome_text}
 use Rattle.exectrace.specs.Shown.{shown_outcome}
 use Rattle.exectrace.proofs.Pieces.{adds_then, adds_both, adds_all}

@@ -1,6 +1,5 @@
 -- The proof of `better`: what is chosen once the header at a place is looked at too.
-use Rattle.std.proofs.Common.{◌≡◌, drop, sym, subst, ◌∙◌}
-use Rattle.std.specs.Prelude.{Option, Some, IsSomeAnd}
+use Rattle.std.proofs.Common.{◌≡◌, drop, sym, subst, ◌∙◌, Option, Some, IsSomeAnd}
 use Rattle.memlist.specs.Areas.{Area, area_gaps}
 use Rattle.memlist.specs.Choice.{IsLowest, chosen_of}
 use Rattle.memlist.proofs.Choices.{area_at, drop_area, offer_outranked, offer_chosen, offers_by}

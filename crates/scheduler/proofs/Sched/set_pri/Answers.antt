@@ -1,12 +1,10 @@
 -- The priority is stored as it was given, and the tasks with it are those of `reprioritized`.
-use Rattle.std.proofs.Common.{rules, ap, ◌∙◌, slice_set}
+use Rattle.std.proofs.Common.{rules, ap, ◌∙◌, slice_set, w8, SFits}
 use Rattle.std.proofs.lemmas.Int.{to_z-of_z}
 use Rattle.execlist.specs.Disciplines.{by_priority}
 use Rattle.scheduler.specs.Dispatch.{reprioritized}
 use Rattle.scheduler.proofs.ScheduleLemmas.{reprioritized_is}
 use Rattle.scheduler.proofs.Sched.set_pri.Goals as goal
-use mir.Syntax.{w8}
-use mir.Val.{SFits}
 
 pub returns-clause-next : goal.returns-clause-next
 returns-clause-next g c =

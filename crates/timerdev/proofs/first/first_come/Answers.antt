@@ -1,9 +1,9 @@
 -- If the first is not due, none is.
 use Rattle.std.proofs.Common.{rules, ◌<◌, arith, length, sym}
 use Rattle.execlist.specs.Lists.{sequence}
+use Rattle.execlist.proofs.PlainLemmas.{home_known}
 use Rattle.timerdev.specs.Held.{due_at}
-use Rattle.timerdev.proofs.Homes.{home_known}
-use Rattle.timerdev.proofs.Queue.{none_found}
+use Rattle.timerdev.proofs.Keeping.{none_found}
 use Rattle.timerdev.proofs.first.first_come.Goals as goal
 
 pub returns-then-dues-r-clause-value : goal.returns-then-dues-r-clause-value

@@ -1,8 +1,9 @@
 -- The walk stops at the first request, or has seen all that are before the second.
 use Rattle.std.proofs.Common.{rules, ◌≡◌, sym, ◌∙◌, subst, None}
 use Rattle.execlist.specs.Lists.{sequence, home}
+use Rattle.execlist.proofs.Walks.{once_from}
 use Rattle.timerdev.proofs.Homes.{stands_once}
-use Rattle.timerdev.proofs.Walk.{Tells, once_from, walk_shorter, tells_first, tells_further, tells_here, tells_none}
+use Rattle.timerdev.proofs.Walk.{Tells, walk_shorter, tells_first, tells_further, tells_here, tells_none}
 use Rattle.timerdev.proofs.first.is_before.Goals as goal
 
 pub loop-next-init : goal.loop-next-init

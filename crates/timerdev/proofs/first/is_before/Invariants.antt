@@ -2,7 +2,8 @@
 use Rattle.std.proofs.Common.{◌≡◌, length, Some}
 use Rattle.std.specs.Option.{ForSome}
 use Rattle.execlist.specs.Lists.{sequence, home}
-use Rattle.timerdev.proofs.Walk.{Tells, upto}
+use Rattle.execlist.proofs.Walks.{upto}
+use Rattle.timerdev.proofs.Walk.{Tells}
 use Rattle.timerdev.proofs.first.is_before.Given as goal
 
 abbrev pub invariant-loop-next : goal.invariant-loop-next

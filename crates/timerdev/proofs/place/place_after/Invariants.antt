@@ -2,7 +2,8 @@
 use Rattle.std.proofs.Common.{◌≡◌, length, Some}
 use Rattle.std.specs.Option.{ForSome}
 use Rattle.execlist.specs.Lists.{sequence, home}
-use Rattle.timerdev.proofs.Walk.{Passed, upto}
+use Rattle.execlist.proofs.Walks.{upto}
+use Rattle.timerdev.proofs.Walk.{Passed}
 use Rattle.timerdev.proofs.place.place_after.Given as goal
 
 abbrev pub invariant-loop-after : goal.invariant-loop-after

@@ -1,6 +1,5 @@
 -- The first node of the name is the first library of the name.
-use Rattle.std.proofs.Common.{length, map, ap, ◌∙◌}
-use Rattle.std.specs.Prelude.{find}
+use Rattle.std.proofs.Common.{length, map, ap, ◌∙◌, find}
 use Rattle.execlist.specs.Lists.{is_named, sequence}
 use Rattle.execlib.specs.Libraries.{Libraries, description_of, number_of, numbers}
 use Rattle.execlib.proofs.Names.{found}

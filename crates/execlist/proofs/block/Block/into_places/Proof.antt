@@ -30,7 +30,7 @@ use Rattle.core.proofs.slots.Opens.{row_val}
 use Rattle.core.proofs.slots.Slots.from_raw_parts.Met as callee
 use Rattle.execlist.specs.Ownership.{block_type, block_own}
 use Rattle.execlist.proofs.Values.{slot_at, base_val, base_told}
-use Rattle.execlist.proofs.Rooms.{cells_room}
+use Rattle.execlist.proofs.Memory.{cells_room}
 use Rattle.execlist.proofs.Rows.{Row, all as places, row_Typed, From, at_from, Made, from_goes, from_gives}
 use Rattle.execlist.proofs.Cells.{E}
 use Rattle.execlist.specs.contracts.block.Block.{the_row as R}

@@ -1,25 +1,11 @@
 -- `next_id` reads the number of the next cell through a `&`. Assumes `Logic`.
-use Rattle.execlist.proofs.Steps.{[], ◌∷◌, refl, arith, proved, id⊢, ftrue, flft, named, vint, fact, tables, ‵, raw, ◌⊛◌, at_ret, ◌$◌, ◌∵◌, !, qed, done, move, keep, drop, split, join, fsplit, fjoin, suffices, frame, enter, of_opd, bin, load, look, stop, fld, first, blocks, exec, returns, alloc_all, pass_all, free_all, look_at, get, through, sets, env, yes, uint_vals, uint_Tells, uint_Makes, in_a_block, plain, nothing, owned, heard, Stays, says, stay_dropped, Goes-dropped, walk_of, ends_at}
-use lib.ListN.{length}
-use Prim.Native.Nat.{◌<◌, ◌+◌, ◌^◌}
-use base.Logic.{never}
-use denote.Builtin.{usize, u32, RefOf}
-use denote.RattleType.{owns}
-use denote.Ref.{shr_vals, shr_Tells}
-use denote.Signature.{types_at}
-use denote.Opens.{hide, unhide}
-use denote.Index.{looks_slice, shuts_slice}
-use types.Kit.{flt_l}
-use types.Part.{whole, sub, look_in}
-use types.Run.{lit}
-use mir.Syntax.{w64, w32}
-use mir.Val.{vptr}
-use types.ByLocal.{sets_last}
-use Rattle.std.proofs.VecSteps.Shapes.{after}
+use Rattle.execlist.proofs.Steps.{[], ◌∷◌, refl, arith, proved, id⊢, ftrue, flft, named, vint, fact, tables, ‵, raw, ◌⊛◌, at_ret, ◌$◌, ◌∵◌, !, qed, done, move, keep, drop, split, join, fsplit, fjoin, suffices, frame}
+use Rattle.execlist.proofs.Steps.{enter, of_opd, bin, load, look, stop, fld, first, blocks, exec, returns, alloc_all, pass_all, free_all, look_at, get, through, sets, env, yes, uint_vals, uint_Tells, uint_Makes}
+use Rattle.execlist.proofs.Steps.{in_a_block, plain, nothing, owned, heard, Stays, says, stay_dropped, Goes-dropped, walk_of, ends_at, length, ◌<◌, ◌+◌, ◌^◌, never, usize, u32, RefOf, owns, shr_vals, shr_Tells, types_at}
+use Rattle.execlist.proofs.Steps.{hide, unhide, looks_slice, shuts_slice, flt_l, whole, sub, look_in, lit, w64, w32, vptr, sets_last, after}
 use Rattle.execlist.specs.Links.{link_at}
 use Rattle.execlist.specs.Ownership.{cell_row, laid, block_lent}
-use Rattle.execlist.proofs.Sharing.{cell_Copied}
-use Rattle.execlist.proofs.Memory.{cell_taken, cell_back, pointer_in, pointer_out}
+use Rattle.execlist.proofs.Memory.{cell_Copied, cell_taken, cell_back, pointer_in, pointer_out}
 use Rattle.execlist.specs.contracts.block.Block.next_id as f
 use Rattle.execlist.proofs.block.Block.next_id.Statement.{statement}
 use Rattle.execlist.proofs.block.Block.next_id.Code as code

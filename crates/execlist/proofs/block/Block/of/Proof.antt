@@ -1,10 +1,9 @@
 -- `of` makes a block of a row of places, whatever is in them. Assumes `Logic`.
-use Rattle.std.proofs.Common.{◌≡◌, ℕ, ◌*◌, ◌+◌, ◌-◌, ◌^◌, ◌<◌, List, [], ◌∷◌, ◌++◌, refl, sym, subst, arith, ◌∙◌}
+use Rattle.std.proofs.Common.{◌≡◌, ℕ, ◌*◌, ◌+◌, ◌-◌, ◌^◌, ◌<◌, List, [], ◌∷◌, ◌++◌, refl, sym, subst, arith, ◌∙◌, length}
 use mir.Val.{Val, WT}
 use base.Fraction.{full_share}
 use base.Logic.{SProp, ent, emp, id⊢}
 use base.Fml.{froom, flft}
-use lib.ListN.{length}
 use prog.Wp.{WpFn}
 use contract.BorrowLft.{⊑_static}
 use contract.Monad.{fact, fact_i}

@@ -1,31 +1,22 @@
 -- `push` writes one whole cell. Assumes `Logic`.
-use Rattle.execlist.proofs.Steps.{◌≡◌, ℕ, List, [], ◌∷◌, refl, sym, ap, ◌∙◌, arith, proved, full_share, id⊢, ftrue, fat, flft, named, Val, vunit, vint, fact, tables, ‵, raw, ◌⊛◌, at_ret, ◌$◌, ◌∵◌, !, qed, done, move, keep, split, join, fsplit, fsplit3, fjoin, feq_i, rewrite, suffices, frame, enter, of_opd, unit_lit, bin, lit, load, stop, fld, assigns_last, first, blocks, exec, returns, alloc_all, pass_all, free_all, look_at, get, through, sets, env, yes, shows, uint_vals, uint_Tells, Ptr, in_a_block, mut_vals, mut_Tells, plain, nothing, opens, closes, peeks, heard, Stays, stay_dropped, stay_ref, Goes-dropped, Goes-ref, walk_of, ends_at}
-use lib.ListN.{length}
-use Prim.Native.Nat.{◌<◌, ◌*◌, ◌+◌, ◌-◌, ◌^◌}
-use mir.Syntax.{w32, w64}
-use mir.Val.{vptr}
-use base.Logic.{never}
-use base.Fml.{froom}
-use denote.Builtin.{usize, u32}
-use denote.RattleType.{owns}
-use denote.Signature.{types_at}
-use denote.Memory.{cell_at}
-use types.Kit.{fjoin3, flt_l, flt_i}
-use types.Part.{agg, whole, sub, look_in}
-use types.Run.{init, no_more, and_then}
-use types.Kit.{use0, use1, use2}
-use borrow.Table.OneValue.{part_in}
-use denote.Memory.{part_at, lone}
-use mir.Syntax.{Ty}
+use Rattle.execlist.proofs.Steps.{◌≡◌, ℕ, List, [], ◌∷◌, refl, sym, ap, ◌∙◌, arith, proved, full_share, id⊢, ftrue, fat, flft, named, Val, vunit, vint, fact, tables, ‵, raw, ◌⊛◌, at_ret, ◌$◌, ◌∵◌, !, qed, done, move}
+use Rattle.execlist.proofs.Steps.{keep, split, join, fsplit, fsplit3, fjoin, feq_i, rewrite, suffices, frame, enter, of_opd, unit_lit, bin, lit, load, stop, fld, assigns_last, first, blocks, exec, returns, alloc_all}
+use Rattle.execlist.proofs.Steps.{pass_all, free_all, look_at, get, through, sets, env, yes, shows, uint_vals, uint_Tells, Ptr, in_a_block, mut_vals, mut_Tells, plain, nothing, opens, closes, peeks, heard, Stays}
+use Rattle.execlist.proofs.Steps.{stay_dropped, stay_ref, Goes-dropped, Goes-ref, walk_of, ends_at, length, ◌<◌, ◌*◌, ◌+◌, ◌-◌, ◌^◌, w32, w64, vptr, never, froom, usize, u32, owns, types_at, cell_at, fjoin3, flt_l}
+use Rattle.execlist.proofs.Steps.{flt_i, whole, sub, look_in, no_more, and_then, use1, use2, after}
 use lib.ListN.{length-append}
-use mathlib.Core.List.{◌++◌}
 use Prim.Native.Nat.{suc}
-use Rattle.std.proofs.VecSteps.Shapes.{after}
+use mir.Syntax.{Ty}
+use denote.Memory.{part_at, lone}
+use types.Part.{agg}
+use types.Run.{init}
+use types.Kit.{use0}
+use borrow.Table.OneValue.{part_in}
+use mathlib.Core.List.{◌++◌}
 use Rattle.execlist.specs.Links.{link}
 use Rattle.execlist.specs.Ownership.{cell_row, cell_type, cell_val, cell_of, cells_own, block_own, block_type}
 use Rattle.execlist.specs.contracts.block.Cell as cell
-use Rattle.execlist.proofs.Memory.{cell_made}
-use Rattle.execlist.proofs.Rooms.{cells_push, says_both}
+use Rattle.execlist.proofs.Memory.{cell_made, cells_push, says_both}
 use Rattle.execlist.specs.contracts.block.Block.push as f
 use Rattle.execlist.proofs.block.Block.push.Statement.{statement}
 use Rattle.execlist.proofs.block.Block.push.Code as code

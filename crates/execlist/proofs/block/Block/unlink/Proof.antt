@@ -1,22 +1,14 @@
 -- `unlink` joins the cell's neighbours. Assumes `Logic`.
-use Rattle.execlist.proofs.Steps.{◌≡◌, ℕ, List, [], ◌∷◌, refl, sym, ap, ◌∙◌, lit<, arith, proved, full_share, id⊢, ftrue, flft, named, Val, vunit, vint, fact, tables, ‵, raw, ◌⊛◌, at_ret, ◌$◌, ◌∵◌, !, qed, done, move, keep, split, join, fsplit, fsplit3, fjoin, feq_i, rewrite, suffices, frame, enter, of_opd, unit_lit, bin, lit, load, stop, fld, assigns, assigns_last, first, blocks, exec, returns, alloc_all, pass_all, free_all, look_at, get, through, sets, env, yes, shows, uint_vals, uint_Tells, Ptr, in_a_block, mut_vals, mut_Tells, plain, nothing, opens, closes, peeks, heard, Stays, stay_dropped, stay_ref, Goes-dropped, Goes-ref, walk_of, ends_at}
-use lib.ListN.{length, length-set}
-use Prim.Native.Nat.{◌<◌, ◌*◌, ◌+◌, ◌-◌, ◌^◌}
-use mir.Syntax.{w64}
-use mir.Val.{vptr}
-use base.Logic.{never}
-use base.Fml.{froom}
-use denote.Builtin.{usize}
-use denote.RattleType.{owns}
-use denote.Signature.{types_at}
-use denote.Memory.{cell_at}
-use types.Kit.{fjoin3, flt_l, flt_i}
-use types.Part.{whole, sub, look_in, store_in}
-use Rattle.std.proofs.VecSteps.Shapes.{after}
+use Rattle.execlist.proofs.Steps.{◌≡◌, ℕ, List, [], ◌∷◌, refl, sym, ap, ◌∙◌, lit<, arith, proved, full_share, id⊢, ftrue, flft, named, Val, vunit, vint, fact, tables, ‵, raw, ◌⊛◌, at_ret, ◌$◌, ◌∵◌, !, qed, done, move}
+use Rattle.execlist.proofs.Steps.{keep, split, join, fsplit, fsplit3, fjoin, feq_i, rewrite, suffices, frame, enter, of_opd, unit_lit, bin, lit, load, stop, fld, assigns, assigns_last, first, blocks, exec, returns}
+use Rattle.execlist.proofs.Steps.{alloc_all, pass_all, free_all, look_at, get, through, sets, env, yes, shows, uint_vals, uint_Tells, Ptr, in_a_block, mut_vals, mut_Tells, plain, nothing, opens, closes, peeks, heard}
+use Rattle.execlist.proofs.Steps.{Stays, stay_dropped, stay_ref, Goes-dropped, Goes-ref, walk_of, ends_at, length, ◌<◌, ◌*◌, ◌+◌, ◌-◌, ◌^◌, w64, vptr, never, froom, usize, owns, types_at, cell_at, fjoin3, flt_l, flt_i}
+use Rattle.execlist.proofs.Steps.{whole, sub, look_in, after}
+use lib.ListN.{length-set}
+use types.Part.{store_in}
 use Rattle.execlist.specs.Links.{link_at, set_next, set_prev, unlinked}
 use Rattle.execlist.specs.Ownership.{block_own, block_type}
-use Rattle.execlist.proofs.Memory.{cell_taken, cell_given, cell_back, unlinked-length}
-use Rattle.execlist.proofs.Rooms.{says_both}
+use Rattle.execlist.proofs.Memory.{cell_taken, cell_given, cell_back, unlinked-length, says_both}
 use Rattle.execlist.specs.contracts.block.Block.unlink as f
 use Rattle.execlist.proofs.block.Block.unlink.Statement.{statement}
 use Rattle.execlist.proofs.block.Block.unlink.Code as code

@@ -1,6 +1,5 @@
 -- Each walk comes one node nearer to the other, and what is sought is among the nodes between them or in `found`.
-use Rattle.std.proofs.Common.{◌≡◌, ℕ, ◌<◌, Bool, Some, cond, refl, ap, sym, ◌∙◌, subst, length, None}
-use Rattle.std.specs.Prelude.{find}
+use Rattle.std.proofs.Common.{◌≡◌, ℕ, ◌<◌, Bool, Some, cond, refl, ap, sym, ◌∙◌, subst, length, None, find}
 use Rattle.std.proofs.lemmas.Bool.{cond-true, cond-false, ne_eqb}
 use Rattle.execlist.specs.Lists.{sequence, home, key_at, ahead, part_before, part_from}
 use Rattle.execlist.specs.DigestKeys.{keys_in}

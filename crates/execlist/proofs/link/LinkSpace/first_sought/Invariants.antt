@@ -1,6 +1,5 @@
 -- What is sought is sought in the nodes ahead; the last of them is `back`, or is before it, and `found` is the number of what is after `back`.
-use Rattle.std.proofs.Common.{◌≡◌, ℕ, ◌<◌, length, Bool, Some}
-use Rattle.std.specs.Prelude.{find}
+use Rattle.std.proofs.Common.{◌≡◌, ℕ, ◌<◌, length, Bool, Some, find}
 use Rattle.std.specs.Option.{ForSome}
 use Rattle.execlist.specs.Lists.{sequence, home, key_at, times, ahead, part_after}
 use Rattle.execlist.specs.DigestKeys.{keys_in}

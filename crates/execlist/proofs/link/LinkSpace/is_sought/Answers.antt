@@ -1,6 +1,5 @@
 -- The key that is asked is the stored one, if one is stored.
-use Rattle.std.proofs.Common.{ap, sym, ◌∙◌}
-use Rattle.std.specs.Prelude.{option_copied}
+use Rattle.std.proofs.Common.{ap, sym, ◌∙◌, option_copied}
 use Rattle.execlist.proofs.KeyLemmas.{key_or, key_seen}
 use Rattle.execlist.proofs.link.LinkSpace.is_sought.Goals as goal
 

@@ -1,6 +1,5 @@
 -- The node goes before the first of lower priority, or last if there is none.
-use Rattle.std.proofs.Common.{◌≡◌, ℕ, Bool, Some, SFits, w8, ap, sym, ◌∙◌, rules}
-use Rattle.std.specs.Prelude.{find, slice_set, int_lt}
+use Rattle.std.proofs.Common.{◌≡◌, ℕ, Bool, Some, SFits, w8, ap, sym, ◌∙◌, rules, find, slice_set, int_lt}
 use Rattle.std.specs.Option.{ForSome}
 use Rattle.std.proofs.lemmas.Int.{to_z-of_z}
 use Rattle.execlist.specs.Order.{is_lower}

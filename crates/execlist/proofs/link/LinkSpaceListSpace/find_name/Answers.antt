@@ -1,6 +1,5 @@
 -- The search begins at the first node of the part asked for.
-use Rattle.std.proofs.Common.{◌≡◌, ap, sym, ◌∙◌, Some}
-use Rattle.std.specs.Prelude.{find}
+use Rattle.std.proofs.Common.{◌≡◌, ap, sym, ◌∙◌, Some, find}
 use Rattle.execlist.specs.Lists.{sequence, home, key_at, part_from, is_named, name_is, ahead}
 use Rattle.execlist.specs.DigestKeys.{keys_in}
 use Rattle.execlist.specs.Chains.{lists_of, homes_of}

@@ -1,6 +1,5 @@
 -- The name is that of the stored key, if one is stored.
-use Rattle.std.proofs.Common.{ap, sym, ◌∙◌}
-use Rattle.std.specs.Prelude.{option_copied}
+use Rattle.std.proofs.Common.{ap, sym, ◌∙◌, option_copied}
 use Rattle.execlist.specs.Lists.{Key, name_is}
 use Rattle.execlist.proofs.KeyLemmas.{key_or, key_seen}
 use Rattle.execlist.proofs.link.LinkSpaceListSpace.has_name.Goals as goal

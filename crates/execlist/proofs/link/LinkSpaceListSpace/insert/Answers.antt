@@ -1,8 +1,7 @@
 -- A cell that is put between two neighbours is in their list.
 use Rattle.std.proofs.Common.{◌+◌, ◌<◌, length, ap, sym, subst, ◌∙◌, arith}
 use Rattle.execlist.specs.Links.{link_at}
-use Rattle.execlist.proofs.LinkLemmas.{known-header, homes_length, pred-in, pred-next-in, new-lists, new-holds, new-homes, stands-linked}
-use Rattle.execlist.proofs.Fresh.{AreFresh, linked-fresh}
+use Rattle.execlist.proofs.LinkLemmas.{known-header, homes_length, pred-in, pred-next-in, new-lists, new-holds, new-homes, stands-linked, AreFresh, linked-fresh}
 use Rattle.execlist.proofs.link.LinkSpaceListSpace.insert.Goals as goal
 
 pub cell_before-before-requires : goal.cell_before-before-requires

@@ -1,6 +1,5 @@
 -- The priority is that of the stored key, if one is stored.
-use Rattle.std.proofs.Common.{SFits, w8, ap, sym, ◌∙◌, rules}
-use Rattle.std.specs.Prelude.{option_copied}
+use Rattle.std.proofs.Common.{SFits, w8, ap, sym, ◌∙◌, rules, option_copied}
 use Rattle.std.proofs.lemmas.Int.{to_z-of_z}
 use Rattle.execlist.specs.Lists.{Key}
 use Rattle.execlist.proofs.KeyLemmas.{key_or, key_seen}

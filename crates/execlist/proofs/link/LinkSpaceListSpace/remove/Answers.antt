@@ -3,8 +3,7 @@ use Rattle.std.proofs.Common.{ap, sym, subst, ◌∙◌}
 use Rattle.execlist.specs.Lists.{home}
 use Rattle.execlist.specs.Chains.{IsLinked, lists_of, homes_of}
 use Rattle.execlist.proofs.PlainLemmas.{if_some_from}
-use Rattle.execlist.proofs.LinkLemmas.{is-some, node-in, node-next-in, node-prev-in, out-lists, out-holds, out-homes, stands-linked, homes_length}
-use Rattle.execlist.proofs.Fresh.{AreFresh, unlinked-fresh}
+use Rattle.execlist.proofs.LinkLemmas.{is-some, node-in, node-next-in, node-prev-in, out-lists, out-holds, out-homes, stands-linked, homes_length, AreFresh, unlinked-fresh}
 use Rattle.execlist.proofs.link.LinkSpaceListSpace.remove.Goals as goal
 
 pub unlink-requires : goal.unlink-requires

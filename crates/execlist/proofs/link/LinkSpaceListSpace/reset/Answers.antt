@@ -4,9 +4,8 @@ use Rattle.execlist.specs.Lists.{blank, home}
 use Rattle.execlist.specs.Chains.{homes_of, header_of}
 use Rattle.execlist.specs.DigestKeys.{keys_in}
 use lib.ListN.{length-replicate}
-use Rattle.execlist.proofs.Fresh.{all-empty, all-fresh, all-unlinked}
+use Rattle.execlist.proofs.LinkLemmas.{all-empty, all-fresh, all-unlinked, home-at, homes_length}
 use Rattle.execlist.proofs.KeyLemmas.{no-keys}
-use Rattle.execlist.proofs.LinkLemmas.{home-at, homes_length}
 use Rattle.execlist.proofs.link.LinkSpaceListSpace.reset.Goals as goal
 
 pub loop-n-init : goal.loop-n-init

@@ -1,8 +1,6 @@
 -- One key is another.
-use Rattle.std.proofs.Common.{◌≡◌, ◌<◌, ◌≤◌, length, set, ap, ◌∙◌, arith}
-use Rattle.std.specs.Prelude.{option_map}
+use Rattle.std.proofs.Common.{◌≡◌, ◌<◌, ◌≤◌, length, set, ap, ◌∙◌, arith, option_map, length-set}
 use Rattle.std.proofs.lemmas.Int.{to_z-of_z}
-use Rattle.std.proofs.lemmas.List.{length-set}
 use Rattle.execlist.specs.Lists.{Key}
 use Rattle.execlist.specs.DigestKeys.{digest_key_of, keys_in}
 use Rattle.execlist.proofs.KeyLemmas.{key_set}

@@ -1,6 +1,5 @@
 -- An empty list represents empty sequences.
-use Rattle.std.proofs.Common.{◌≡◌, None, [], length, replicate, map, refl, ap, sym, ◌∙◌, arith, rules}
-use Rattle.std.specs.Prelude.{pos}
+use Rattle.std.proofs.Common.{◌≡◌, None, [], length, replicate, map, refl, ap, sym, ◌∙◌, arith, rules, pos}
 use Rattle.std.proofs.lemmas.List.FromFn.{length-map-range_with_len}
 use Rattle.execlist.specs.Lists.{blank}
 use Rattle.execlist.specs.Plain.{nodes_of}

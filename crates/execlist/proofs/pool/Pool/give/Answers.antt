@@ -1,8 +1,7 @@
 -- The number on top of the stack is free, and leaves it.
 use Rattle.std.proofs.Common.{◌≤◌, length, ap, ◌∙◌, arith}
 use Rattle.execlist.specs.Pool as spec
-use Rattle.execlist.proofs.Pools.{popped, top_free, given, given_by}
-use Rattle.execlist.proofs.PoolResets.{fresh_popped}
+use Rattle.execlist.proofs.Pools.{popped, top_free, given, given_by, fresh_popped}
 use Rattle.execlist.proofs.pool.Pool.give.Goals as goal
 
 pub index_mut-requires : goal.index_mut-requires

@@ -1,9 +1,7 @@
 -- The stack has room for a number that held an item, and then holds it.
-use Rattle.std.proofs.Common.{[], ◌∷◌, ◌++◌, ◌∙◌, ap, arith}
-use Rattle.std.specs.Prelude.{IsSome, is_ok, if◌then◌else◌}
+use Rattle.std.proofs.Common.{[], ◌∷◌, ◌++◌, ◌∙◌, ap, arith, IsSome, is_ok, if◌then◌else◌}
 use Rattle.execlist.specs.Pool.{slot}
-use Rattle.execlist.proofs.Pools.{item_of, room_for, released}
-use Rattle.execlist.proofs.PoolResets.{fresh_pushed}
+use Rattle.execlist.proofs.Pools.{item_of, room_for, released, fresh_pushed}
 use Rattle.execlist.proofs.pool.Pool.release.Goals as goal
 
 pub unwrap-requires : goal.unwrap-requires

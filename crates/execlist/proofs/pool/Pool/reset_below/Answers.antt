@@ -3,7 +3,7 @@ use Rattle.std.proofs.Common.{◌≡◌, ◌≤◌, length, sym, ap, subst, ◌�
 use Rattle.std.specs.List.{range_with_len}
 use Rattle.std.proofs.lemmas.List.FromFn.{length-range_with_len}
 use Rattle.execlist.specs.Pool.{Pooled}
-use Rattle.execlist.proofs.PoolResets.{IsTakenFrom, low_empty, fresh_lower, fresh_new, reset_pool}
+use Rattle.execlist.proofs.Pools.{IsTakenFrom, low_empty, fresh_lower, fresh_new, reset_pool}
 use Rattle.execlist.proofs.pool.Pool.reset_below.Goals as goal
 
 pub empty-requires-clause-free : goal.empty-requires-clause-free

@@ -1,6 +1,5 @@
 -- As many numbers hold an item as before, and the same ones.
-use Rattle.std.proofs.Common.{ap}
-use Rattle.std.specs.Prelude.{IsSome}
+use Rattle.std.proofs.Common.{ap, IsSome}
 use Rattle.execlist.specs.Pool.{slot}
 use Rattle.execlist.proofs.Pools.{item_of, written}
 use Rattle.execlist.proofs.pool.Pool.set.Goals as goal

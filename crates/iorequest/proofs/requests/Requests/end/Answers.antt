@@ -1,11 +1,8 @@
 -- One request fewer is counted for the key of its port.
-use Rattle.std.proofs.Common.{◌≡◌, ◌<◌, ◌≤◌, ◌∙◌, true, Some, length, sym, ap, subst, arith, slice_index_or}
-use Rattle.std.specs.Prelude.{is_some, ◌-◌, slice_set}
-use Rattle.std.proofs.lemmas.List.{length-set}
+use Rattle.std.proofs.Common.{◌≡◌, ◌∙◌, true, Some, sym, ap, arith, length-set, is_some, ◌-◌}
 use Rattle.std.proofs.lemmas.Grind.{get_or_default_zero}
 use Rattle.execlist.specs.Pool.{Pooled, slot}
 use Rattle.iorequest.specs.declared.request.Request.{Request}
-use Rattle.iorequest.specs.Counting.{IsCounted}
 use Rattle.iorequest.specs.Request.{idle_request, is_under_way}
 use Rattle.iorequest.specs.Requests.{request_at}
 use Rattle.iorequest.proofs.Counted.{known_number, one_at_least, one_less}

@@ -1,5 +1,5 @@
 -- The proof of `MemHeader::reset`: frees every block.
-use Rattle.std.proofs.Common.{◌≡◌, ◌/◌, [], length, replicate, arith, ap, ◌∙◌}
+use Rattle.std.proofs.Common.{◌≡◌, ◌/◌, [], replicate, arith, ap, ◌∙◌}
 use Rattle.memlist.specs.Areas.{Area, empty_slot}
 use Rattle.memlist.specs.Blocks.{stretch}
 use Rattle.memlist.specs.Chain.{Space}

@@ -1,7 +1,6 @@
 -- The proof of `MemHeader::take`: puts a block at the front of the lowest gap that has room for it, which is the one after the chunk at an
 -- address, or the first if that is 0; and answers the block's address.
-use Rattle.std.proofs.Common.{List, ◌≡◌, ◌+◌, ◌-◌, ◌/◌, ◌<◌, ◌++◌, length, arith, set, sym, ap, subst, ◌∙◌}
-use Rattle.std.specs.Prelude.{IfSome}
+use Rattle.std.proofs.Common.{List, ◌≡◌, ◌+◌, ◌-◌, ◌/◌, ◌<◌, ◌++◌, length, arith, set, sym, ap, subst, ◌∙◌, IfSome}
 use Rattle.std.specs.FinMap.{put}
 use Rattle.std.specs.Ordering.{nat_cmp}
 use Rattle.memlist.specs.declared.gap.Gap.{Gap}

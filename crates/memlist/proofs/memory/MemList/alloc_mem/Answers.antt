@@ -1,7 +1,6 @@
 -- The proof of `MemList::alloc_mem`: allocates a block of a size in bytes, which is rounded up to a multiple of 8, and answers its
 -- address.
-use Rattle.std.proofs.Common.{◌≡◌, List, arith, sym, ap, subst, ◌∙◌}
-use Rattle.std.specs.Prelude.{Some, None}
+use Rattle.std.proofs.Common.{◌≡◌, List, arith, sym, ap, subst, ◌∙◌, Some, None}
 use Rattle.memlist.specs.Areas.{Area, area_gaps}
 use Rattle.memlist.specs.Blocks.{is_in, with_block}
 use Rattle.memlist.specs.Choice.{IsLowest, IsOffer, chosen_of}

@@ -1,6 +1,5 @@
 -- The proof of `MemList::block_at`: the size, as it was rounded, and the tag of the block that begins at an address.
-use Rattle.std.proofs.Common.{◌≡◌, List, true, sym, ap, subst, ◌∙◌}
-use Rattle.std.specs.Prelude.{Some, None}
+use Rattle.std.proofs.Common.{◌≡◌, List, true, sym, ap, subst, ◌∙◌, Some, None}
 use Rattle.memlist.specs.Areas.{Area}
 use Rattle.memlist.specs.Blocks.{block_at, is_in}
 use Rattle.memlist.specs.Choice.{IsHome}

@@ -1,6 +1,5 @@
 -- The proof of `MemList::fits`: whether `alloc_mem` would find a gap for a block of that size, and changes nothing.
-use Rattle.std.proofs.Common.{List, sym, ap, subst, ◌∙◌}
-use Rattle.std.specs.Prelude.{is_some}
+use Rattle.std.proofs.Common.{List, sym, ap, subst, ◌∙◌, is_some}
 use Rattle.memlist.specs.Areas.{Area}
 use Rattle.memlist.specs.Choice.{IsOffer}
 use Rattle.memlist.specs.Fit.{fit}

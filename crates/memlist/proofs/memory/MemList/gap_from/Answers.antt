@@ -1,6 +1,5 @@
 -- The gaps of the region at a place are those of its header.
-use Rattle.std.proofs.Common.{◌≡◌, ◌≤◌, ap, sym, ◌∙◌, subst, length}
-use Rattle.std.specs.Prelude.{List, Some, slice_get}
+use Rattle.std.proofs.Common.{◌≡◌, ◌≤◌, ap, sym, ◌∙◌, subst, length, List, Some, slice_get}
 use Rattle.std.proofs.lemmas.Option.{slice_get-get_or}
 use Rattle.memlist.specs.Areas.{Area}
 use Rattle.memlist.specs.Memory.{Memory}

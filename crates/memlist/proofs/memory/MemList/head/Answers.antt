@@ -1,6 +1,5 @@
 -- The proof of `MemList::head`: if the first free chunk of a region begins, or 0 if nothing of it is free.
-use Rattle.std.proofs.Common.{arith, sym, subst, length, ◌<◌, ◌≡◌}
-use Rattle.std.specs.Prelude.{IfSome, slice_get}
+use Rattle.std.proofs.Common.{arith, sym, subst, length, ◌<◌, ◌≡◌, IfSome, slice_get}
 use Rattle.memlist.specs.Blocks.{gaps}
 use Rattle.memlist.specs.Chain.{first_or}
 use Rattle.memlist.specs.Memory.{Memory}

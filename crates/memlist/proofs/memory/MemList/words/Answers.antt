@@ -1,7 +1,6 @@
 -- The proof of `MemList::words`: the words of a region, named by its place in the machine's file: word i represents the region's base plus
 -- 4 times i.
-use Rattle.std.proofs.Common.{arith, sym, subst, length, ◌<◌}
-use Rattle.std.specs.Prelude.{IfSome, slice_get}
+use Rattle.std.proofs.Common.{arith, sym, subst, length, ◌<◌, IfSome, slice_get}
 use Rattle.memlist.specs.Areas.{IsFreeChain}
 use Rattle.memlist.specs.Blocks.{gaps}
 use Rattle.memlist.specs.Memory.{Memory}

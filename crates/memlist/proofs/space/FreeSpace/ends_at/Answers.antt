@@ -1,6 +1,5 @@
 -- The proof of `FreeSpace::ends_at`: whether the chunk at an address, if that is not 0, ends at another.
-use Rattle.std.proofs.Common.{arith, ap, ◌∙◌, get_or, ◌+◌, ◌<◌}
-use Rattle.std.specs.Prelude.{nat_eq}
+use Rattle.std.proofs.Common.{arith, ap, ◌∙◌, get_or, ◌+◌, ◌<◌, nat_eq}
 use Rattle.memlist.specs.Chain.{Space}
 use Rattle.memlist.proofs.Chains.{before_within, end_read, ends_none, seen}
 use Rattle.memlist.proofs.space.FreeSpace.ends_at.Goals as goal

@@ -3,10 +3,9 @@ use Rattle.std.proofs.Common.{◌+◌, ◌-◌, arith, ap, sym, length, ◌∙�
 use Rattle.memlist.specs.Chain.{IsCount, Space, written}
 use Rattle.memlist.specs.Joins.{Around}
 use Rattle.memlist.proofs.Chains.{apart_sum, before_within, seen}
-use Rattle.memlist.proofs.Counts.{bytes_joined}
+use Rattle.memlist.proofs.Writing.{bytes_joined, IsJoining, joining, length-written, link_len, seen_around, space_written}
 use Rattle.memlist.proofs.Edits.{front, joined}
 use Rattle.memlist.proofs.Walking.{up_to_block}
-use Rattle.memlist.proofs.Writing.{IsJoining, joining, length-written, link_len, seen_around, space_written}
 use Rattle.memlist.proofs.space.FreeSpace.join.Goals as goal
 use Rattle.memlist.proofs.space.FreeSpace.join.Goals.{After-upper-upper}
 

@@ -1,8 +1,7 @@
 -- The proof of `FreeSpace::new`: that many bytes from an address on, all of them free.
 use Rattle.std.proofs.Common.{◌/◌, arith, ap, length, ◌∙◌}
 use Rattle.std.proofs.lemmas.List.{length-replicate}
-use Rattle.memlist.proofs.Counts.{bytes_new}
-use Rattle.memlist.proofs.Writing.{new_space}
+use Rattle.memlist.proofs.Writing.{bytes_new, new_space}
 use Rattle.memlist.proofs.space.FreeSpace.new.Goals as goal
 
 pub write-requires : goal.write-requires

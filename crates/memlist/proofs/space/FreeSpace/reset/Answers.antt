@@ -2,8 +2,7 @@
 use Rattle.std.proofs.Common.{◌≡◌, ◌+◌, ◌*◌, ◌/◌, ◌≤◌, length, ap, ◌∙◌, arith}
 use Rattle.memlist.specs.Chain.{Space}
 use Rattle.memlist.specs.Blocks.{stretch}
-use Rattle.memlist.proofs.Counts.{bytes_new}
-use Rattle.memlist.proofs.Writing.{new_space}
+use Rattle.memlist.proofs.Writing.{bytes_new, new_space}
 use Rattle.memlist.proofs.space.FreeSpace.reset.Goals as goal
 
 pub write-requires : goal.write-requires

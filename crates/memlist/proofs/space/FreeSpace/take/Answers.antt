@@ -1,14 +1,12 @@
 -- The proof of `FreeSpace::take`: takes that many bytes off the front of the lowest gap that has them, which is the one after the chunk at
 -- an address, and answers where they begin.
-use Rattle.std.proofs.Common.{◌≡◌, ◌+◌, ◌-◌, ◌++◌, refl, arith, ap, sym, ◌∙◌, subst, length}
-use Rattle.std.specs.Prelude.{IsSome}
+use Rattle.std.proofs.Common.{◌≡◌, ◌+◌, ◌-◌, ◌++◌, refl, arith, ap, sym, ◌∙◌, subst, length, IsSome}
 use Rattle.memlist.specs.declared.gap.Gap.{Gap}
 use Rattle.memlist.specs.Blocks.{stretch}
 use Rattle.memlist.specs.Chain.{IsCount, IsSpot, Space, cut_rest, cut_words}
 use Rattle.memlist.proofs.Chains.{IsShown, before_within, seen, shown}
-use Rattle.memlist.proofs.Counts.{bytes_taken}
+use Rattle.memlist.proofs.Writing.{bytes_taken, IsSpotIn, cut_len, link_len, space_written, spot_in, taken_chain}
 use Rattle.memlist.proofs.Walking.{past, same_gap, seen_spot, up_to}
-use Rattle.memlist.proofs.Writing.{IsSpotIn, cut_len, link_len, space_written, spot_in, taken_chain}
 use Rattle.memlist.proofs.space.FreeSpace.take.Goals as goal
 use Rattle.memlist.proofs.space.FreeSpace.take.Goals.{After-link, After-unwrap-gap}
 

@@ -1,7 +1,5 @@
 -- What is left stays linked to what lives.
-use Rattle.std.proofs.Common.{◌≡◌, ◌∙◌, List, Option, ap, Some, None, length, slice_set}
-use Rattle.std.specs.Prelude.{ℕ, MatchOption}
-use Rattle.std.proofs.lemmas.List.{length-set}
+use Rattle.std.proofs.Common.{◌≡◌, ◌∙◌, List, Option, ap, Some, None, length, slice_set, length-set, ℕ, MatchOption}
 use Rattle.msgport.specs.Ports.{IsHeld, MessagePorts}
 use Rattle.msgport.proofs.Linking.{taken_held}
 use Rattle.msgport.proofs.ports.Ports.get.Goals as goal

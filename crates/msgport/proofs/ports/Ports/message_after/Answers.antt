@@ -1,6 +1,5 @@
 -- A message has a place of its own.
-use Rattle.std.proofs.Common.{◌<◌, length, ap, ◌∙◌, arith}
-use Rattle.std.specs.Prelude.{IsSome}
+use Rattle.std.proofs.Common.{ap, ◌∙◌, arith, IsSome}
 use Rattle.execlist.specs.Pool.{slot}
 use Rattle.execlist.proofs.Pools.{item_of, slot_known}
 use Rattle.msgport.specs.Ports.{MessagePorts, is_message}

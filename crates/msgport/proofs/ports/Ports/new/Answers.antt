@@ -1,7 +1,7 @@
 -- There is no port, no message and no link.
 use Rattle.std.proofs.Common.{refl}
 use Rattle.msgport.specs.Ports.{no_ports}
-use Rattle.msgport.proofs.AtFirst.{held_at_first}
+use Rattle.msgport.proofs.Linking.{held_at_first}
 use Rattle.msgport.proofs.ports.Ports.new.Goals as goal
 
 pub invariant_of-result : goal.invariant_of-result

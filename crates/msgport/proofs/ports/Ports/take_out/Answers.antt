@@ -1,5 +1,4 @@
 -- What is left stays linked to what lives.
-use Rattle.std.proofs.Common.{}
 use Rattle.msgport.proofs.Linking.{taken_held}
 use Rattle.msgport.proofs.ports.Ports.take_out.Goals as goal
 

@@ -1,6 +1,5 @@
 -- Nobody waits at a semaphore that becomes free.
-use Rattle.std.proofs.Common.{◌∙◌, sym, subst, IsTrue}
-use Rattle.std.proofs.lemmas.List.{length-set}
+use Rattle.std.proofs.Common.{◌∙◌, sym, subst, IsTrue, length-set}
 use Rattle.sigsem.specs.Semaphores.{Semaphores, is_sem}
 use Rattle.sigsem.proofs.Waiting.{nobody_at, free_held}
 use Rattle.sigsem.proofs.sems.Sems.hand_on.Goals as goal

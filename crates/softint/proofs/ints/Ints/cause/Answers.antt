@@ -1,6 +1,5 @@
 -- What is caused goes after those of its priority, which are in one header; what is caused already stays.
-use Rattle.std.proofs.Common.{rules, arith, ◌≡◌, ◌<◌, length, map, false, None, sym, ◌∙◌, ap}
-use Rattle.std.specs.Prelude.{is_none, is_some}
+use Rattle.std.proofs.Common.{rules, arith, ◌≡◌, ◌<◌, length, map, false, None, sym, ◌∙◌, ap, is_none, is_some}
 use Rattle.std.proofs.lemmas.List.{length-map}
 use Rattle.execlist.specs.Order.{first}
 use Rattle.execlist.specs.Lists.{home}

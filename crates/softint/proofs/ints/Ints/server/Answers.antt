@@ -1,6 +1,5 @@
 -- What is in a chain is a server.
-use Rattle.std.proofs.Common.{◌∙◌, ap}
-use Rattle.std.specs.Prelude.{slice_get}
+use Rattle.std.proofs.Common.{◌∙◌, ap, slice_get}
 use Rattle.softint.proofs.Chains.{server_known}
 use Rattle.softint.proofs.ints.Ints.server.Goals as goal
 

@@ -1,6 +1,5 @@
 -- The first of all is the better of the first of the clock and the first of system time.
-use Rattle.std.proofs.Common.{rules, ◌≡◌, ◌<◌, ◌≤◌, ◌-◌, ℕ, Some, cond, arith, refl, sym, ap, ◌∙◌, subst}
-use Rattle.std.specs.Prelude.{◌&&◌, ◌||◌, IsTrue, nat_eq, nat_lt}
+use Rattle.std.proofs.Common.{rules, ◌≡◌, ◌<◌, ◌≤◌, ◌-◌, ℕ, Some, cond, arith, refl, sym, ap, ◌∙◌, subst, ◌&&◌, ◌||◌, IsTrue, nat_eq, nat_lt}
 use Rattle.std.proofs.lemmas.Grind.{get_or_default_zero}
 use Rattle.std.proofs.lemmas.Option.{IfSome_then}
 use Rattle.execlist.specs.Lists.{home, sequence}

@@ -1,6 +1,5 @@
 -- The first of those that wait for system time is the first of their header.
-use Rattle.std.proofs.Common.{arith, refl, sym, ap, ◌∙◌, subst}
-use Rattle.std.specs.Prelude.{IsTrue, find, nat_le}
+use Rattle.std.proofs.Common.{arith, refl, sym, ap, ◌∙◌, subst, IsTrue, find, nat_le}
 use Rattle.std.proofs.lemmas.Option.{IfSome_then}
 use Rattle.execlist.specs.Lists.{sequence}
 use Rattle.timerdev.specs.Timing.{is_waiting, until_next}

@@ -1,7 +1,5 @@
 -- A request that does not wait has no home, and goes if the times of its header rise.
-use Rattle.std.proofs.Common.{◌≡◌, ◌<◌, ◌++◌, ◌∷◌, [], ℕ, length, slice_set, sym, ap, ◌∙◌, subst, arith}
-use Rattle.std.specs.Prelude.{IsTrue, not}
-use Rattle.std.proofs.lemmas.List.{length-set, get_or-set_same}
+use Rattle.std.proofs.Common.{◌≡◌, ◌<◌, ◌++◌, ◌∷◌, [], ℕ, length, slice_set, sym, ap, ◌∙◌, subst, arith, IsTrue, not, length-set, get_or-set_same}
 use Rattle.execlist.specs.Order.{enqueue}
 use Rattle.execlist.specs.Lists.{home, put_after, sequence, times}
 use Rattle.timerdev.specs.Timing.{begins_to_wait, is_waiting}

@@ -1,6 +1,5 @@
 -- A request that waits has a home in either space, and leaves each sequence.
-use Rattle.std.proofs.Common.{◌≡◌, ◌≤◌, Some, not, eqb, is_some, length, sym, ap, ◌∙◌, subst}
-use Rattle.std.specs.Prelude.{IsSome, IsTrue, filter}
+use Rattle.std.proofs.Common.{◌≡◌, ◌≤◌, Some, not, eqb, is_some, length, sym, ap, ◌∙◌, subst, IsSome, IsTrue, filter}
 use Rattle.execlist.specs.Lists.{home, sequence, times}
 use Rattle.timerdev.specs.Timing.{Waiting, is_waiting, waits_no_more}
 use Rattle.timerdev.specs.Held.{Held, due_in, on_timer, waiting_for}
