@@ -12,7 +12,7 @@ const FAILED: u8 = 4;
 const NO_MEMORY: &[u8] = b"execcheck: no memory\n";
 
 /// Why there is no answer. Its text is what the program says of it.
-#[derive(Debug, Drop)]
+#[derive(Drop)]
 pub enum Failure<'a> {
     /// Memory was refused.
     NoMemory,

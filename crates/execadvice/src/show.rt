@@ -11,7 +11,7 @@ const WIDEST: usize = 160;
 const BEFORE: usize = 60;
 
 /// A part of a line, in characters from 0.
-#[derive(Clone, Copy, Debug, PartialEq, Eq)]
+#[derive(Clone, Copy)]
 pub struct Span {
     pub start: usize,
     pub width: usize,

@@ -8,7 +8,7 @@ use taskscript::{Array, LinePlace, TablePlace};
 use toml_parser::{Key, dotted_key};
 
 /// A character of a file.
-#[derive(Clone, Copy, Debug, PartialEq, Eq)]
+#[derive(Clone, Copy)]
 pub struct FilePlace {
     /// Its line, from 1.
     pub line: usize,

@@ -10,7 +10,7 @@ use wayreport::SumFault;
 use ways::SearchFault;
 
 /// Why there is no answer. A path is that of the text that is meant.
-#[derive(Debug, Drop)]
+#[derive(Drop)]
 pub enum Failure<'a> {
     /// Memory was refused.
     NoMemory,

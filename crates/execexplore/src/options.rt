@@ -13,7 +13,7 @@ use wayrun::See;
 pub const MOST_EXTRAS: usize = 8;
 
 /// What the options of a search ask for.
-#[derive(Clone, Copy, Debug)]
+#[derive(Clone, Copy)]
 pub struct Options<'a> {
     /// How many extras a way has at most, at most `MOST_EXTRAS`.
     pub extra: usize,

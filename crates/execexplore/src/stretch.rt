@@ -7,7 +7,7 @@ use ways::{Window, part_window};
 pub const MOST_PARTS: u32 = 1_000_000;
 
 /// Which part of the ways is searched.
-#[derive(Clone, Copy, Debug, PartialEq, Eq)]
+#[derive(Clone, Copy)]
 pub struct Stretch {
     /// The number of the part, from 1.
     pub number: u32,

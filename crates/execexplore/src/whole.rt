@@ -20,7 +20,7 @@ use wayrun::search;
 use ways::{Outcome, Sizes, Watcher, Window, actions_of};
 
 /// The paths of both texts.
-#[derive(Clone, Copy, Debug)]
+#[derive(Clone, Copy)]
 pub struct Paths<'a> {
     pub machine: &'a str,
     pub events: &'a str,

@@ -1,7 +1,7 @@
 //! What a task gets that looks for a request.
 
 /// What a task gets that looks for a request (autodoc exec.library/WaitIO).
-#[derive(Clone, Copy, Debug, PartialEq, Eq)]
+#[derive(Clone, Copy, PartialEq, Eq)]
 pub enum Awaited {
     /// The request is done, with this error; its reply, if it had one, is taken.
     Done(i8),

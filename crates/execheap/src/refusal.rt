@@ -6,7 +6,7 @@ use sigsem::fault::SemFault;
 use thiserror::Error;
 
 /// Why a call on an object is refused. A refused call changes nothing.
-#[derive(Clone, Copy, Debug, PartialEq, Eq, Error)]
+#[derive(Clone, Copy, Debug, Error)]
 pub enum Refusal {
     /// No live object of the kind begins at an address.
     #[error("no object of the kind begins there")]

@@ -3,7 +3,7 @@ ghost use Rattle.std.specs.Prelude.{◌≡◌, ◌<◌, slice_get};
 ghost use Rattle.execheap.specs.Tags.{kind_code, kinds, library_in, number_in, size_of, tag_of, tagged};
 
 /// A kind of object.
-#[derive(Clone, Copy, Debug, PartialEq, Eq)]
+#[derive(Clone, Copy, PartialEq, Eq)]
 pub enum Kind {
     /// The header of a list (RKM Libraries, Exec Lists and Queues).
     List,
@@ -69,7 +69,7 @@ impl Kind {
 const LIBRARIES: u32 = 0x8000_0000;
 
 /// What begins at a block.
-#[derive(Clone, Copy, Debug, PartialEq, Eq)]
+#[derive(Clone, Copy)]
 pub enum Tagged {
     /// Nothing that Exec knows of.
     Plain,

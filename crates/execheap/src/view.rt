@@ -53,7 +53,7 @@ impl ObjectView {
 }
 
 /// What is seen of a message port (RKM Libraries, Exec Messages and Ports).
-#[derive(Clone, Copy, Debug, PartialEq, Eq)]
+#[derive(Clone, Copy, Debug)]
 pub struct PortView {
     /// Its task.
     pub task: TaskId,
@@ -64,7 +64,7 @@ pub struct PortView {
 }
 
 /// What is seen of a loaded library (RKM Libraries, Exec Libraries).
-#[derive(Clone, Copy, Debug, PartialEq, Eq)]
+#[derive(Clone, Copy, Debug)]
 pub struct LibraryView {
     /// Its number, from 0 in the order of the file.
     pub number: usize,

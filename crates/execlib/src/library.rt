@@ -2,7 +2,7 @@
 use execlist::key::Name;
 
 /// A library that may be opened. RKM Libraries, Exec Libraries: `lib_Node.ln_Name` and `lib_Version`.
-#[derive(Clone, Copy, Debug)]
+#[derive(Clone, Copy)]
 pub struct LibInit {
     /// Its name, at most 31 bytes.
     pub name: Name,
@@ -12,7 +12,7 @@ pub struct LibInit {
 }
 
 /// A loaded library. RKM Libraries, Exec Libraries: `lib_OpenCnt`, and LIBF_DELEXP (bit 3) of `lib_Flags`.
-#[derive(Clone, Copy, Debug)]
+#[derive(Clone, Copy)]
 pub struct Loaded {
     /// The address of its block.
     pub base: u32,

@@ -8,7 +8,7 @@ use arrayvec::ArrayString;
 pub type Name = ArrayString<31>;
 
 /// The priority (-128 to 127) and the name of a node.
-#[derive(Clone, Copy, Debug)]
+#[derive(Clone, Copy)]
 pub struct NodeKey {
     pub pri: i8,
     pub name: Option<Name>,

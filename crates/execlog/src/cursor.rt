@@ -5,7 +5,7 @@ use crate::book::{Book, Place};
 use crate::moment::Actor;
 
 /// Whose a line of a trace is.
-#[derive(Clone, Copy, Debug, PartialEq, Eq)]
+#[derive(Clone, Copy, PartialEq, Eq)]
 pub enum Spot {
     /// The machine's own.
     Machine,

@@ -5,7 +5,7 @@ ghost use Rattle.execlog.specs.Books.{ShowsAll};
 use crate::cursor::Spot;
 
 /// Who acts.
-#[derive(Clone, Copy, Debug, PartialEq, Eq)]
+#[derive(Clone, Copy)]
 pub enum Who {
     /// The task of a number from 0.
     Task(usize),
@@ -14,7 +14,7 @@ pub enum Who {
 }
 
 /// Which rows of a log are shown.
-#[derive(Clone, Copy, Debug)]
+#[derive(Clone, Copy)]
 pub struct Filter {
     /// The number of the first step, tick or request.
     pub from: u64,

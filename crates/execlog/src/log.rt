@@ -24,7 +24,7 @@ use taskscript::Event;
 use thiserror::Error;
 
 /// Why a log did not come to its end.
-#[derive(Clone, Copy, Debug, PartialEq, Eq, Error)]
+#[derive(Clone, Copy, Debug, Error)]
 pub enum LogFault {
     /// Memory was refused.
     #[error("no memory")]

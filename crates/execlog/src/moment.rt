@@ -8,7 +8,7 @@ use taskq::TaskId;
 use taskscript::Event;
 
 /// A task at a command.
-#[derive(Clone, Copy, Debug, PartialEq, Eq)]
+#[derive(Clone, Copy)]
 pub struct Actor {
     /// The number of the task, from 0 in the order of the file.
     pub task: TaskId,
@@ -17,7 +17,7 @@ pub struct Actor {
 }
 
 /// What is known of the start, a step, a tick or a request of an interrupt.
-#[derive(Clone, Copy, Debug, PartialEq, Eq)]
+#[derive(Clone, Copy)]
 pub struct Moment {
     /// Its number; the start has 0.
     pub number: u64,

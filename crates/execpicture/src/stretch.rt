@@ -1,7 +1,7 @@
 //! Which part of a run is shown.
 
 /// A part of a run, by the numbers that its log gives to steps, ticks and requests of interrupts; the start has 0.
-#[derive(Clone, Copy, Debug, PartialEq, Eq)]
+#[derive(Clone, Copy)]
 pub struct Stretch {
     /// What comes after this number is shown.
     pub from: u64,

@@ -28,7 +28,7 @@ use taskq::TaskInit;
 use taskscript::{Event, MachineFile};
 
 /// Whether a machine goes on.
-#[derive(Clone, Copy, Debug, PartialEq, Eq)]
+#[derive(Clone, Copy, PartialEq, Eq)]
 pub enum Flow {
     /// It goes on.
     Going,

@@ -14,7 +14,7 @@ use taskscript::{EventFault, FileFault, read_events, read_machine};
 use thiserror::Error;
 
 /// How a run ended.
-#[derive(Clone, Copy, Debug, PartialEq, Eq)]
+#[derive(Clone, Copy, PartialEq, Eq)]
 pub enum End {
     /// All its events were done.
     Ran,

@@ -31,7 +31,7 @@ pub enum NestFault {
 /// The nesting of one task: a count for Forbid and a count for Disable, each from -1 to 127.
 ///
 /// The value holds no memory. Source: RKM Libraries, Exec Tasks, on forbidding and disabling.
-#[derive(Clone, Copy, Debug, PartialEq, Eq)]
+#[derive(Clone, Copy, PartialEq, Eq)]
 pub struct Nest {
     forbids: i8,
     disables: i8,

@@ -21,7 +21,7 @@ const IOERR_NOCMD: i8 = -3;
 const SECOND: u64 = 1_000_000;
 
 /// How far a request has come. RKM Devices, Introduction to Amiga System Devices; that an idle one is distinguished: project rule.
-#[derive(Clone, Copy, Debug, PartialEq, Eq)]
+#[derive(Clone, Copy, Debug)]
 pub enum ReqState {
     /// It never was begun.
     Idle,
@@ -52,7 +52,7 @@ pub struct Request {
 }
 
 /// What comes of beginning a request. The requests finish or queue none themselves.
-#[derive(Clone, Copy, Debug, PartialEq, Eq)]
+#[derive(Clone, Copy)]
 pub enum Begun {
     /// It is to be finished at once, with this error.
     Finish(i8),

@@ -8,7 +8,7 @@ use logforms::{Run, last_number};
 use std::alloc::{AllocError, Global};
 
 /// A part of a run.
-#[derive(Clone, Copy, Debug)]
+#[derive(Clone, Copy)]
 pub struct Choice {
     /// Which rows are shown.
     pub filter: Filter,

@@ -19,7 +19,7 @@ const COMMAND_LINE_REFUSED: u8 = 2;
 const FAILED: u8 = 4;
 
 /// Why what is asked for is not shown, or not all of it.
-#[derive(Debug, Drop)]
+#[derive(Drop)]
 pub enum Failure<'a> {
     /// Memory was refused.
     NoMemory,

@@ -1,7 +1,7 @@
 //! What a command line asks for.
 
 /// The form in which a run is shown.
-#[derive(Clone, Copy, Debug, PartialEq, Eq)]
+#[derive(Clone, Copy, PartialEq, Eq)]
 pub enum View {
     /// A row for each line of the trace.
     Rows,
@@ -16,7 +16,7 @@ pub enum View {
 }
 
 /// What a command line asks for.
-#[derive(Clone, Copy, Debug)]
+#[derive(Clone, Copy)]
 pub struct Options<'a> {
     /// The form.
     pub view: View,

@@ -6,7 +6,7 @@ use crate::gap::Gap;
 use crate::region::REACH;
 
 /// What a chunk says of itself: the address of the next chunk, or 0 at the end, and its size in bytes.
-#[derive(Clone, Copy, Debug)]
+#[derive(Clone, Copy)]
 pub struct Chunk {
     pub next: u32,
     pub size: u32,

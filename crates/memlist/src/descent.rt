@@ -10,7 +10,7 @@ use crate::slot::Slot;
 use crate::space::FreeSpace;
 
 /// What a unit says of the last chunk below an address.
-#[derive(Clone, Copy, Debug)]
+#[derive(Clone, Copy)]
 pub enum Look {
     /// The chunk begins there.
     Chunk(u32),

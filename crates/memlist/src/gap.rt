@@ -1,7 +1,7 @@
 //! A gap of a region.
 
 /// A stretch of free memory: its address and its size in bytes.
-#[derive(Clone, Copy, Debug, PartialEq, Eq)]
+#[derive(Clone, Copy)]
 pub struct Gap {
     /// The address at which it begins.
     pub address: u32,

@@ -43,7 +43,7 @@ impl Model for MemList {
 pub struct NotABlock;
 
 /// Where a block may be put: the place of a header, and in it the chunk before the gap, or 0 if the gap is the first.
-#[derive(Clone, Copy, Debug)]
+#[derive(Clone, Copy)]
 pub struct Offer {
     pub header: usize,
     pub before: u32,

@@ -3,7 +3,7 @@ ghost use Rattle.std.specs.Prelude.{◌≡◌};
 ghost use Rattle.memlist.specs.Areas.{block_of};
 
 /// What begins at a unit: a block of that size in bytes with that tag, or none if the size is 0.
-#[derive(Clone, Copy, Debug)]
+#[derive(Clone, Copy)]
 pub struct Slot {
     pub size: u32,
     pub tag: u32,

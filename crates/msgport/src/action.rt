@@ -7,7 +7,7 @@ pub type TaskId = usize;
 pub type IntId = usize;
 
 /// What a port does when a message arrives. RKM Libraries, Exec Messages and Ports: `mp_Flags`.
-#[derive(Clone, Copy, Debug, PartialEq, Eq)]
+#[derive(Clone, Copy, Debug)]
 pub enum PortAction {
     /// PA_SIGNAL: it signals its task.
     Signal,
@@ -18,7 +18,7 @@ pub enum PortAction {
 }
 
 /// What is to be done for a message that has arrived. The ports do not do it themselves.
-#[derive(Clone, Copy, Debug, PartialEq, Eq)]
+#[derive(Clone, Copy)]
 pub enum Action {
     /// The task of this number gets the signals of this mask.
     Signal(TaskId, u32),

@@ -6,7 +6,7 @@ use crate::action::{Action, PortAction, TaskId};
 use std::marker::Model;
 
 /// A port beside its messages: its task, the number of its signal, and its action.
-#[derive(Clone, Copy, Debug)]
+#[derive(Clone, Copy)]
 pub struct Port {
     task: TaskId,
     bit: u32,

@@ -28,7 +28,7 @@ use taskscript::{
 };
 
 /// The alert that ended a run.
-#[derive(Clone, Copy, Debug)]
+#[derive(Clone, Copy)]
 pub struct Alert {
     pub code: &'static str,
     /// The command whose call it refused.

@@ -17,7 +17,7 @@ use taskscript::{Event, PlainWord, PortWord, Word};
 const MOST_COMPARED: usize = 4;
 
 /// The part of a task's code that was run, by its first and its last place.
-#[derive(Clone, Copy, Debug, PartialEq, Eq)]
+#[derive(Clone, Copy)]
 pub struct Stretch {
     pub task: usize,
     pub first: usize,

@@ -6,7 +6,7 @@ use crate::step::Turn;
 use taskscript::{Argument, Command, PlainWord, Word};
 
 /// What the last of some steps is to do.
-#[derive(Clone, Copy, Debug)]
+#[derive(Clone, Copy)]
 pub enum Next {
     /// The next command of a task, or its end.
     Task(Turn),
@@ -19,7 +19,7 @@ pub enum Next {
 }
 
 /// Some steps that are done at once, of which there is one at least.
-#[derive(Clone, Copy, Debug)]
+#[derive(Clone, Copy)]
 pub struct Part {
     pub steps: u32,
     /// What the last of them is to do.
@@ -53,7 +53,7 @@ pub fn next_of(machine: &Linked) -> Next {
 }
 
 /// Where a task goes on after a command, as far as the command says that alone.
-#[derive(Clone, Copy, Debug)]
+#[derive(Clone, Copy)]
 pub enum Way {
     /// At this place; it asks nothing of Exec and prints nothing.
     To(usize),

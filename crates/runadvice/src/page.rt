@@ -10,7 +10,7 @@ use taskscript::{Array, LinePlace, Listed, Listing, MachineFile, Owner};
 use toml::Table;
 
 /// A command of the file.
-#[derive(Clone, Copy, Debug, PartialEq, Eq)]
+#[derive(Clone, Copy, PartialEq, Eq)]
 pub struct Spot {
     /// What has the body, and its number among all that are of its kind, from 0.
     pub owner: Owner,

@@ -10,7 +10,7 @@ use taskscript::{Command, MachineFile, Variable};
 const LONGEST: u32 = 1000;
 
 /// The last steps of a command, by their numbers from 1; 0 for none.
-#[derive(Clone, Copy, Debug)]
+#[derive(Clone, Copy)]
 pub struct Past {
     /// In which it was done, or its task went on to wait in it.
     pub visited: u64,
@@ -156,7 +156,7 @@ impl TaskPast {
 }
 
 /// When something was done: a command of a task, or bodies of interrupts that are run together.
-#[derive(Clone, Copy, Debug)]
+#[derive(Clone, Copy)]
 pub struct Time {
     /// After how many steps, its own included.
     pub steps: u64,

@@ -4,7 +4,7 @@ use std::alloc::{AllocError, Global};
 use taskscript::{PlainWord, Word};
 
 /// When something was done in a run.
-#[derive(Clone, Copy, Debug, PartialEq, Eq)]
+#[derive(Clone, Copy)]
 pub enum When {
     /// In the step of this number, from 1.
     Step(u64),
@@ -15,14 +15,14 @@ pub enum When {
 }
 
 /// A command that was done.
-#[derive(Clone, Copy, Debug, PartialEq, Eq)]
+#[derive(Clone, Copy)]
 pub struct Site {
     pub spot: Spot,
     pub when: When,
 }
 
 /// What is about to be done: the next command of a task.
-#[derive(Clone, Copy, Debug, PartialEq, Eq)]
+#[derive(Clone, Copy, PartialEq, Eq)]
 pub struct Turn {
     pub task: usize,
     pub place: usize,

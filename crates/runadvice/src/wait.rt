@@ -7,7 +7,7 @@ use taskq::{TaskState, Why};
 use taskscript::{PortWord, RequestWord, Word};
 
 /// What a call waits for.
-#[derive(Clone, Copy, Debug, PartialEq, Eq)]
+#[derive(Clone, Copy, PartialEq, Eq)]
 pub enum Awaited {
     /// A signal of this mask.
     Signals(u32),
@@ -20,7 +20,7 @@ pub enum Awaited {
 }
 
 /// A task that waits.
-#[derive(Clone, Copy, Debug)]
+#[derive(Clone, Copy)]
 pub struct Waiter {
     /// Its call.
     pub turn: Turn,

@@ -11,7 +11,7 @@ use taskq::TaskState;
 const MOST_TICKS: u64 = 1_000_000;
 
 /// How sure it is that a wait is not meant.
-#[derive(Clone, Copy, Debug, PartialEq, Eq)]
+#[derive(Clone, Copy)]
 enum Level {
     /// Nothing ends it.
     Forever,

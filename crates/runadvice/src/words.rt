@@ -5,7 +5,7 @@ use taskscript::{
 };
 
 /// What an argument has to name.
-#[derive(Clone, Copy, Debug, PartialEq, Eq)]
+#[derive(Clone, Copy)]
 pub enum Wanted {
     Nothing,
     /// A task of the file, by its number from 1.
@@ -36,7 +36,7 @@ const REQUEST: Wanted = Wanted::Object("a timer request");
 const BASE: Wanted = Wanted::Object(LIBRARY);
 
 /// What is at fault in a refused call whose arguments name what they have to.
-#[derive(Clone, Copy, Debug, PartialEq, Eq)]
+#[derive(Clone, Copy, PartialEq, Eq)]
 pub enum Flaw {
     /// Nothing else.
     Plain,

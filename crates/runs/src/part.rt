@@ -25,7 +25,7 @@ use taskscript::{read_events, read_machine};
 use timerdev::timer::Timer;
 
 /// What is made.
-#[derive(Clone, Copy, Debug, PartialEq, Eq)]
+#[derive(Clone, Copy)]
 pub enum Part {
     PlainSpace,
     LinkSpace,

@@ -5,7 +5,7 @@ use std::alloc::AllocError;
 use taskscript::{EventFault, FileFault};
 
 /// Why something was not made.
-#[derive(Clone, Copy, Debug, PartialEq, Eq)]
+#[derive(Clone, Copy)]
 pub enum Unmade {
     /// Memory was refused.
     NoMemory,

@@ -29,7 +29,7 @@ use std::marker::Model;
 use taskq::{TaskId, TaskInit, TaskQ, TaskState, Why};
 
 /// What a machine turns to: another task, or nothing.
-#[derive(Clone, Copy, Debug, PartialEq, Eq)]
+#[derive(Clone, Copy)]
 pub enum Switch {
     /// This task runs from now on.
     To(TaskId),

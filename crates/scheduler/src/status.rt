@@ -10,7 +10,7 @@ use execlist::space::ListSpace;
 use taskq::{TaskId, TaskState};
 
 /// What is seen of a task.
-#[derive(Clone, Copy, Debug, PartialEq, Eq)]
+#[derive(Clone, Copy)]
 pub struct TaskStatus {
     /// If it is in its life, and what it waits for.
     pub state: TaskState,

@@ -19,7 +19,7 @@ const NO_SIGNAL: i32 = -1;
 ///
 /// A set of signals is a word of 32 bits, whose bit `n` represents signal `n`. The value holds no memory, and may be
 /// copied to keep an earlier state. Source: RKM Libraries, Exec Signals.
-#[derive(Clone, Copy, Debug, PartialEq, Eq)]
+#[derive(Clone, Copy)]
 pub struct SigState {
     received: u32,
     allocated: u32,

@@ -12,7 +12,7 @@ pub struct Sem {
 }
 
 /// What comes of asking for a semaphore. The semaphores do not make the task wait themselves.
-#[derive(Clone, Copy, Debug, PartialEq, Eq)]
+#[derive(Clone, Copy)]
 pub enum Obtained {
     /// The task is the owner.
     Owner,

@@ -22,7 +22,7 @@ use std::marker::Model;
 pub type TaskId = usize;
 
 /// The name (at most 31 bytes) and the first priority (-128 to 127) of a task.
-#[derive(Clone, Copy, Debug)]
+#[derive(Clone, Copy)]
 pub struct TaskInit {
     pub name: Name,
     pub pri: i8,

@@ -6,7 +6,7 @@ use crate::source::Source;
 use std::marker::Model;
 
 /// One event.
-#[derive(Clone, Copy, Debug, PartialEq, Eq)]
+#[derive(Clone, Copy, PartialEq, Eq)]
 pub enum Event {
     /// That many steps, each followed by a settle: 1 to 1,000,000.
     Run(u32),
@@ -42,7 +42,7 @@ impl Event {
 ///
 /// `read_events` alone makes them: each asks for at least one turn, there are at most 100,000, and their steps and their ticks sum to at
 /// most 1,000,000 each.
-#[derive(Debug, Drop)]
+#[derive(Drop)]
 pub struct Events {
     list: Vec<Event>,
 }

@@ -9,7 +9,7 @@ use crate::identifier::{Identifier, identifier_of};
 pub type VariableName = Identifier;
 
 /// A variable, by its number in the order of first sight.
-#[derive(Clone, Copy, Debug, PartialEq, Eq)]
+#[derive(Clone, Copy, PartialEq, Eq)]
 pub enum Variable {
     /// Private to its body: the order is that of the body.
     Private(u8),

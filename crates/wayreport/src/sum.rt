@@ -10,7 +10,7 @@ use crate::total::Total;
 use std::alloc::{AllocError, AllocFailed, Global};
 
 /// Why reports have no sum. A report is named by its place among those given, from 0.
-#[derive(Clone, Copy, Debug, PartialEq)]
+#[derive(Clone, Copy, PartialEq)]
 pub enum SumFault {
     /// Memory was refused.
     OutOfMemory,

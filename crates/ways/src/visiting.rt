@@ -21,7 +21,7 @@ pub trait Visitor {
 }
 
 /// The ways that are left of a part.
-#[derive(Clone, Copy, Debug)]
+#[derive(Clone, Copy)]
 pub struct Window {
     /// That many ways are to be skipped first.
     pub skip: u64,

@@ -23,7 +23,7 @@ use softint::latches::Latches;
 use taskq::{TaskId, TaskState};
 
 /// What is seen of a task.
-#[derive(Clone, Copy, Debug, PartialEq, Eq)]
+#[derive(Clone, Copy, Debug)]
 pub struct TaskView {
     /// If it is in its life, and what it waits for.
     pub state: TaskState,

@@ -9,7 +9,7 @@ use crate::place::SYSTEM;
 use execlist::space::{HeaderId, ListSpace};
 
 /// The time for which a request waits, in microseconds.
-#[derive(Clone, Copy, Debug, PartialEq, Eq)]
+#[derive(Clone, Copy, Debug)]
 pub enum DueTime {
     /// A time of the clock. Devices, timer device: UNIT_MICROHZ and UNIT_VBLANK.
     Clock(u64),
