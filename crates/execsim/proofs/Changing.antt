@@ -1,12 +1,14 @@
 -- How the machine follows a plain word that is done on its command, with no call between.
-use Rattle.std.proofs.Common.{◌≡◌, ℕ, ◌+◌, ◌-◌, ◌%◌, ◌^◌, List, None, Some, length, refl, ap, sym, ◌∙◌, map, take}
+use Rattle.std.proofs.Common.{◌≡◌, ℕ, ◌+◌, ◌-◌, ◌%◌, ◌^◌, List, [], ◌∷◌, None, Some, length, refl, ap, sym, ◌∙◌, map, take}
 use Rattle.std.proofs.Math.ListN.{length-set}
 use Rattle.std.proofs.lemmas.Option.{slice_get-map}
 use Rattle.std.specs.Option.{option_map}
 use Rattle.std.specs.Prelude.{Option, IfSome, codes, if◌then◌else◌, nat_eq, bit_and, bit_or, slice_get}
 use Rattle.exectrace.specs.Sink.{Puts, Tape}
+use Rattle.exectrace.specs.Short.{short_argument}
 use Rattle.exectrace.specs.Trace.{Done, printed_line}
 use Rattle.exectrace.specs.Trace as trace
+use Rattle.exectrace.specs.declared.lines.ShortArg.{ShortArg}
 use Rattle.taskscript.specs.declared.command.Argument.{Argument}
 use Rattle.taskscript.specs.declared.command.Command.{Command}
 use Rattle.taskscript.specs.Commands.{ArgumentData, CommandData, argument_view, command_view}
@@ -24,6 +26,7 @@ use Rattle.execsim.specs.Changes.{DoesBy, PutsPrint, changes}
 use Rattle.execsim.specs.Agreement.{Seen, Follows, line_seen}
 use Rattle.execsim.specs.declared.change.Change.{Change}
 use Rattle.execsim.proofs.Calling.{map-map_as, next-command}
+use Rattle.execsim.proofs.Caused.{one_only}
 use Rattle.execsim.proofs.Endings.{follows_done}
 use Rattle.execsim.proofs.Following.{moves_scripts, follows_as, follows_quietly}
 use Rattle.execsim.proofs.Stepping.{task_step_as}
@@ -131,6 +134,17 @@ print_line t next command m {shown = shown} named prints values =
     ∙ ap (λ w. trace.Call (name_of m.schedule t) (word_text w) shown Done) (sym prints)
     ∙ ap (λ x. trace.Call (name_of m.schedule t) (word_text command.word) x Done)
     (values ∙ map-map_as (evaluated t m.scripts) (argument_view command.name.bytes) (take command.count command.arguments))
+
+-- the value of the only argument of a command
+pub value_alone : (t : ℕ) (command : Command) (found : Argument) (value : ShortArg) (scripts : Scripts) → command.count ≡ 1
+    → slice_get (take command.count command.arguments) 0 ≡ Some found
+    → ((name : List ℕ) → short_argument name value ≡ evaluated t scripts (argument_view name found))
+    → short_argument command.name.bytes value ∷ [] ≡ map (λ a. evaluated t scripts (argument_view command.name.bytes a)) (take command.count command.arguments)
+value_alone t command found value scripts one is same =
+    sym (ap (map (λ (a : Argument). evaluated t scripts (argument_view command.name.bytes a)))
+    (ap (λ n. take n command.arguments) one
+    ∙ one_only command.arguments found (ap (λ n. slice_get (take n command.arguments) 0) (sym one) ∙ is))
+    ∙ ap (λ x. x ∷ []) (sym (same command.name.bytes)))
 
 -- what task t does next is a Print of that command
 pub puts_next : {m : Seen} {a b : Tape} (t place : ℕ) (command : CommandData) → (program_of m.scripts t).kept ≡ None

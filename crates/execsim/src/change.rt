@@ -7,7 +7,7 @@ ghost use Rattle.execmodel.specs.State.{State};
 ghost use Rattle.execmodel.specs.Calls.{argument, call_of, evaluated, goes_on, next_call, number_in, stored};
 ghost use Rattle.execmodel.specs.Step.{call_step, does, task_step};
 ghost use Rattle.execsim.specs.Callers.{HasTask};
-ghost use Rattle.execsim.specs.Changes.{ChangesScripts, DoesBy, changes};
+ghost use Rattle.execsim.specs.Changes.{ChangesScripts, DoesBy, PutsPrint, changes};
 ghost use Rattle.execsim.specs.Agreement.{Follows, line_seen};
 ghost use Rattle.taskscript.specs.Commands.{argument_view, command_view};
 
@@ -132,7 +132,21 @@ impl<S: ListSpace> Kernel<S> {
         }
     }
 
-    /// What task t changes by what it does next, if that is a plain word that prints nothing.
+    /// What a Jump of task t changes, wherever the next command is.
+    #[inline(always)]
+    fn jump_of(&self, t: TaskId, command: &Command) -> Change
+        requires known { HasTask t self.now }
+        requires jumps { command.now.word ≡ Plain PlainWord.Jump }
+        ensures { (next : ℕ) (s : State) → does t (call_of t next (command_view command.now) self.now.scripts) s ≡ changes t result s }
+    {
+        Change {
+            target: None,
+            value: 0,
+            next: self.number_at(t, command, 0) as usize,
+        }
+    }
+
+    /// What task t changes by what it does next, if that is a plain word that prints nothing. A Jump, which ends each loop, is looked for first.
     #[inline(always)]
     pub(crate) fn next_change(&self, t: TaskId) -> Option<Change>
         requires { HasTask t self.now }
@@ -145,6 +159,7 @@ impl<S: ListSpace> Kernel<S> {
                 None => None,
                 Some(command) => match command.word {
                     Word::Plain(PlainWord::Print) => None,
+                    Word::Plain(PlainWord::Jump) => Some(self.jump_of(t, command)),
                     Word::Plain(word) => self.change_of(t, word, command, program.next()),
                     _ => None,
                 },
@@ -193,6 +208,62 @@ impl<S: ListSpace> Kernel<S> {
                 self.say_print(t, command, out);
                 true
             }
+        }
+    }
+
+    /// Puts the line of a Print of task t, as `say_print` does. One argument is put in no list of values.
+    #[inline(always)]
+    fn say_short_print<W: Sink>(&self, t: TaskId, command: &Command, out: &mut W)
+        requires known { HasTask t self.now }
+        requires prints { command.now.word ≡ Plain PlainWord.Print }
+        ensures { (next : ℕ) → Puts (W.tape out.old) (W.tape out.new)
+            (printed_line (line_seen t (call_of t next (command_view command.now) self.now.scripts) Done self.now)) }
+    {
+        if command.count != 1 {
+            self.say_print(t, command, out);
+            return;
+        }
+        match argument_at(command, 0) {
+            None => self.say_print(t, command, out),
+            Some(argument) => {
+                let value = self.evaluate(t, *argument);
+                let name = self.name(t);
+                put_short_call(
+                    name,
+                    "Print",
+                    &[value],
+                    &command.name,
+                    CallOutcome::Done,
+                    out,
+                );
+            }
+        }
+    }
+
+    /// Puts the line of what task t does next, if that is a Print and the sink is good: built where this is called, since a log comes to one Print at a
+    /// time. The answer is the place at which the task is to go on then.
+    #[inline(always)]
+    pub(crate) fn put_next_print<W: Sink>(&self, t: TaskId, out: &mut W) -> Option<usize>
+        requires { HasTask t self.now }
+        ensures puts { IfSome result (λ next. PutsPrint t next self.now (W.tape out.old) (W.tape out.new)) }
+        ensures nothing { result ≡ None → W.tape out.new ≡ W.tape out.old }
+    {
+        let program = self.program(t);
+        match program.kept() {
+            Some(_) => None,
+            None => match program.command() {
+                None => None,
+                Some(command) => match command.word {
+                    Word::Plain(PlainWord::Print) => match written(out) {
+                        Err(_) => None,
+                        Ok(()) => {
+                            self.say_short_print(t, command, out);
+                            Some(program.next())
+                        }
+                    },
+                    _ => None,
+                },
+            },
         }
     }
 

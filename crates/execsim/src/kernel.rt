@@ -153,7 +153,7 @@ impl<S: ListSpace> Kernel<S> {
 
     /// The value of an argument for task t.
     #[inline(always)]
-    fn evaluate(&self, t: TaskId, argument: Argument) -> ShortArg
+    pub(crate) fn evaluate(&self, t: TaskId, argument: Argument) -> ShortArg
         requires { HasTask t self.now }
         ensures { (name : List ℕ) → short_argument name result ≡ evaluated t self.now.scripts (argument_view name argument) }
     {

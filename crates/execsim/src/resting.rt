@@ -120,7 +120,13 @@ impl<S: ListSpace> Kernel<S> {
         }
         match self.running() {
             None => true,
-            Some(t) => self.plain_word(t, out),
+            Some(t) => match self.put_next_print(t, out) {
+                Some(next) => {
+                    self.go_on(t, next);
+                    true
+                }
+                None => self.plain_word(t, out),
+            },
         }
     }
 
