@@ -297,14 +297,6 @@ logged shows machine list first agrees rest =
 
 -- ---- rows that are kept
 
--- what is kept is put
-pub page_put : {a b : Tape} {before after : List ℕ} → Puts a b before → after ≡ [] → Adds a b before after []
-page_put {a} {b} {before} {after} p e = record { handed = before; puts = p; whole = ap (λ (z : List ℕ). before ++ z) (sym e) }
-
--- it is kept further
-pub page_kept : (a : Tape) (page : List ℕ) → Adds a a page page []
-page_kept a page = adds_none a page
-
 -- bytes after what is kept, of which all may be put then
 pub page_gains : {Shows : List ℕ → Type 0} {a b : Tape} {before between after : List ℕ} → Gains Shows before between → Adds a b between after []
     → Wrote (Extends (record { tape = a; page = before }) (record { tape = b; page = after })) Shows

@@ -1,11 +1,14 @@
 -- Texts that are copied as a fixed number of bytes at once.
-use Rattle.std.proofs.Common.{◌≡◌, ◌≤◌, ◌+◌, ◌-◌, ℕ, List, [], ◌++◌, length, take, drop, replicate, refl, ap, sym, ◌∙◌, append-nil, append_assoc, length-drop, arith}
-use Rattle.std.proofs.lemmas.List.{drop-append-le, drop-drop, drop_at, length-append, length-take-le, nil_from_length, take-append-drop, take-append-le, take-take, take_all, take_at}
+use Rattle.std.proofs.Common.{◌≡◌, ◌≤◌, ◌+◌, ◌-◌, ℕ, List, [], ◌∷◌, ◌++◌, length, take, drop, replicate, refl, ap, sym, ◌∙◌, append-nil, append_assoc, length-drop, arith}
+use Rattle.std.proofs.lemmas.List.{drop-append-le, drop-drop, drop_at, length-append, length-replicate, length-take-le, take-append-drop, take-append-le, take-take, take_at}
+use Rattle.std.proofs.lemmas.List.Edits.{take-paste}
 use Rattle.std.proofs.lemmas.Simd.{put_chunk_is}
 use Rattle.std.proofs.Math.Seq.{drop-append-add, take-add, take-append-add}
+use Rattle.exectrace.specs.Sink.{Tape, Adds, Puts}
 use Rattle.execlog.proofs.Laying.{spaces_taken}
 use Rattle.execlog.specs.Rows.{IsSheet}
 use lib.Lanes.{put_chunk}
+use lib.Seq.{paste}
 
 -- ---- writing over bytes
 
@@ -46,64 +49,6 @@ pushed_over old cells new text at len within first rest =
     ∙ ap (λ (l : List ℕ). l ++ take (len - n) (drop n new)) first
     ∙ ap (λ (l : List ℕ). (take at cells ++ text) ++ take (len - n) l) rest
     ∙ append_assoc (take at cells) text (take (len - n) (drop n cells)))
-
--- the same of cells at the end of a page
-pub over_end : (old cells d ext new text : List ℕ) (from at len long : ℕ) → from ≡ length old → d ≡ old ++ cells → long ≡ length old + length cells
-    → at + length text ≤ len
-    → take (at + length text) new ≡ take at (take (length d - from) (drop from d)) ++ text
-    → drop (at + length text) new ≡ drop (at + length text) (take (length d - from) (drop from d))
-    → length new ≡ length (take (length d - from) (drop from d))
-    → take (from + len) (take long ((take from d ++ (new ++ drop (length d - from) (drop from d)))
-    ++ drop (length (take from d ++ (new ++ drop (length d - from) (drop from d)))) ext))
-    ≡ old ++ (take at cells ++ (text ++ take (len - (at + length text)) (drop (at + length text) cells)))
-over_end old cells d ext new text from at len long from_is d_is long_is within first rest same =
-    let n : ℕ = at + length text in
-    let all : List ℕ = take from d ++ (new ++ drop (length d - from) (drop from d)) in
-    let before : take from d ≡ old = ap (take from) d_is ∙ take_at old cells from (sym from_is) in
-    let others : drop from d ≡ cells = ap (drop from) d_is ∙ drop_at old cells from (sym from_is) in
-    let many : length d ≡ length old + length cells = ap length d_is ∙ length-append old cells in
-    let fits : length cells ≤ length d - from = omega (arith, many, from_is) in
-    let part : take (length d - from) (drop from d) ≡ cells = ap (take (length d - from)) others ∙ take_all (length d - from) cells fits in
-    let ends : length (drop (length d - from) (drop from d)) ≡ 0 =
-    omega (arith, length-drop (length d - from) (drop from d), length-drop from d) in
-    let none : drop (length d - from) (drop from d) ≡ [] = nil_from_length (drop (length d - from) (drop from d)) ends in
-    let whole : all ≡ old ++ new =
-    ap (λ (l : List ℕ). l ++ (new ++ drop (length d - from) (drop from d))) before
-    ∙ ap (λ (l : List ℕ). old ++ (new ++ l)) none
-    ∙ ap (λ (l : List ℕ). old ++ l) (append-nil new) in
-    let as_long : length all ≡ long = omega (arith, ap length whole, length-append old new, same, ap length part, long_is) in
-    ap (take (from + len)) (take_at all (drop (length all) ext) long as_long ∙ whole)
-    ∙ ap (λ (k : ℕ). take (k + len) (old ++ new)) from_is
-    ∙ pushed_over old cells new text at len within (first ∙ ap (λ (l : List ℕ). take at l ++ text) part) (rest ∙ ap (drop n) part)
-
--- the end of a page is what was added
-pub page_end : (old row d : List ℕ) (from : ℕ) → from ≡ length old → d ≡ old ++ row → take (length d - from) (drop from d) ≡ row
-page_end old row d from from_is d_is =
-    let many : length d ≡ length old + length row = ap length d_is ∙ length-append old row in
-    ap (take (length d - from)) (ap (drop from) d_is ∙ drop_at old row from (sym from_is))
-    ∙ take_all (length d - from) row (omega (arith, many, from_is))
-
--- a row that was written at the end of a page, and what is after it cut off
-pub row_end : (old row d ext new : List ℕ) (from n long : ℕ) → from ≡ length old → d ≡ old ++ row → long ≡ length old + length row
-    → length new ≡ length (take (length d - from) (drop from d))
-    → take (from + n) (take long ((take from d ++ (new ++ drop (length d - from) (drop from d)))
-    ++ drop (length (take from d ++ (new ++ drop (length d - from) (drop from d)))) ext))
-    ≡ old ++ take n new
-row_end old row d ext new from n long from_is d_is long_is same =
-    let all : List ℕ = take from d ++ (new ++ drop (length d - from) (drop from d)) in
-    let before : take from d ≡ old = ap (take from) d_is ∙ take_at old row from (sym from_is) in
-    let ends : length (drop (length d - from) (drop from d)) ≡ 0 =
-    omega (arith, length-drop (length d - from) (drop from d), length-drop from d) in
-    let none : drop (length d - from) (drop from d) ≡ [] = nil_from_length (drop (length d - from) (drop from d)) ends in
-    let whole : all ≡ old ++ new =
-    ap (λ (l : List ℕ). l ++ (new ++ drop (length d - from) (drop from d))) before
-    ∙ ap (λ (l : List ℕ). old ++ (new ++ l)) none
-    ∙ ap (λ (l : List ℕ). old ++ l) (append-nil new) in
-    let as_long : length all ≡ long =
-    omega (arith, ap length whole, length-append old new, same, ap length (page_end old row d from from_is d_is), long_is) in
-    ap (take (from + n)) (take_at all (drop (length all) ext) long as_long ∙ whole)
-    ∙ ap (λ (k : ℕ). take (k + n) (old ++ new)) from_is
-    ∙ take-append-add old new n
 
 -- cells that are written over a row from a place on, and a text over them
 pub row_written : (row mid new cells text : List ℕ) (wide at len : ℕ) → wide ≤ length row → length cells ≡ 96 → at + length text ≤ len → len ≤ 96
@@ -166,17 +111,6 @@ sheet_row {before} {after} {cells} {at} {len} gap text sheet few within =
     ∙ ap (λ (l : List ℕ). before ++ (text ++ l)) (take_at (drop n after) z (len - (at + n)) long)
     ∙ ap (λ (k : ℕ). before ++ (text ++ drop k after)) taken
 
--- a line after an empty column
-pub text_over : (text : List ℕ)
-    → take 8 (replicate {A = ℕ} 96 32) ++ (text ++ take (8 + length text - (8 + length text)) (drop (8 + length text) (replicate {A = ℕ} 96 32)))
-    ≡ replicate {A = ℕ} 8 32 ++ text
-text_over text =
-    let none : 8 + length text - (8 + length text) ≡ 0 = omega arith in
-    let few : 8 ≤ 96 = omega arith in
-    ap (λ (k : ℕ). take 8 (replicate {A = ℕ} 96 32) ++ (text ++ take k (drop (8 + length text) (replicate {A = ℕ} 96 32)))) none
-    ∙ ap (λ (l : List ℕ). l ++ (text ++ [])) (spaces_taken 8 96 few)
-    ∙ ap (λ (l : List ℕ). replicate {A = ℕ} 8 32 ++ l) (append-nil text)
-
 -- ---- the columns
 
 module _ (room cols rest : List ℕ) (start : ℕ) (shows : drop start room ≡ cols ++ rest) where
@@ -189,8 +123,80 @@ module _ (room cols rest : List ℕ) (start : ℕ) (shows : drop start room ≡ 
   pub columns_taken : (n : ℕ) → length cols ≡ n → take n (drop start room) ≡ cols
   columns_taken n long = ap (take n) shows ∙ take_at cols rest n long
 
-  -- more was copied, and cut off
-  pub columns_pushed : (old : List ℕ) (n width : ℕ) → length cols ≡ n → n ≤ width → take (length old + n) (old ++ take width (drop start room)) ≡ old ++ cols
-  columns_pushed old n width long within =
-      take-append-add old (take width (drop start room)) n
-      ∙ ap (λ (l : List ℕ). old ++ l) (take-take n width (drop start room) within ∙ columns_taken n long)
+-- what is written in two parts
+pub two_parts : (old mid new cells rest : List ℕ) (at n : ℕ) → n ≤ length cells → rest ≡ drop n cells
+    → take (at + length (take n cells)) mid ≡ take at old ++ take n cells → take (at + n + length rest) new ≡ take (at + n) mid ++ rest
+    → take (at + length cells) new ≡ take at old ++ cells
+two_parts old mid new cells rest at n few is one two =
+    let first : length (take n cells) ≡ n = length-take-le n cells few in
+    let end : at + n ≡ at + length (take n cells) = omega (arith, first) in
+    let whole : at + length cells ≡ at + n + length rest = omega (arith, few, ap length is, length-drop n cells) in
+    ap (λ (k : ℕ). take k new) whole
+    ∙ two
+    ∙ ap (λ (k : ℕ). take k mid ++ rest) end
+    ∙ ap (λ (l : List ℕ). l ++ rest) one
+    ∙ append_assoc (take at old) (take n cells) rest
+    ∙ ap (λ (l : List ℕ). take at old ++ (take n cells ++ l)) is
+    ∙ ap (λ (l : List ℕ). take at old ++ l) (take-append-drop n cells)
+
+-- a text and a line feed after columns and an empty column of a line
+pub bare_written : (old row mid new cols text : List ℕ) (at : ℕ) → at + length text ≤ length mid → take at row ≡ old ++ (cols ++ replicate {A = ℕ} 8 32)
+    → take (at + length text) mid ≡ take at row ++ text → new ≡ take (at + length text) mid ++ 10 ∷ drop (at + length text + 1) mid
+    → take (at + length text + 1) new ≡ old ++ (cols ++ (replicate {A = ℕ} 8 32 ++ (text ++ 10 ∷ [])))
+bare_written old row mid new cols text at within head put ended =
+    let end : ℕ = at + length text in
+    let spaces : List ℕ = replicate {A = ℕ} 8 32 in
+    let feed : List ℕ = 10 ∷ [] in
+    let first : length (take end mid) ≡ end = length-take-le end mid within in
+    let whole : end + 1 ≡ length (take end mid) + 1 = omega (arith, first) in
+    ap (take (end + 1)) ended
+    ∙ ap (λ (k : ℕ). take k (take end mid ++ 10 ∷ drop (end + 1) mid)) whole
+    ∙ take-append-add (take end mid) (10 ∷ drop (end + 1) mid) 1
+    ∙ ap (λ (l : List ℕ). l ++ feed) (put ∙ ap (λ (l : List ℕ). l ++ text) head)
+    ∙ append_assoc (old ++ (cols ++ spaces)) text feed
+    ∙ append_assoc old (cols ++ spaces) (text ++ feed)
+    ∙ ap (λ (l : List ℕ). old ++ l) (append_assoc cols spaces (text ++ feed))
+
+-- columns that are copied with spaces after them
+pub columns_written : (old new cols text : List ℕ) (from wide k n : ℕ) → from ≤ length old → length cols ≡ wide → n ≤ 64 → wide + k ≤ n
+    → text ≡ take n (cols ++ replicate {A = ℕ} 128 32) → take (from + length text) new ≡ take from old ++ text
+    → take (from + (wide + k)) new ≡ take from old ++ (cols ++ replicate {A = ℕ} k 32)
+columns_written old new cols text from wide k n inside long few within is put =
+    let spaces : List ℕ = replicate {A = ℕ} 128 32 in
+    let many : n ≤ length (cols ++ spaces) = omega (arith, length-append cols spaces, length-replicate {A = ℕ} 128 32, few) in
+    let size : length text ≡ n = ap length is ∙ length-take-le n (cols ++ spaces) many in
+    let first : length (take from old) ≡ from = length-take-le from old inside in
+    let below : from + (wide + k) ≤ from + length text = omega (arith, size, within) in
+    let at : from + (wide + k) ≡ length (take from old) + (wide + k) = omega (arith, first) in
+    let at' : wide + k ≡ length cols + k = omega (arith, long) in
+    let few' : k ≤ 128 = omega (arith, few, within) in
+    sym (take-take (from + (wide + k)) (from + length text) new below)
+    ∙ ap (take (from + (wide + k))) put
+    ∙ ap (λ (i : ℕ). take i (take from old ++ text)) at
+    ∙ take-append-add (take from old) text (wide + k)
+    ∙ ap (λ (l : List ℕ). take from old ++ l)
+    (ap (take (wide + k)) is
+    ∙ take-take (wide + k) n (cols ++ spaces) within
+    ∙ ap (λ (i : ℕ). take i (cols ++ spaces)) at'
+    ∙ take-append-add cols spaces k
+    ∙ ap (λ (l : List ℕ). cols ++ l) (spaces_taken k 128 few'))
+
+-- the first ones of the bytes that are kept are put, and the others are moved to their place
+pub first_put : {a b : Tape} (cells : List ℕ) (first len : ℕ) → first ≤ len → len ≤ length cells → Puts a b (take first cells)
+    → Adds a b (take len cells) (take (len - first) (paste cells 0 (drop first cells) (len - first))) []
+first_put cells first len few within puts =
+    let rest : ℕ = len - first in
+    let whole : len ≡ first + rest = omega (arith, few) in
+    let many : rest ≤ length (drop first cells) = omega (arith, length-drop first cells, within) in
+    let start : 0 ≤ length cells = omega arith in
+    let none : rest ≡ 0 + rest = omega arith in
+    let kept : take rest (paste cells 0 (drop first cells) rest) ≡ take rest (drop first cells) =
+    ap (λ (k : ℕ). take k (paste cells 0 (drop first cells) rest)) none ∙ take-paste cells 0 (drop first cells) rest start many in
+    record {
+      handed = take first cells;
+      puts = puts;
+      whole = append-nil (take len cells)
+          ∙ ap (λ (k : ℕ). take k cells) whole
+          ∙ take-add first rest cells
+          ∙ ap (λ (l : List ℕ). take first cells ++ l) (sym kept);
+    }

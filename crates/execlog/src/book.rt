@@ -1,5 +1,5 @@
 //! What is written where in a machine file: the names of its bodies, and of each command the line of the file and the text.
-ghost use Rattle.std.specs.Prelude.{◌≡◌, option_copied, string_bytes, IfOk};
+ghost use Rattle.std.specs.Prelude.{◌≡◌, true, option_copied, string_bytes, IfOk};
 ghost use Rattle.execlog.specs.Rows.{IsFrame};
 
 use crate::frame::Frame;
@@ -149,7 +149,9 @@ impl Book {
 
 /// Whether two names are the same. Most are short, and are compared byte by byte.
 #[inline(always)]
-fn is_same(one: &[u8], other: &[u8]) -> bool {
+fn is_same(one: &[u8], other: &[u8]) -> bool
+    ensures { result ≡ true → one.now ≡ other.now }
+{
     if one.len() != other.len() {
         return false;
     }

@@ -64,7 +64,9 @@ fn is_line_by<const N: usize>(text: &[u8]) -> bool
 pub(crate) fn is_line(text: &[u8]) -> bool
     ensures { result ≡ true → IsFeedAt text.now (Some (length text.now - 1)) }
 {
-    if text.len() > 17 {
+    if text.len() > 33 {
+        is_line_by::<32>(text)
+    } else if text.len() > 17 {
         is_line_by::<16>(text)
     } else {
         is_line_by::<8>(text)

@@ -4,6 +4,7 @@ ghost use Rattle.execlog.specs.Log.{Entry, Gains};
 
 use crate::head::Head;
 use crate::moment::{Actor, Moment};
+use crate::page::Page;
 use execlist::space::ListSpace;
 use execsim::Machine;
 use std::alloc::AllocError;
@@ -56,7 +57,7 @@ pub trait Form {
         before: &Before,
         moment: &Moment,
         text: &[u8],
-        page: &mut Vec<u8>,
+        page: &mut Page,
     ) -> Result<(), AllocError>
-        ensures { OnOk result (Gains (shows self.now (record { moment = moment.now; text = text.now })) page.old.items page.new.items) };
+        ensures { OnOk result (Gains (shows self.now (record { moment = moment.now; text = text.now })) page.old page.new) };
 }

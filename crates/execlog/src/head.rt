@@ -1,11 +1,10 @@
 //! The columns of the number and the time of an entry. They are kept from one entry to the next, of which mostly one digit differs.
-ghost use Rattle.std.specs.Prelude.{◌≡◌, ◌∷◌, ◌<◌, ◌≤◌, ◌++◌, ◌+◌, ◌-◌, ◌*◌, ◌/◌, drop, length, take, OnOk};
+ghost use Rattle.std.specs.Prelude.{◌≡◌, ◌∷◌, ◌<◌, ◌≤◌, ◌++◌, ◌+◌, ◌-◌, ◌*◌, ◌/◌, ℕ, [], drop, length, replicate, take, true};
 ghost use Rattle.execlog.specs.Rows.{IsHead, columns};
 
-use crate::moves::{write_over, write_text};
+use crate::moves::{write_block, write_cells, write_text};
 use crate::rows::{digit, put_column, put_millis};
-use crate::sheet::{WIDTH as CELLS, push_over};
-use std::alloc::AllocError;
+use crate::sheet::WIDTH as CELLS;
 
 /// How many bytes there is room for.
 const ROOM: usize = 192;
@@ -16,8 +15,8 @@ const END: usize = 64;
 /// How many bytes are copied at once; nearly all columns are shorter.
 const WIDTH: usize = 32;
 
-/// How many bytes a row is copied as before its cells are written, which is enough for columns that are short and all cells.
-const ROW: usize = 128;
+/// How many bytes are copied at once for columns that are short, and eight spaces after them.
+const SPACED: usize = 64;
 
 /// The columns of a number and a time, with spaces after them.
 #[derive(Clone, Copy)]
@@ -30,7 +29,7 @@ pub(crate) struct Head {
     base: u64,
     room: [u8; ROOM],
     /// Where the columns begin.
-    start: usize,
+    pub(crate) start: usize,
     /// Where the last digit of the number is.
     last: usize,
     ghost is_head: { IsHead number clock tens start last room },
@@ -44,20 +43,6 @@ fn replace(room: &mut [u8], at: usize, byte: u8)
     ensures { room.new ≡ take at room.old ++ byte ∷ drop (at + 1) room.old }
 {
     room[at] = byte;
-}
-
-/// Writes cells over a row from a place on, with a text over those from another place on.
-#[inline(always)]
-fn write_row(row: &mut [u8], wide: usize, cells: &[u8; CELLS], at: usize, len: usize, text: &[u8])
-    requires room { wide + 96 ≤ length row.old }
-    requires within { at + length text.now ≤ len }
-    requires few { len ≤ 96 }
-    ensures written { take (wide + len) row.new ≡ take wide row.old
-        ++ (take at cells.now ++ (text.now ++ take (len - (at + length text.now)) (drop (at + length text.now) cells.now))) }
-    ensures room { length row.new ≡ length row.old }
-{
-    write_over(row, wide, cells);
-    write_text(row, wide + at, text);
 }
 
 impl Head {
@@ -137,45 +122,77 @@ impl Head {
         }
     }
 
-    /// Adds the columns.
-    #[inline(always)]
-    pub(crate) fn push(&self, page: &mut Vec<u8>) -> Result<(), AllocError>
-        ensures { OnOk result (page.new.items ≡ page.old.items ++ columns self.now.number self.now.clock) }
+    /// The columns.
+    pub(crate) fn columns(&self) -> &[u8]
+        ensures { result.now ≡ columns self.now.number self.now.clock }
     {
-        let len = END - self.start;
-        if len > WIDTH {
-            return page.extend_from_slice(&self.room[self.start..END]);
-        }
-        let from = page.len();
-        page.extend_from_slice(&self.room[self.start..self.start + WIDTH])?;
-        page.truncate(from + len);
-        Ok(())
+        &self.room[self.start..END]
     }
 
-    /// Adds the columns and the first cells, that many, with a text over those from a place on.
+    /// Whether they are as short as nearly all are.
     #[inline(always)]
-    pub(crate) fn push_over(
+    pub(crate) fn is_narrow(&self) -> bool
+        ensures { result ≡ true → 64 - self.now.start ≤ 32 }
+    {
+        END - self.start <= WIDTH
+    }
+
+    /// Writes the columns over bytes from a place on, and spaces after them, that many bytes.
+    #[inline(always)]
+    fn write<const N: usize>(&self, room: &mut [u8], from: usize)
+        requires few { N ≤ 64 }
+        requires room { from + N ≤ length room.old }
+        ensures written { (k : ℕ) → 64 - self.now.start + k ≤ N → take (from + (64 - self.now.start + k)) room.new
+            ≡ take from room.old ++ (columns self.now.number self.now.clock ++ replicate k 32) }
+        ensures room { length room.new ≡ length room.old }
+    {
+        write_block::<N>(room, from, &self.room[self.start..self.start + N]);
+    }
+
+    /// Writes the columns over bytes from a place on, and after them the first cells, that many, with a text over those from a place on. The answer is
+    /// where they end.
+    #[inline(always)]
+    pub(crate) fn write_row(
         &self,
-        page: &mut Vec<u8>,
+        room: &mut [u8],
+        from: usize,
         cells: &[u8; CELLS],
         at: usize,
         len: usize,
         text: &[u8],
-    ) -> Result<(), AllocError>
+    ) -> usize
+        requires narrow { 64 - self.now.start ≤ 32 }
+        requires room { from + 128 ≤ length room.old }
         requires within { at + length text.now ≤ len }
         requires few { len ≤ 96 }
-        ensures { OnOk result (page.new.items ≡ page.old.items ++ (columns self.now.number self.now.clock
-            ++ (take at cells.now ++ (text.now ++ take (len - (at + length text.now)) (drop (at + length text.now) cells.now))))) }
+        ensures end { result ≡ from + (64 - self.now.start) + len }
+        ensures written { take result room.new ≡ take from room.old ++ (columns self.now.number self.now.clock
+            ++ (take at cells.now ++ (text.now ++ take (len - (at + length text.now)) (drop (at + length text.now) cells.now)))) }
+        ensures room { length room.new ≡ length room.old }
     {
-        let wide = END - self.start;
-        if wide > WIDTH {
-            self.push(page)?;
-            return push_over(page, cells, at, len, text);
-        }
-        let from = page.len();
-        page.extend_from_slice(&self.room[self.start..self.start + ROW])?;
-        write_row(&mut page[from..], wide, cells, at, len, text);
-        page.truncate(from + (wide + len));
-        Ok(())
+        let wide = from + (END - self.start);
+        self.write::<WIDTH>(room, from);
+        write_cells(room, wide, cells);
+        write_text(room, wide + at, text);
+        wide + len
+    }
+
+    /// Writes the columns over bytes from a place on, and after them an empty column of a line, a text, and a line feed. The answer is where they end.
+    #[inline(always)]
+    pub(crate) fn write_bare(&self, room: &mut [u8], from: usize, text: &[u8]) -> usize
+        requires narrow { 64 - self.now.start ≤ 32 }
+        requires room { from + 128 ≤ length room.old }
+        requires few { length text.now ≤ 87 }
+        ensures end { result ≡ from + (64 - self.now.start) + 8 + length text.now + 1 }
+        ensures written { take result room.new ≡ take from room.old ++ (columns self.now.number self.now.clock
+            ++ (replicate 8 32 ++ (text.now ++ 10 ∷ []))) }
+        ensures room { length room.new ≡ length room.old }
+    {
+        let at = from + (END - self.start) + 8;
+        let end = at + text.len();
+        self.write::<SPACED>(room, from);
+        write_text(room, at, text);
+        replace(room, end, b'\n');
+        end + 1
     }
 }

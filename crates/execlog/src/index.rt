@@ -15,7 +15,7 @@ fn mark_of(name: &[u8]) -> u8 {
         None => 0,
         Some((last, others)) => match others.last() {
             None => *last,
-            Some(b) => last.wrapping_add(b.wrapping_mul(16)),
+            Some(b) => last.wrapping_add(b.wrapping_mul(10)),
         },
     }
 }

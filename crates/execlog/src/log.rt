@@ -1,6 +1,5 @@
 //! A run with an entry for each step, tick and request. Steps that print nothing are done together if they are not shown.
 ghost use Rattle.std.specs.Prelude.{◌≡◌, ◌+◌, ◌*◌, ◌∷◌, ◌<◌, ◌≤◌, ◌^◌, ℕ, [], false, replicate, sum_by, None, IfOk, OnOk};
-ghost use Rattle.exectrace.specs.Sink.{Adds};
 ghost use Rattle.exectrace.specs.declared.sinks.SinkState.{SinkState};
 ghost use Rattle.taskscript.specs.Events.{ticks as ticks_of};
 ghost use Rattle.taskscript.specs.File.{MachineData};
@@ -15,6 +14,7 @@ ghost use Rattle.execlog.specs.Runs.{Extends, Logs, LogsRun, Wrote};
 use crate::buffer::Buffer;
 use crate::form::{Before, Form};
 use crate::moment::{Actor, Moment, actor_of};
+use crate::page::Page;
 use execlist::space::ListSpace;
 use execsim::Machine;
 use exectrace::Sink;
@@ -34,10 +34,6 @@ pub enum LogFault {
     Write,
 }
 
-/// How many bytes of rows are put together, or a few more: more than a buffer before a file keeps, so that they are not copied once more, and
-/// enough for a file to take them in few writes.
-const MOST_KEPT: usize = 524_288;
-
 /// What is kept from one entry to the next.
 #[derive(Drop)]
 struct Log<'a, F> {
@@ -49,18 +45,7 @@ struct Log<'a, F> {
     /// What the machine has printed since the last entry.
     text: Buffer,
     /// The rows that are not put yet.
-    page: Vec<u8>,
-}
-
-/// Puts the rows of a page if there are many, and begins it anew.
-#[tactic(auto, using(crate::proofs::Logging::page_put, crate::proofs::Logging::page_kept))]
-fn turn_page<W: Sink>(page: &mut Vec<u8>, out: &mut W)
-    ensures { Adds (W.tape out.old) (W.tape out.new) page.old.items page.new.items [] }
-{
-    if page.len() >= MOST_KEPT {
-        put(page, out);
-        page.clear();
-    }
+    page: Page,
 }
 
 impl<'a, F: Form> Log<'a, F> {
@@ -73,7 +58,7 @@ impl<'a, F: Form> Log<'a, F> {
         out: &mut W,
     ) -> Result<(), AllocError>
         requires { self.old.number < 2 ^ 63 }
-        ensures shows { OnOk result (Wrote (Extends (record { tape = W.tape out.old; page = self.old.page.items }) (record { tape = W.tape out.new; page = self.new.page.items })) (F.shows self.old.form.now (record {
+        ensures shows { OnOk result (Wrote (Extends (record { tape = W.tape out.old; page = self.old.page }) (record { tape = W.tape out.new; page = self.new.page })) (F.shows self.old.form.now (record {
           moment = record { number = self.old.number; clock = clock; actor = actor };
           text = self.old.text.bytes;
         }))) }
@@ -93,7 +78,7 @@ impl<'a, F: Form> Log<'a, F> {
             self.text.bytes.as_slice(),
             &mut self.page,
         )?;
-        turn_page(&mut self.page, out);
+        self.page.turn(out);
         Ok(())
     }
 }
@@ -109,7 +94,7 @@ fn begin<S: ListSpace, F: Form, W: Sink>(
     requires blank { log.old.text.bytes ≡ [] }
     requires number { log.old.number ≡ 0 }
     ensures agrees { OnOk result ((m : MachineData) → Agrees machine.old.seen (booted m) → Agrees machine.new.seen (starts (booted m)).state) }
-    ensures rows { OnOk result ((m : MachineData) → Agrees machine.old.seen (booted m) → Wrote (Extends (record { tape = W.tape out.old; page = log.old.page.items }) (record { tape = W.tape out.new; page = log.new.page.items })) (F.shows log.old.form.now (entry_after 0 None (starts (booted m))))) }
+    ensures rows { OnOk result ((m : MachineData) → Agrees machine.old.seen (booted m) → Wrote (Extends (record { tape = W.tape out.old; page = log.old.page }) (record { tape = W.tape out.new; page = log.new.page })) (F.shows log.old.form.now (entry_after 0 None (starts (booted m))))) }
     ensures going { OnOk result (machine.new.failed ≡ false) }
     ensures good { OnOk result (log.new.text.state ≡ SinkState.Good) }
     ensures number { OnOk result (log.new.number ≡ 1) }
@@ -136,7 +121,7 @@ fn advance<S: ListSpace, F: Form, W: Sink>(
     requires good { log.old.text.state ≡ SinkState.Good }
     requires number { log.old.number < 2 ^ 63 }
     requires time { HasTimeFor (ticks_of one) machine.old.seen }
-    ensures logs { OnOk result (Logs (F.shows log.old.form.now) (one ∷ []) log.old.number machine.old.seen machine.new.seen (record { tape = W.tape out.old; page = log.old.page.items }) (record { tape = W.tape out.new; page = log.new.page.items })) }
+    ensures logs { OnOk result (Logs (F.shows log.old.form.now) (one ∷ []) log.old.number machine.old.seen machine.new.seen (record { tape = W.tape out.old; page = log.old.page }) (record { tape = W.tape out.new; page = log.new.page })) }
     ensures going { OnOk result (machine.new.failed ≡ false) }
     ensures good { OnOk result (log.new.text.state ≡ SinkState.Good) }
     ensures number { OnOk result (log.new.number ≡ log.old.number + 1) }
@@ -167,7 +152,7 @@ fn advance_many<S: ListSpace, F: Form, W: Sink>(
     requires good { log.old.text.state ≡ SinkState.Good }
     requires number { log.old.number + many < 2 ^ 63 }
     requires time { HasTimeFor (many * ticks_of one) machine.old.seen }
-    ensures logs { OnOk result (Logs (F.shows log.old.form.now) (replicate many one) log.old.number machine.old.seen machine.new.seen (record { tape = W.tape out.old; page = log.old.page.items }) (record { tape = W.tape out.new; page = log.new.page.items })) }
+    ensures logs { OnOk result (Logs (F.shows log.old.form.now) (replicate many one) log.old.number machine.old.seen machine.new.seen (record { tape = W.tape out.old; page = log.old.page }) (record { tape = W.tape out.new; page = log.new.page })) }
     ensures going { OnOk result (machine.new.failed ≡ false) }
     ensures good { OnOk result (log.new.text.state ≡ SinkState.Good) }
     ensures number { OnOk result (log.new.number ≡ log.old.number + many) }
@@ -199,7 +184,7 @@ fn advance_step<S: ListSpace, F: Form, W: Sink>(
     requires good { log.old.text.state ≡ SinkState.Good }
     requires number { log.old.number + more + 1 < 2 ^ 63 }
     ensures within { IfOk result (λ silent. silent ≤ more) }
-    ensures logs { IfOk result (λ silent. Logs (F.shows log.old.form.now) (replicate (silent + 1) (Event.Run 1)) log.old.number machine.old.seen machine.new.seen (record { tape = W.tape out.old; page = log.old.page.items }) (record { tape = W.tape out.new; page = log.new.page.items })) }
+    ensures logs { IfOk result (λ silent. Logs (F.shows log.old.form.now) (replicate (silent + 1) (Event.Run 1)) log.old.number machine.old.seen machine.new.seen (record { tape = W.tape out.old; page = log.old.page }) (record { tape = W.tape out.new; page = log.new.page })) }
     ensures going { OnOk result (machine.new.failed ≡ false) }
     ensures good { OnOk result (log.new.text.state ≡ SinkState.Good) }
     ensures number { IfOk result (λ silent. log.new.number ≡ log.old.number + (silent + 1)) }
@@ -231,7 +216,7 @@ fn advance_steps<S: ListSpace, F: Form, W: Sink>(
     requires going { machine.old.failed ≡ false }
     requires good { log.old.text.state ≡ SinkState.Good }
     requires number { log.old.number + many < 2 ^ 63 }
-    ensures logs { OnOk result (Logs (F.shows log.old.form.now) (replicate many (Event.Run 1)) log.old.number machine.old.seen machine.new.seen (record { tape = W.tape out.old; page = log.old.page.items }) (record { tape = W.tape out.new; page = log.new.page.items })) }
+    ensures logs { OnOk result (Logs (F.shows log.old.form.now) (replicate many (Event.Run 1)) log.old.number machine.old.seen machine.new.seen (record { tape = W.tape out.old; page = log.old.page }) (record { tape = W.tape out.new; page = log.new.page })) }
     ensures going { OnOk result (machine.new.failed ≡ false) }
     ensures good { OnOk result (log.new.text.state ≡ SinkState.Good) }
     ensures number { OnOk result (log.new.number ≡ log.old.number + many) }
@@ -257,7 +242,7 @@ fn advance_event<S: ListSpace, F: Form, W: Sink>(
     requires good { log.old.text.state ≡ SinkState.Good }
     requires number { log.old.number + turns one < 2 ^ 63 }
     requires time { HasTimeFor (ticks_of one) machine.old.seen }
-    ensures logs { OnOk result (Logs (F.shows log.old.form.now) (unit_of one) log.old.number machine.old.seen machine.new.seen (record { tape = W.tape out.old; page = log.old.page.items }) (record { tape = W.tape out.new; page = log.new.page.items })) }
+    ensures logs { OnOk result (Logs (F.shows log.old.form.now) (unit_of one) log.old.number machine.old.seen machine.new.seen (record { tape = W.tape out.old; page = log.old.page }) (record { tape = W.tape out.new; page = log.new.page })) }
     ensures going { OnOk result (machine.new.failed ≡ false) }
     ensures good { OnOk result (log.new.text.state ≡ SinkState.Good) }
     ensures number { OnOk result (log.new.number ≡ log.old.number + turns one) }
@@ -282,7 +267,7 @@ fn advance_all<S: ListSpace, F: Form, W: Sink>(
     requires good { log.old.text.state ≡ SinkState.Good }
     requires number { log.old.number + sum_by turns list.now < 2 ^ 63 }
     requires time { HasTimeFor (sum_by ticks_of list.now) machine.old.seen }
-    ensures { OnOk result (Logs (F.shows log.old.form.now) (units list.now) log.old.number machine.old.seen machine.new.seen (record { tape = W.tape out.old; page = log.old.page.items }) (record { tape = W.tape out.new; page = log.new.page.items })) }
+    ensures { OnOk result (Logs (F.shows log.old.form.now) (units list.now) log.old.number machine.old.seen machine.new.seen (record { tape = W.tape out.old; page = log.old.page }) (record { tape = W.tape out.new; page = log.new.page })) }
 {
     for one in list {
         advance_event(machine, *one, log, out)?;
@@ -303,7 +288,7 @@ fn log_all<S: ListSpace, F: Form, W: Sink>(
     requires number { log.old.number ≡ 0 }
     requires few { sum_by turns list.now < 2 ^ 62 }
     requires time { HasTimeFor (sum_by ticks_of list.now) machine.old.seen }
-    ensures { OnOk result ((m : MachineData) → Agrees machine.old.seen (booted m) → Wrote (Extends (record { tape = W.tape out.old; page = log.old.page.items }) (record { tape = W.tape out.new; page = log.new.page.items })) (ShowsLog (F.shows log.old.form.now) (log_of m list.now))) }
+    ensures { OnOk result ((m : MachineData) → Agrees machine.old.seen (booted m) → Wrote (Extends (record { tape = W.tape out.old; page = log.old.page }) (record { tape = W.tape out.new; page = log.new.page })) (ShowsLog (F.shows log.old.form.now) (log_of m list.now))) }
 {
     begin(machine, log, out)?;
     advance_all(machine, list, log, out)
@@ -335,12 +320,12 @@ pub fn write_log<S: ListSpace, F: Form, W: Sink>(
         number: 0,
         before: Before::new(),
         text: Buffer::new(alloc),
-        page: Vec::new(alloc),
+        page: Page::new(alloc),
     };
     match log_all(machine, events, &mut log, out) {
         Err(_) => Err(LogFault::Memory),
         Ok(()) => {
-            put(&log.page, out);
+            put(log.page.as_slice(), out);
             match written(out) {
                 Ok(()) => Ok(()),
                 Err(_) => Err(LogFault::Write),

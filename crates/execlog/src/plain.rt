@@ -1,8 +1,8 @@
 //! The plain form of a log: a row for each line of the trace, with the number of the step, the time, the line of the command and its text.
-ghost use Rattle.std.specs.Prelude.{◌≡◌, ◌≤◌, ◌<◌, ◌++◌, length, slice_index, IfSome, List, None, OnOk, Option, Some, ℕ};
+ghost use Rattle.std.specs.Prelude.{◌≡◌, ◌≤◌, ◌<◌, ◌++◌, ◌+◌, ◌-◌, length, slice_index, IfSome, List, None, OnOk, Option, Some, ℕ};
 ghost use Rattle.execlog.specs.Books.{ShowsAll, line_at};
 ghost use Rattle.execlog.specs.Log.{Entry, Gains};
-ghost use Rattle.execlog.specs.Rows.{FollowsRows, IsCutAt, IsRow, LaysOut};
+ghost use Rattle.execlog.specs.Rows.{FollowsRows, IsCut, IsCutAt, IsFeedAt, IsRow, LaysOut};
 
 use crate::book::{Book, Place};
 use crate::cursor::{Cursor, Spot, place_at};
@@ -11,6 +11,7 @@ use crate::filter::Filter;
 use crate::form::{Before, Form};
 use crate::head::Head;
 use crate::moment::{Actor, Moment};
+use crate::page::Page;
 use crate::rows::{push_bare, push_framed};
 use execlist::space::ListSpace;
 use execsim::Machine;
@@ -37,16 +38,14 @@ pub fn cut_line(text: &[u8]) -> Option<(&[u8], &[u8])>
     }
 }
 
-/// The first line of a text, which mostly is all of it, without its line feed, and what is after it; none if there is no line feed.
+/// A line without its line feed, which is at that place of a text, and what is after it.
 #[inline(always)]
-fn cut_first(text: &[u8]) -> Option<(&[u8], &[u8])>
-    ensures { IsCutAt text.now result }
+fn cut_at(text: &[u8], end: usize) -> (&[u8], &[u8])
+    requires { IsFeedAt text.now (Some end) }
+    ensures cut { IsCut text.now result.0.now result.1.now }
+    ensures rest { length result.1.now ≡ length text.now - (end + 1) }
 {
-    if is_line(text) {
-        let end = text.len() - 1;
-        return Some((&text[..end], &text[end + 1..]));
-    }
-    cut_line(text)
+    (&text[..end], &text[end + 1..])
 }
 
 /// The text of the command that a line is of; empty for none.
@@ -70,8 +69,9 @@ pub fn line_of(book: &Book, spot: Spot) -> Option<u32> {
 }
 
 /// Adds what is after the last line feed, which is mostly nothing.
-fn push_rest(page: &mut Vec<u8>, rest: &[u8]) -> Result<(), AllocError>
-    ensures { OnOk result (page.new.items ≡ page.old.items ++ rest.now) }
+#[inline(always)]
+fn push_rest(page: &mut Page, rest: &[u8]) -> Result<(), AllocError>
+    ensures { OnOk result (page.new ≡ page.old ++ rest.now) }
 {
     if rest.is_empty() {
         return Ok(());
@@ -82,11 +82,11 @@ fn push_rest(page: &mut Vec<u8>, rest: &[u8]) -> Result<(), AllocError>
 /// An entry as its rows need it.
 #[derive(Clone, Copy)]
 struct Heading<'a> {
-    moment: &'a Moment,
+    moment: Moment,
     /// The columns of its number and its time.
     head: &'a Head,
-    ghost number: { head.now.number ≡ moment.now.number },
-    ghost clock: { head.now.clock ≡ moment.now.clock },
+    ghost number: { head.now.number ≡ moment.number },
+    ghost clock: { head.now.clock ≡ moment.clock },
 }
 
 impl Plain<'_> {
@@ -98,9 +98,9 @@ impl Plain<'_> {
         spot: Spot,
         place: &Place,
         line: &[u8],
-        page: &mut Vec<u8>,
+        page: &mut Page,
     ) -> Result<(), AllocError>
-        ensures { OnOk result (Gains (IsRow (ShowsAll self.now.filter) heading.entry.moment.now place.now.line line.now) page.old.items page.new.items) }
+        ensures { OnOk result (Gains (IsRow (ShowsAll self.now.filter) heading.entry.moment place.now.line line.now) page.old page.new) }
     {
         if self.filter.shows(heading.moment.number, place.line, spot) {
             push_framed(page, heading.head, &place.frame, line)
@@ -116,9 +116,9 @@ impl Plain<'_> {
         heading: Heading<'_>,
         spot: Spot,
         line: &[u8],
-        page: &mut Vec<u8>,
+        page: &mut Page,
     ) -> Result<(), AllocError>
-        ensures { OnOk result (Gains (IsRow (ShowsAll self.now.filter) heading.entry.moment.now None line.now) page.old.items page.new.items) }
+        ensures { OnOk result (Gains (IsRow (ShowsAll self.now.filter) heading.entry.moment None line.now) page.old page.new) }
     {
         if self.filter.shows(heading.moment.number, None, spot) {
             push_bare(page, heading.head, line)
@@ -134,9 +134,9 @@ impl Plain<'_> {
         heading: Heading<'_>,
         spot: Spot,
         line: &[u8],
-        page: &mut Vec<u8>,
+        page: &mut Page,
     ) -> Result<(), AllocError>
-        ensures { OnOk result ((number : Option ℕ) × Gains (IsRow (ShowsAll self.now.filter) heading.entry.moment.now number line.now) page.old.items page.new.items) }
+        ensures { OnOk result ((number : Option ℕ) × Gains (IsRow (ShowsAll self.now.filter) heading.entry.moment number line.now) page.old page.new) }
     {
         match place_at(self.book, spot) {
             None => self.push_other(heading, spot, line, page),
@@ -144,17 +144,75 @@ impl Plain<'_> {
         }
     }
 
+    /// Adds the row of the first line of a text, which is of no command, if it is shown. The answer is whose lines come next.
+    #[inline(always)]
+    fn push_first_other(
+        &self,
+        heading: Heading<'_>,
+        cursor: Cursor,
+        line: &[u8],
+        page: &mut Page,
+    ) -> Result<Cursor, AllocError>
+        ensures { OnOk result (Gains (IsRow (ShowsAll self.now.filter) heading.entry.moment None line.now) page.old page.new) }
+    {
+        let mut cursor = cursor;
+        let spot = cursor.next(self.book, line);
+        self.push_other(heading, spot, line, page)?;
+        Ok(cursor)
+    }
+
+    /// Adds the row of the first line of a text that a step of a task has printed, if it is shown. The answer is whose lines come next.
+    #[inline(always)]
+    fn push_first_of_step(
+        &self,
+        heading: Heading<'_>,
+        actor: Actor,
+        line: &[u8],
+        page: &mut Page,
+    ) -> Result<Cursor, AllocError>
+        ensures { OnOk result (Gains (IsRow (ShowsAll self.now.filter) heading.entry.moment (line_at self.now.book.now (Some actor)) line.now) page.old page.new) }
+    {
+        match self.book.command_at(actor) {
+            None => self.push_first_other(heading, Cursor::new(Some(actor)), line, page),
+            Some(place) => {
+                if place.is_silent {
+                    self.push_first_other(heading, Cursor::behind_task(), line, page)
+                } else {
+                    let spot = Spot::Task(actor.task, actor.place);
+                    self.push_command(heading, spot, place, line, page)?;
+                    Ok(Cursor::behind_task())
+                }
+            }
+        }
+    }
+
+    /// Adds the row of the first line of a text, if it is shown. The answer is whose lines come next.
+    #[inline(always)]
+    fn push_first(
+        &self,
+        heading: Heading<'_>,
+        line: &[u8],
+        page: &mut Page,
+    ) -> Result<Cursor, AllocError>
+        ensures { OnOk result (Gains (IsRow (ShowsAll self.now.filter) heading.entry.moment (line_at self.now.book.now heading.entry.moment.actor) line.now) page.old page.new) }
+    {
+        match heading.moment.actor {
+            None => self.push_first_other(heading, Cursor::behind_task(), line, page),
+            Some(actor) => self.push_first_of_step(heading, actor, line, page),
+        }
+    }
+
     /// Adds the rows of the lines of a text whose first line was cut off.
-    #[inline(never)]
+    #[inline(always)]
     #[tactic(auto, using(crate::proofs::Laying::goes_begin, crate::proofs::Laying::goes_on, crate::proofs::Laying::goes_end))]
     fn push_lines(
         &self,
         heading: Heading<'_>,
         cursor: Cursor,
         text: &[u8],
-        page: &mut Vec<u8>,
+        page: &mut Page,
     ) -> Result<(), AllocError>
-        ensures { OnOk result (Gains (FollowsRows (ShowsAll self.now.filter) heading.entry.moment.now text.now) page.old.items page.new.items) }
+        ensures { OnOk result (Gains (FollowsRows (ShowsAll self.now.filter) heading.entry.moment text.now) page.old page.new) }
     {
         let mut cursor = cursor;
         let mut rest = text;
@@ -166,112 +224,95 @@ impl Plain<'_> {
         push_rest(page, rest)
     }
 
-    /// Adds the rows of the lines of a text whose first line was cut off, which mostly was the only one.
-    #[inline(always)]
-    #[tactic(auto, using(crate::proofs::Laying::follows_nothing))]
-    fn push_others(
+    /// Adds the rows of the lines of a text.
+    #[inline(never)]
+    fn push_rows(
         &self,
         heading: Heading<'_>,
-        cursor: Cursor,
         text: &[u8],
-        page: &mut Vec<u8>,
+        page: &mut Page,
     ) -> Result<(), AllocError>
-        ensures { OnOk result (Gains (FollowsRows (ShowsAll self.now.filter) heading.entry.moment.now text.now) page.old.items page.new.items) }
-    {
-        if text.is_empty() {
-            return Ok(());
-        }
-        self.push_lines(heading, cursor, text, page)
-    }
-
-    /// Adds the rows of the lines of a text whose first line is of no command.
-    #[inline(always)]
-    fn push_from(
-        &self,
-        heading: Heading<'_>,
-        cursor: Cursor,
-        text: &[u8],
-        page: &mut Vec<u8>,
-    ) -> Result<(), AllocError>
-        ensures { OnOk result (Gains (LaysOut (ShowsAll self.now.filter) heading.entry.moment.now None text.now) page.old.items page.new.items) }
+        ensures { OnOk result (Gains (LaysOut (ShowsAll self.now.filter) heading.entry.moment (line_at self.now.book.now heading.entry.moment.actor) text.now) page.old page.new) }
     {
         match cut_line(text) {
             None => push_rest(page, text),
             Some((line, rest)) => {
-                let mut cursor = cursor;
-                let spot = cursor.next(self.book, line);
-                self.push_other(heading, spot, line, page)?;
-                self.push_others(heading, cursor, rest, page)
+                let cursor = self.push_first(heading, line, page)?;
+                self.push_lines(heading, cursor, rest, page)
             }
         }
     }
 
-    /// Adds the rows of the lines of a text whose first line is of that command of a task.
+    /// Adds the row of a text that is one line, which is of that command of a task.
     #[inline(always)]
-    fn push_of_command(
+    fn push_only(
         &self,
         heading: Heading<'_>,
         actor: Actor,
         place: &Place,
         text: &[u8],
-        page: &mut Vec<u8>,
+        page: &mut Page,
     ) -> Result<(), AllocError>
-        ensures { OnOk result (Gains (LaysOut (ShowsAll self.now.filter) heading.entry.moment.now place.now.line text.now) page.old.items page.new.items) }
+        requires { IsFeedAt text.now (Some (length text.now - 1)) }
+        ensures { OnOk result (Gains (LaysOut (ShowsAll self.now.filter) heading.entry.moment place.now.line text.now) page.old page.new) }
     {
-        match cut_first(text) {
-            None => push_rest(page, text),
-            Some((line, rest)) => {
-                let spot = Spot::Task(actor.task, actor.place);
-                self.push_command(heading, spot, place, line, page)?;
-                self.push_others(heading, Cursor::behind_task(), rest, page)
-            }
-        }
+        let (line, _) = cut_at(text, text.len() - 1);
+        let spot = Spot::Task(actor.task, actor.place);
+        self.push_command(heading, spot, place, line, page)
     }
 
-    /// Adds the rows of the lines of a text that a step of a task has printed.
+    /// Adds the rows of a text that is one line, and that a step of a task has printed.
     #[inline(always)]
-    fn push_step(
+    fn push_only_of_step(
         &self,
         heading: Heading<'_>,
         actor: Actor,
         text: &[u8],
-        page: &mut Vec<u8>,
+        page: &mut Page,
     ) -> Result<(), AllocError>
-        ensures { OnOk result (Gains (LaysOut (ShowsAll self.now.filter) heading.entry.moment.now (line_at self.now.book.now (Some actor)) text.now) page.old.items page.new.items) }
+        requires acts { heading.moment.actor ≡ Some actor }
+        requires one { IsFeedAt text.now (Some (length text.now - 1)) }
+        ensures { OnOk result (Gains (LaysOut (ShowsAll self.now.filter) heading.entry.moment (line_at self.now.book.now heading.entry.moment.actor) text.now) page.old page.new) }
     {
         match self.book.command_at(actor) {
-            None => self.push_from(heading, Cursor::new(Some(actor)), text, page),
+            None => self.push_rows(heading, text, page),
             Some(place) => {
                 if place.is_silent {
-                    self.push_from(heading, Cursor::behind_task(), text, page)
+                    self.push_rows(heading, text, page)
                 } else {
-                    self.push_of_command(heading, actor, place, text, page)
+                    self.push_only(heading, actor, place, text, page)
                 }
             }
         }
     }
 
-    /// Adds the rows of the lines of a text, with the columns of its number and its time.
+    /// Adds the rows of the lines of a text, which mostly is one line that is of a command of a task.
     #[inline(always)]
-    fn push_rows(
+    fn push_text(
         &self,
         heading: Heading<'_>,
         text: &[u8],
-        page: &mut Vec<u8>,
+        page: &mut Page,
     ) -> Result<(), AllocError>
-        ensures { OnOk result (Gains (LaysOut (ShowsAll self.now.filter) heading.entry.moment.now (line_at self.now.book.now heading.entry.moment.now.actor) text.now) page.old.items page.new.items) }
+        ensures { OnOk result (Gains (LaysOut (ShowsAll self.now.filter) heading.entry.moment (line_at self.now.book.now heading.entry.moment.actor) text.now) page.old page.new) }
     {
         match heading.moment.actor {
-            None => self.push_from(heading, Cursor::behind_task(), text, page),
-            Some(actor) => self.push_step(heading, actor, text, page),
+            None => self.push_rows(heading, text, page),
+            Some(actor) => {
+                if is_line(text) {
+                    self.push_only_of_step(heading, actor, text, page)
+                } else {
+                    self.push_rows(heading, text, page)
+                }
+            }
         }
     }
 
     /// Adds the rows of the lines of a text, whose number and time were not foreseen.
     #[cold]
     #[inline(never)]
-    fn push_anew(&self, moment: &Moment, text: &[u8], page: &mut Vec<u8>) -> Result<(), AllocError>
-        ensures { OnOk result (Gains (LaysOut (ShowsAll self.now.filter) moment.now (line_at self.now.book.now moment.now.actor) text.now) page.old.items page.new.items) }
+    fn push_anew(&self, moment: Moment, text: &[u8], page: &mut Page) -> Result<(), AllocError>
+        ensures { OnOk result (Gains (LaysOut (ShowsAll self.now.filter) moment (line_at self.now.book.now moment.actor) text.now) page.old page.new) }
     {
         let head = Head::of(moment.number, moment.clock);
         let heading = Heading {
@@ -311,19 +352,19 @@ impl Form for Plain<'_> {
         before: &Before,
         moment: &Moment,
         text: &[u8],
-        page: &mut Vec<u8>,
+        page: &mut Page,
     ) -> Result<(), AllocError> {
         if text.is_empty() {
             return Ok(());
         }
         if before.head.number == moment.number && before.head.clock == moment.clock {
             let heading = Heading {
-                moment,
+                moment: *moment,
                 head: &before.head,
             };
-            self.push_rows(heading, text, page)
+            self.push_text(heading, text, page)
         } else {
-            self.push_anew(moment, text, page)
+            self.push_anew(*moment, text, page)
         }
     }
 }

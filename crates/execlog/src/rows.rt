@@ -5,6 +5,7 @@ ghost use Rattle.execlog.specs.Rows.{IsBlank, IsSheet, columns, digit, front, li
 use crate::frame::Frame;
 use crate::head::Head;
 use crate::moment::Moment;
+use crate::page::Page;
 use crate::sheet::{Sheet, WIDTH};
 use itoa::write_digits;
 use std::alloc::AllocError;
@@ -18,8 +19,8 @@ pub(crate) const BLANK: [u8; ROOM] = [b' '; ROOM];
 /// Spaces, more than there are between a line of the trace and the text of its command.
 const SPACES: [u8; WIDTH] = [b' '; WIDTH];
 
-/// The most bytes of a line of no command that are written over spaces.
-const MOST_BARE: usize = WIDTH - 8;
+/// The most bytes of a line of no command whose row is short.
+const MOST_BARE: usize = 87;
 
 /// Puts a byte before a place in room that is blank up to there, and answers where it is.
 fn put_byte(room: &mut [u8], end: usize, byte: u8) -> usize
@@ -144,7 +145,8 @@ pub(crate) fn push_line_column(page: &mut Vec<u8>, line: Option<u32>) -> Result<
 fn push_front(page: &mut Vec<u8>, line: Option<u32>, moment: &Moment) -> Result<(), AllocError>
     ensures { OnOk result (page.new.items ≡ page.old.items ++ front line moment.now) }
 {
-    Head::of(moment.number, moment.clock).push(page)?;
+    let head = Head::of(moment.number, moment.clock);
+    page.extend_from_slice(head.columns())?;
     push_line_column(page, line)
 }
 
@@ -188,34 +190,30 @@ pub fn push_row(
 /// Adds a row: the number and the time, and a line of the trace that takes the place of no more than the spaces after it.
 #[inline(always)]
 fn push_on_sheet(
-    page: &mut Vec<u8>,
+    page: &mut Page,
     head: &Head,
     frame: &Frame,
     sheet: &Sheet,
     text: &[u8],
 ) -> Result<(), AllocError>
+    requires narrow { 64 - head.now.start ≤ 32 }
     requires short { length text.now ≤ sheet.now.most }
     requires sheet { (sheet.now.most ≡ frame.now.gap) × IsSheet frame.now.before.items frame.now.after.items sheet.now.cells sheet.now.at sheet.now.len }
-    ensures { OnOk result (page.new.items ≡ page.old.items ++ (columns head.now.number head.now.clock ++ (frame.now.before.items
+    ensures { OnOk result (page.new ≡ page.old ++ (columns head.now.number head.now.clock ++ (frame.now.before.items
         ++ (text.now ++ drop (frame.now.gap - (frame.now.gap - length text.now)) frame.now.after.items)))) }
 {
-    head.push_over(page, &sheet.cells, sheet.at, sheet.len, text)
+    page.push_cells(head, &sheet.cells, sheet.at, sheet.len, text)
 }
 
 /// Adds a row: the number and the time, and a line of the trace within what is around it.
 #[cold]
 #[inline(never)]
-fn push_around(
-    page: &mut Vec<u8>,
-    head: &Head,
-    frame: &Frame,
-    text: &[u8],
-) -> Result<(), AllocError>
+fn push_around(page: &mut Page, head: &Head, frame: &Frame, text: &[u8]) -> Result<(), AllocError>
     requires { frame.now.gap ≤ length frame.now.after.items }
-    ensures { OnOk result (page.new.items ≡ page.old.items ++ (columns head.now.number head.now.clock ++ (frame.now.before.items
+    ensures { OnOk result (page.new ≡ page.old ++ (columns head.now.number head.now.clock ++ (frame.now.before.items
         ++ (text.now ++ drop (frame.now.gap - (frame.now.gap - length text.now)) frame.now.after.items)))) }
 {
-    head.push(page)?;
+    page.extend_from_slice(head.columns())?;
     page.extend_from_slice(&frame.before)?;
     page.extend_from_slice(text)?;
     let taken = frame.gap - frame.gap.saturating_sub(text.len());
@@ -225,18 +223,18 @@ fn push_around(
 /// Adds a row: the number and the time, and a line of the trace that is of a command.
 #[inline(always)]
 pub(crate) fn push_framed(
-    page: &mut Vec<u8>,
+    page: &mut Page,
     head: &Head,
     frame: &Frame,
     text: &[u8],
 ) -> Result<(), AllocError>
     requires { frame.now.gap ≤ length frame.now.after.items }
-    ensures { OnOk result (page.new.items ≡ page.old.items ++ (columns head.now.number head.now.clock ++ (frame.now.before.items
+    ensures { OnOk result (page.new ≡ page.old ++ (columns head.now.number head.now.clock ++ (frame.now.before.items
         ++ (text.now ++ drop (frame.now.gap - (frame.now.gap - length text.now)) frame.now.after.items)))) }
 {
     match &frame.sheet {
         Some(sheet) => {
-            if text.len() <= sheet.most {
+            if text.len() <= sheet.most && head.is_narrow() {
                 push_on_sheet(page, head, frame, sheet, text)
             } else {
                 push_around(page, head, frame, text)
@@ -246,26 +244,26 @@ pub(crate) fn push_framed(
     }
 }
 
-/// Adds the number and the time, an empty column of a line, and a line of the trace.
-#[inline(always)]
-fn push_text(page: &mut Vec<u8>, head: &Head, text: &[u8]) -> Result<(), AllocError>
-    ensures { OnOk result (page.new.items ≡ page.old.items ++ (columns head.now.number head.now.clock ++ (replicate 8 32 ++ text.now))) }
+/// Adds a row: the number and the time, and a line of the trace that is of no command and long.
+#[cold]
+#[inline(never)]
+fn push_long(page: &mut Page, head: &Head, text: &[u8]) -> Result<(), AllocError>
+    ensures { OnOk result (page.new ≡ page.old ++ (columns head.now.number head.now.clock ++ (replicate 8 32 ++ (text.now ++ 10 ∷ [])))) }
 {
-    let len = text.len();
-    if len <= MOST_BARE {
-        return head.push_over(page, &SPACES, 8, 8 + len, text);
-    }
-    head.push(page)?;
+    page.extend_from_slice(head.columns())?;
     page.extend_from_slice(&SPACES[..8])?;
-    page.extend_from_slice(text)
+    page.extend_from_slice(text)?;
+    page.extend_from_slice(b"\n")
 }
 
 /// Adds a row: the number and the time, and a line of the trace that is of no command.
 #[inline(always)]
-pub(crate) fn push_bare(page: &mut Vec<u8>, head: &Head, text: &[u8]) -> Result<(), AllocError>
-    ensures { OnOk result (page.new.items ≡ page.old.items ++ (columns head.now.number head.now.clock ++ (replicate 8 32 ++ (text.now ++ 10 ∷ [])))) }
+pub(crate) fn push_bare(page: &mut Page, head: &Head, text: &[u8]) -> Result<(), AllocError>
+    ensures { OnOk result (page.new ≡ page.old ++ (columns head.now.number head.now.clock ++ (replicate 8 32 ++ (text.now ++ 10 ∷ [])))) }
 {
-    push_text(page, head, text)?;
-    page.push(b'\n')?;
-    Ok(())
+    if text.len() <= MOST_BARE && head.is_narrow() {
+        page.push_bare(head, text)
+    } else {
+        push_long(page, head, text)
+    }
 }

@@ -1,9 +1,8 @@
 //! What is before and after a line in its row, in cells that are copied at once; the line is then written over the spaces.
-ghost use Rattle.std.specs.Prelude.{◌≡◌, ◌≤◌, ◌++◌, ◌+◌, ◌-◌, drop, length, take, IfSome, OnOk};
+ghost use Rattle.std.specs.Prelude.{◌≡◌, ◌≤◌, ◌+◌, IfSome};
 ghost use Rattle.execlog.specs.Rows.{IsSheet};
 
-use crate::moves::{write_over, write_text};
-use std::alloc::AllocError;
+use crate::moves::write_over;
 
 /// How many cells there are.
 pub(crate) const WIDTH: usize = 96;
@@ -20,26 +19,6 @@ pub(crate) struct Sheet {
     pub(crate) most: usize,
     ghost within: { len ≤ 96 },
     ghost fits: { at + most ≤ len },
-}
-
-/// Adds the first cells, that many, with a text over those from a place on.
-#[inline(always)]
-pub(crate) fn push_over(
-    page: &mut Vec<u8>,
-    cells: &[u8; WIDTH],
-    at: usize,
-    len: usize,
-    text: &[u8],
-) -> Result<(), AllocError>
-    requires within { at + length text.now ≤ len }
-    requires few { len ≤ 96 }
-    ensures { OnOk result (page.new.items ≡ page.old.items ++ (take at cells.now ++ (text.now ++ take (len - (at + length text.now)) (drop (at + length text.now) cells.now)))) }
-{
-    let from = page.len();
-    page.extend_from_slice(cells)?;
-    write_text(&mut page[from..], at, text);
-    page.truncate(from + len);
-    Ok(())
 }
 
 impl Sheet {

@@ -10,7 +10,7 @@ use Rattle.execlog.proofs.log.advance_all.Given as goal
 
 abbrev pub invariant-loop-one : goal.invariant-loop-one
 invariant-loop-one g l = record {
-  logs : Logs (g.F.Form.shows l.initial.log.form.now) (units (take l.one-index l.list)) l.initial.log.number l.initial.machine.seen l.machine.seen (record { tape = g.W.Sink.tape l.initial.out; page = l.initial.log.page.items }) (record { tape = g.W.Sink.tape l.out; page = l.log.page.items });
+  logs : Logs (g.F.Form.shows l.initial.log.form.now) (units (take l.one-index l.list)) l.initial.log.number l.initial.machine.seen l.machine.seen (record { tape = g.W.Sink.tape l.initial.out; page = l.initial.log.page }) (record { tape = g.W.Sink.tape l.out; page = l.log.page });
   going : l.machine.failed ≡ false;
   good : l.log.text.state ≡ Good;
   number : l.log.number ≡ l.initial.log.number + sum_by turns (take l.one-index l.list);

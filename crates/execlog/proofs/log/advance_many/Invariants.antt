@@ -8,7 +8,7 @@ use Rattle.execlog.proofs.log.advance_many.Given as goal
 
 abbrev pub invariant-loop-turn : goal.invariant-loop-turn
 invariant-loop-turn g l = record {
-  logs : Logs (g.F.Form.shows l.initial.log.form.now) (replicate l._turn l.one) l.initial.log.number l.initial.machine.seen l.machine.seen (record { tape = g.W.Sink.tape l.initial.out; page = l.initial.log.page.items }) (record { tape = g.W.Sink.tape l.out; page = l.log.page.items });
+  logs : Logs (g.F.Form.shows l.initial.log.form.now) (replicate l._turn l.one) l.initial.log.number l.initial.machine.seen l.machine.seen (record { tape = g.W.Sink.tape l.initial.out; page = l.initial.log.page }) (record { tape = g.W.Sink.tape l.out; page = l.log.page });
   going : l.machine.failed ≡ false;
   good : l.log.text.state ≡ Good;
   number : l.log.number ≡ l.initial.log.number + l._turn;

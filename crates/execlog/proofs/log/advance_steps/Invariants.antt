@@ -9,7 +9,7 @@ use Rattle.execlog.proofs.log.advance_steps.Given as goal
 abbrev pub invariant-loop-done : goal.invariant-loop-done
 invariant-loop-done g l = record {
   within : l.done ≤ l.many;
-  logs : Logs (g.F.Form.shows l.initial.log.form.now) (replicate l.done (Run 1)) l.initial.log.number l.initial.machine.seen l.machine.seen (record { tape = g.W.Sink.tape l.initial.out; page = l.initial.log.page.items }) (record { tape = g.W.Sink.tape l.out; page = l.log.page.items });
+  logs : Logs (g.F.Form.shows l.initial.log.form.now) (replicate l.done (Run 1)) l.initial.log.number l.initial.machine.seen l.machine.seen (record { tape = g.W.Sink.tape l.initial.out; page = l.initial.log.page }) (record { tape = g.W.Sink.tape l.out; page = l.log.page });
   going : l.machine.failed ≡ false;
   good : l.log.text.state ≡ Good;
   number : l.log.number ≡ l.initial.log.number + l.done;

@@ -12,6 +12,6 @@ returns c =
     let cols : List ℕ = columns c.args.head.now.number c.args.head.now.clock in
     let few : n ≤ c.args.frame.now.gap = omega (arith, c.requires.short, c.requires.sheet.0) in
     let within : s.at + n ≤ s.len = omega (arith, c.requires.short, s.fits) in
-    whole_then c.push_over.result
-    (λ e. e ∙ ap (λ (l : List ℕ). c.args.page.now.items ++ (cols ++ l)) (sheet_row c.args.frame.now.gap c.args.text.now c.requires.sheet.1 few within))
-    c.push_over.ensures
+    whole_then c.push_cells.result
+    (λ e. e ∙ ap (λ (l : List ℕ). c.args.page.now ++ (cols ++ l)) (sheet_row c.args.frame.now.gap c.args.text.now c.requires.sheet.1 few within))
+    c.push_cells.ensures

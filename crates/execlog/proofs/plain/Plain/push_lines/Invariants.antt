@@ -5,7 +5,7 @@ use Rattle.execlog.proofs.Laying.{Goes}
 use Rattle.execlog.proofs.plain.Plain.push_lines.Given as goal
 
 abbrev pub invariant-loop-line : goal.invariant-loop-line
-invariant-loop-line l = Goes (ShowsAll l.self.filter) l.heading.moment.now l.fn.text l.rest l.initial.page.items l.page.items
+invariant-loop-line l = Goes (ShowsAll l.self.filter) l.heading.moment l.fn.text l.rest l.initial.page l.page
 
 abbrev pub decreases-loop-line : goal.decreases-loop-line
 decreases-loop-line l = length l.rest

@@ -9,10 +9,10 @@ use Rattle.execlog.proofs.plain.Plain.push_other.Goals as goal
 pub returns-then-shows : goal.returns-then-shows
 returns-then-shows c = whole_then c.push_bare.result
     (λ e. record {
-      bytes = row_with c.args.heading.moment.now None c.args.line.now [];
+      bytes = row_with c.args.heading.moment None c.args.line.now [];
       shows = record { source = []; is_shown = true; bytes_are = refl; shown = λ all. refl };
-      added = e ∙ ap (λ (l : List ℕ). c.args.page.now.items ++ l)
-          (row_bare c.args.heading.moment.now (columns c.args.heading.head.now.number c.args.heading.head.now.clock) c.args.line.now
-          (told_by c.args.heading.moment.now c.args.heading.number c.args.heading.clock));
+      added = e ∙ ap (λ (l : List ℕ). c.args.page.now ++ l)
+          (row_bare c.args.heading.moment (columns c.args.heading.head.now.number c.args.heading.head.now.clock) c.args.line.now
+          (told_by c.args.heading.moment c.args.heading.number c.args.heading.clock));
     })
     c.push_bare.ensures
