@@ -4,7 +4,7 @@ use crate::events::event_of;
 use crate::rows::{Row, Written, rows_shown};
 use crate::words::note_variables;
 use execlist::space::ListSpace;
-use execlog::{Actor, Before, Filter, Form, Moment, Spot, line_of, source_at};
+use execlog::{Actor, Before, Filter, Form, Moment, Page, Spot, line_of, source_at};
 use execsim::Machine;
 use serde_json::{Map, Value, put};
 use std::alloc::{AllocError, Global};
@@ -124,7 +124,7 @@ impl Form for Json<'_> {
         before: &Before,
         moment: &Moment,
         text: &[u8],
-        page: &mut Vec<u8>,
+        page: &mut Page,
     ) -> Result<(), AllocError> {
         let rows = rows_shown(self.alloc, self.written, self.filter, before, moment, text)?;
         let mut shown = Vec::new(self.alloc);

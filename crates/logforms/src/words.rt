@@ -2,7 +2,7 @@
 
 use crate::rows::{Row, Written, rows_shown};
 use execlist::space::ListSpace;
-use execlog::{Actor, Before, Filter, Form, Moment, line_of, push_row, source_at};
+use execlog::{Actor, Before, Filter, Form, Moment, Page, line_of, push_row, source_at};
 use execsim::Machine;
 use std::alloc::{AllocError, Global};
 
@@ -88,7 +88,7 @@ impl Form for Words<'_> {
         before: &Before,
         moment: &Moment,
         text: &[u8],
-        page: &mut Vec<u8>,
+        page: &mut Page,
     ) -> Result<(), AllocError> {
         let rows = rows_shown(self.alloc, self.written, self.filter, before, moment, text)?;
         let mut shown = Vec::new(self.alloc);

@@ -7,7 +7,7 @@ ghost use Rattle.execlog.specs.Log.{turns};
 use crate::failure::Failure;
 use execlist::link::LinkSpace;
 use execlist::space::ListSpace;
-use execlog::{Actor, Before, Form, Moment};
+use execlog::{Actor, Before, Form, Moment, Page};
 use execsim::Machine;
 use exectrace::WriteSink;
 use logforms::{Run, page_of, run_events};
@@ -56,7 +56,7 @@ impl Form for Silent {
         _before: &Before,
         _moment: &Moment,
         _text: &[u8],
-        _page: &mut Vec<u8>,
+        _page: &mut Page,
     ) -> Result<(), AllocError> {
         Ok(())
     }
