@@ -13,19 +13,23 @@ mod slices;
 use crate::deeds::{Deed, read_deeds, read_states};
 use crate::fault::PictureFault;
 use crate::film::{Point, Shown, Watch, film};
-use crate::forms::Json;
 use crate::objects::Objects;
 use crate::page::Page;
+use crate::page::Value::Json;
 use crate::stretch::Stretch;
 use exectrace::Sink;
 use exectrace::sinks::{put, written};
 use flows::write_flows;
 use notes::{write_calls, write_clock, write_served};
-use records::{Process, write_name, write_process};
+use records::{Process, write_last, write_process};
 use slices::{Slices, write_threads};
 use std::alloc::{AllocError, Global};
 use taskq::TaskState;
 use taskscript::{Events, Listed};
+
+/// The beginning of the document.
+const HEAD: &str =
+    "{\"displayTimeUnit\":\"ns\",\"otherData\":{\"run\":{},\"time\":\"one microsecond is one step, tick or request of an interrupt\"},\"traceEvents\":[\n";
 
 /// What is kept from one point to the next while a document is written: nothing of it grows with the run.
 #[derive(Drop)]
@@ -57,6 +61,7 @@ impl<'a, W: Sink> Chrome<'a, W> {
         from: u64,
         out: &'a mut W,
     ) -> Result<Chrome<'a, W>, AllocError> {
+        let slices = Slices::new(alloc, file.machine.tasks().len())?;
         Ok(Chrome {
             file,
             from,
@@ -66,7 +71,7 @@ impl<'a, W: Sink> Chrome<'a, W> {
             deeds: Vec::new(alloc),
             flows: 0,
             objects: Objects::new(alloc, file),
-            slices: Slices::new(alloc, file.machine.tasks().len())?,
+            slices,
             page: Page::new(alloc),
             out,
         })
@@ -81,11 +86,7 @@ impl<'a, W: Sink> Chrome<'a, W> {
 
     /// Writes the beginning of the document.
     fn begin(&mut self, title: &str) -> Result<(), AllocError> {
-        let shown = Json(title);
-        write!(
-            self.page,
-            "{{\"displayTimeUnit\":\"ns\",\"otherData\":{{\"run\":{shown},\"time\":\"one microsecond is one step, tick or request of an interrupt\"}},\"traceEvents\":[\n"
-        );
+        self.page.fill(HEAD, &[Json(title)]);
         write_process(Process::Tasks, &mut self.page);
         write_process(Process::Interrupts, &mut self.page);
         write_process(Process::Objects, &mut self.page);
@@ -127,7 +128,7 @@ impl<'a, W: Sink> Chrome<'a, W> {
     fn finish(&mut self) -> Result<(), AllocError> {
         let end = self.last.saturating_add(1);
         self.slices.close(&self.objects, end, &mut self.page);
-        write_name("done", end, &mut self.page);
+        write_last(end, &mut self.page);
         self.page.push_str("]}\n");
         self.flush()
     }

@@ -10,7 +10,7 @@ use taskscript::{
 };
 
 /// Who does something.
-#[derive(Clone, Copy, PartialEq)]
+#[derive(Clone, Copy)]
 pub(crate) enum Doer {
     /// A task.
     Task(TaskId),
@@ -62,28 +62,30 @@ pub(crate) struct Deed {
 
 /// The task, the server or the software interrupt of a name.
 pub(crate) fn doer_named(file: &MachineFile, name: &str) -> Option<Doer> {
-    if let Some(t) = file
-        .tasks()
-        .iter()
-        .position(|task| task.name.as_str() == name)
-    {
-        return Some(Doer::Task(t));
+    for (t, task) in file.tasks().iter().enumerate() {
+        if task.name.as_str() == name {
+            return Some(Doer::Task(t));
+        }
     }
     if let Some(i) = softint_named(file, name) {
         return Some(Doer::Softint(i));
     }
-    let server = file
-        .servers()
-        .iter()
-        .find(|server| server.name.as_str() == name)?;
-    Some(Doer::Server(server.source))
+    for server in file.servers() {
+        if server.name.as_str() == name {
+            return Some(Doer::Server(server.source));
+        }
+    }
+    None
 }
 
 /// The software interrupt of a name.
-pub(crate) fn softint_named(file: &MachineFile, name: &str) -> Option<usize> {
-    file.softints()
-        .iter()
-        .position(|softint| softint.name.as_str() == name)
+fn softint_named(file: &MachineFile, name: &str) -> Option<usize> {
+    for (i, softint) in file.softints().iter().enumerate() {
+        if softint.name.as_str() == name {
+            return Some(i);
+        }
+    }
+    None
 }
 
 /// Whom a port reports a message to.
@@ -185,41 +187,28 @@ pub(crate) fn waits(state: TaskState) -> bool {
     matches!(state, TaskState::Waiting(_))
 }
 
-/// Whether a task takes signals: it was added, and not removed.
-fn is_live(machine: &Shown, t: TaskId) -> bool {
-    match machine.task(t) {
-        Some(view) => !matches!(view.state, TaskState::Absent | TaskState::Removed),
-        None => false,
+/// Whether a deed wakes whom it reaches, a task that was as in `before`; none if it reaches no one: the task that does it, or one that was not
+/// added or has ended.
+fn wakes(machine: &Shown, deed: &Deed, before: &[TaskState]) -> Option<bool> {
+    let Aim::Task(t) = deed.aim else {
+        return Some(true);
+    };
+    let is = machine.task(t)?.state;
+    if matches!(is, TaskState::Absent | TaskState::Removed)
+        || matches!(deed.doer, Doer::Task(by) if by == t)
+    {
+        return None;
     }
-}
-
-/// Whether a deed reaches anyone: not the task that does it, and none that has ended.
-fn reaches(machine: &Shown, deed: &Deed) -> bool {
-    match (deed.doer, deed.aim) {
-        (_, Aim::Softint(_)) => true,
-        (Doer::Task(t), Aim::Task(to)) => t != to && is_live(machine, to),
-        (_, Aim::Task(to)) => is_live(machine, to),
-    }
-}
-
-/// Whether a task that was as in `before` waited, and does no more.
-fn wakes(machine: &Shown, aim: Aim, before: &[TaskState]) -> bool {
-    match aim {
-        Aim::Softint(_) => true,
-        Aim::Task(t) => match (before.get(t), machine.task(t)) {
-            (Some(was), Some(is)) => waits(*was) && !waits(is.state),
-            _ => false,
-        },
+    match before.get(t) {
+        Some(was) => Some(waits(*was) && !waits(is)),
+        None => Some(false),
     }
 }
 
 /// What a line says that one does to another.
 fn deed_of(file: &MachineFile, machine: &Shown, before: &[TaskState], line: &str) -> Option<Deed> {
     let mut deed = act_of(file, machine, line)?;
-    if !reaches(machine, &deed) {
-        return None;
-    }
-    deed.wakes = wakes(machine, deed.aim, before);
+    deed.wakes = wakes(machine, &deed, before)?;
     Some(deed)
 }
 

@@ -16,7 +16,7 @@ use taskscript::{Event, Events, MachineFile, Source};
 pub(crate) type Shown = Machine<LinkSpace>;
 
 /// What has been done last.
-#[derive(Clone, Copy, PartialEq)]
+#[derive(Clone, Copy)]
 pub(crate) enum Turn {
     /// The start.
     Start,
@@ -122,10 +122,8 @@ fn show<V: Watch>(
         clock: machine.view().clock,
         actor,
     };
-    match str::from_utf8(&reel.text) {
-        Ok(text) => watch.see(machine, &point, text),
-        Err(_) => watch.see(machine, &point, ""),
-    }
+    let text = str::from_utf8(&reel.text).unwrap_or("");
+    watch.see(machine, &point, text)
 }
 
 /// Starts a machine, and keeps what it prints.

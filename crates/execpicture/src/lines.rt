@@ -73,21 +73,16 @@ fn call_of<'a>(who: &'a str, word: Word, said: &'a str) -> CallLine<'a> {
 
 /// What a line says that is no call.
 fn notice_of<'a>(head: &'a str, rest: &'a str) -> TraceLine<'a> {
-    if head == "serve" {
-        TraceLine::Serve(rest)
-    } else if head == "server" {
-        TraceLine::Server(rest)
-    } else if head == "softint" {
-        TraceLine::Softint(rest)
-    } else if head == "alert" {
-        TraceLine::Alert(rest)
-    } else if head == "timer" {
-        match number_of(rest.as_bytes()) {
+    match head {
+        "serve" => TraceLine::Serve(rest),
+        "server" => TraceLine::Server(rest),
+        "softint" => TraceLine::Softint(rest),
+        "alert" => TraceLine::Alert(rest),
+        "timer" => match number_of(rest.as_bytes()) {
             Some(address) => TraceLine::Timer(address),
             None => TraceLine::Other,
-        }
-    } else {
-        TraceLine::Other
+        },
+        _ => TraceLine::Other,
     }
 }
 

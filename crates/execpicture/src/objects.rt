@@ -1,10 +1,13 @@
 //! The objects of a run that a picture names: semaphores, message ports and timer requests.
-use crate::film::Point;
-use crate::forms::Hex;
+use crate::film::{Actor, Point};
 use crate::lines::{CallLine, TraceLine, read_line};
+use crate::page::Page;
+use crate::page::Value::{Hex, Plain};
 use crate::seen::Kind;
 use std::alloc::{AllocError, Global};
-use taskscript::{Command, Listed, PortWord, RequestWord, SemaphoreWord, Variable, Word};
+use taskscript::{
+    Command, Listed, PortWord, RequestWord, SemaphoreWord, Variable, VariableName, Word,
+};
 
 /// An object that a call has made.
 #[derive(Drop)]
@@ -42,12 +45,29 @@ pub(crate) fn kind_text(kind: Kind) -> &'static str {
     }
 }
 
-/// The command that was done last, if it was one of a task.
-fn command_at(file: &Listed, point: &Point) -> Option<Command> {
+/// The command that a task has done.
+pub(crate) fn command_at(file: &Listed, actor: Actor) -> Option<&Command> {
+    file.machine.tasks().get(actor.task)?.code.get(actor.place)
+}
+
+/// The variable that got the answer of the command done last, if it was one of a task: its name, and the task if it is private to it.
+fn variable_at<'a>(file: &'a Listed, point: &Point) -> Option<(VariableName, Option<&'a str>)> {
     let actor = point.actor?;
-    let task = file.machine.tasks().get(actor.task)?;
-    let command = task.code.get(actor.place)?;
-    Some(*command)
+    match command_at(file, actor)?.target? {
+        Variable::Private(number) => {
+            let name = file.listing.tasks().get(actor.task)?.private_name(number)?;
+            Some((name, Some(task_name(file, actor.task))))
+        }
+        Variable::Shared(number) => Some((file.listing.shared_name(number)?, None)),
+    }
+}
+
+/// The name of a task; nothing past the last.
+fn task_name(file: &Listed, t: usize) -> &str {
+    match file.machine.tasks().get(t) {
+        Some(task) => task.name.as_str(),
+        None => "",
+    }
 }
 
 impl<'a> Objects<'a> {
@@ -67,76 +87,36 @@ impl<'a> Objects<'a> {
 
     /// The name of a task; nothing past the last.
     pub fn task_name(&self, t: usize) -> &str {
-        match self.file.machine.tasks().get(t) {
-            Some(task) => task.name.as_str(),
-            None => "",
-        }
+        task_name(self.file, t)
     }
 
     /// The place in the list of the object of a kind at an address.
     pub fn place_of(&self, kind: Kind, address: u32) -> Option<usize> {
-        self.list
-            .iter()
-            .position(|object| object.kind == kind && object.address == address)
-    }
-
-    /// The label of an object that was given to a variable of a task.
-    fn private_label(
-        &self,
-        kind: Kind,
-        task: usize,
-        number: u8,
-    ) -> Result<Option<String>, AllocError> {
-        let kind = kind_text(kind);
-        let file = self.file;
-        let Some(body) = file.listing.tasks().get(task) else {
-            return Ok(None);
-        };
-        let (Some(variable), Some(owner)) = (
-            body.private_name(number),
-            file.machine.tasks().get(task),
-        ) else {
-            return Ok(None);
-        };
-        let owner = owner.name;
-        Ok(Some(format!(in self.alloc; "{kind} {variable} of {owner}")?))
-    }
-
-    /// The label of an object that was given to a shared variable.
-    fn shared_label(&self, kind: Kind, number: u8) -> Result<Option<String>, AllocError> {
-        let kind = kind_text(kind);
-        match self.file.listing.shared_name(number) {
-            Some(name) => Ok(Some(format!(in self.alloc; "{kind} @{name}")?)),
-            None => Ok(None),
+        for (place, object) in self.list.iter().enumerate() {
+            if object.kind == kind && object.address == address {
+                return Some(place);
+            }
         }
-    }
-
-    /// The label of an object by the variable that got its address; none if no variable did.
-    fn variable_label(&self, kind: Kind, point: &Point) -> Result<Option<String>, AllocError> {
-        let (Some(actor), Some(command)) = (point.actor, command_at(self.file, point)) else {
-            return Ok(None);
-        };
-        match command.target {
-            None => Ok(None),
-            Some(Variable::Private(number)) => self.private_label(kind, actor.task, number),
-            Some(Variable::Shared(number)) => self.shared_label(kind, number),
-        }
+        None
     }
 
     /// Whether another object has a label.
     fn is_taken(&self, label: &str, kind: Kind, address: u32) -> bool {
-        self.list.iter().any(|object| {
-            object.label.as_str() == label && (object.kind != kind || object.address != address)
-        })
+        for object in self.list.iter() {
+            let is_other = object.kind != kind || object.address != address;
+            if is_other && object.label.as_str() == label {
+                return true;
+            }
+        }
+        false
     }
 
     /// Gives an object its label, with its address if another one has the same.
-    fn name(&mut self, kind: Kind, address: u32, label: String) -> Result<(), AllocError> {
-        let mut label = label;
-        if self.is_taken(&label, kind, address) {
-            let at = Hex(address);
-            write!(label, " {at}")?;
+    fn name(&mut self, kind: Kind, address: u32, mut label: Page) -> Result<(), AllocError> {
+        if self.is_taken(label.text()?, kind, address) {
+            label.fill(" {}", &[Hex(address)]);
         }
+        let label = label.into_text()?;
         match self.place_of(kind, address) {
             Some(place) => {
                 if let Some(object) = self.list.get_mut(place) {
@@ -154,14 +134,18 @@ impl<'a> Objects<'a> {
 
     /// Keeps an object that a call has made.
     fn keep_made(&mut self, kind: Kind, address: u32, point: &Point) -> Result<(), AllocError> {
-        let label = match self.variable_label(kind, point)? {
-            Some(label) => label,
-            None => {
-                let kind = kind_text(kind);
-                let at = Hex(address);
-                format!(in self.alloc; "{kind} {at}")?
+        let mut label = Page::new(self.alloc);
+        let made = Plain(kind_text(kind));
+        match variable_at(self.file, point) {
+            Some((name, owner)) => {
+                let name = Plain(name.as_str());
+                match owner {
+                    Some(owner) => label.fill("{} {} of {}", &[made, name, Plain(owner)]),
+                    None => label.fill("{} @{}", &[made, name]),
+                }
             }
-        };
+            None => label.fill("{} {}", &[made, Hex(address)]),
+        }
         self.name(kind, address, label)
     }
 
@@ -173,8 +157,8 @@ impl<'a> Objects<'a> {
             }
         }
         if let (Word::Ports(PortWord::AddPort), Some(port)) = (call.word, call.first) {
-            let name = call.second;
-            let label = format!(in self.alloc; "port {name}")?;
+            let mut label = Page::new(self.alloc);
+            label.fill("port {}", &[Plain(call.second)]);
             self.name(Kind::Port, port, label)?;
         }
         Ok(())

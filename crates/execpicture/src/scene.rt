@@ -3,9 +3,10 @@
 //! Column 0 is the point at which the picture begins; what is shown after column k is what the machine shows at that point.
 use crate::deeds::{Deed, read_deeds, read_states};
 use crate::fault::PictureFault;
-use crate::film::{Point, Shown, Turn, Watch};
+use crate::film::{Point, Shown, Watch};
+use crate::forms::count;
 use crate::objects::Objects;
-use crate::seen::{NestSeen, ObjectSeen, TaskSeen, is_shut, nest_seen, object_seen, task_seen};
+use crate::seen::{ObjectSeen, TaskSeen, is_shut, object_seen, task_seen};
 use crate::track::Track;
 use softint::latches::Latches;
 use std::alloc::{AllocError, Global};
@@ -15,6 +16,8 @@ use taskscript::Listed;
 /// A step, a tick or a request of an interrupt.
 #[derive(Drop)]
 pub(crate) struct Column {
+    /// Its number.
+    pub number: u32,
     /// What was done, and by whom.
     pub point: Point,
     /// What was printed.
@@ -25,42 +28,26 @@ pub(crate) struct Column {
     pub latches: Latches,
 }
 
-/// The track of an object, if it was made before the picture ends.
-#[derive(Drop)]
-pub(crate) struct ObjectTrack {
-    /// The column after which it was made.
-    pub first: u32,
-    pub seen: Track<ObjectSeen>,
-}
-
-impl ObjectTrack {
-    /// Whether the object is there at any point that is shown.
-    pub fn is_shown(&self) -> bool {
-        self.seen
-            .spans()
-            .iter()
-            .any(|span| span.shown != ObjectSeen::Absent)
-    }
-}
-
 /// The track of a task.
 #[derive(Drop)]
 pub(crate) struct TaskTrack {
     pub seen: Track<TaskSeen>,
-    pub nest: Track<NestSeen>,
+    /// Whether the task runs, and forbids switches.
+    pub forbids: Track<bool>,
+    /// Whether the task runs, and disables interrupts.
+    pub disables: Track<bool>,
 }
 
 impl TaskTrack {
     /// Adds what a machine shows of the task of a number, which has it.
     fn note(&mut self, machine: &Shown, t: usize) -> Result<(), AllocError> {
-        let Some(seen) = task_seen(machine, t) else {
+        let Some(view) = machine.task(t) else {
             return Ok(());
         };
-        self.seen.note(seen)?;
-        match nest_seen(machine, t) {
-            Some(nest) => self.nest.note(nest),
-            None => Ok(()),
-        }
+        let runs = view.state == TaskState::Running;
+        self.seen.note(task_seen(machine, t, view.state))?;
+        self.forbids.note(runs && view.forbids >= 0)?;
+        self.disables.note(runs && view.disables >= 0)
     }
 }
 
@@ -81,7 +68,8 @@ pub(crate) struct Scene<'a> {
     /// Whether interrupts are disabled.
     pub shut: Track<bool>,
     pub objects: Objects<'a>,
-    pub object_tracks: Vec<ObjectTrack>,
+    /// The tracks of the objects, in their order.
+    pub object_tracks: Vec<Track<ObjectSeen>>,
 }
 
 impl<'a> Scene<'a> {
@@ -99,8 +87,9 @@ impl<'a> Scene<'a> {
         let mut tasks = Vec::new(alloc);
         for _task in 0..file.machine.tasks().len() {
             tasks.push(TaskTrack {
-                seen: Track::new(alloc),
-                nest: Track::new(alloc),
+                seen: Track::new(alloc, 0),
+                forbids: Track::new(alloc, 0),
+                disables: Track::new(alloc, 0),
             })?;
         }
         Ok(Scene {
@@ -111,7 +100,7 @@ impl<'a> Scene<'a> {
             states: Vec::new(alloc),
             columns: Vec::new(alloc),
             tasks,
-            shut: Track::new(alloc),
+            shut: Track::new(alloc, 0),
             objects: Objects::new(alloc, file),
             object_tracks: Vec::new(alloc),
         })
@@ -119,7 +108,7 @@ impl<'a> Scene<'a> {
 
     /// The number of the last column.
     pub fn last_column(&self) -> u32 {
-        (self.columns.len().min(1_000_000) as u32).saturating_sub(1)
+        count(self.columns.len()).saturating_sub(1)
     }
 
     /// The number of the point after a column.
@@ -135,23 +124,15 @@ impl<'a> Scene<'a> {
         Ok(())
     }
 
-    /// Makes a track for each object that has none: those that were made in a column, and at column 0 all that were made before.
-    fn make_tracks(&mut self, column: u32) -> Result<(), AllocError> {
-        for _object in self.object_tracks.len()..self.objects.list().len() {
-            self.object_tracks.push(ObjectTrack {
-                first: column,
-                seen: Track::new(self.alloc),
-            })?;
-        }
-        Ok(())
-    }
-
-    /// Keeps what the machine shows of the objects after a column.
+    /// Keeps what the machine shows of the objects after a column; an object that was made in it gets a track first.
     fn note_objects(&mut self, machine: &Shown, column: u32) -> Result<(), AllocError> {
-        self.make_tracks(column)?;
-        for (track, object) in self.object_tracks.iter_mut().zip(self.objects.list()) {
-            let seen = object_seen(machine, object.kind, object.address);
-            track.seen.note(seen)?;
+        for (place, object) in self.objects.list().iter().enumerate() {
+            if place == self.object_tracks.len() {
+                self.object_tracks.push(Track::new(self.alloc, column))?;
+            }
+            if let Some(track) = self.object_tracks.get_mut(place) {
+                track.note(object_seen(machine, object.kind, object.address))?;
+            }
         }
         Ok(())
     }
@@ -163,15 +144,23 @@ impl<'a> Scene<'a> {
         point: &Point,
         text: &str,
     ) -> Result<(), AllocError> {
-        let mut deeds = Vec::new(self.alloc);
-        read_deeds(&self.file.machine, machine, &self.states, text, &mut deeds)?;
         self.columns.push(Column {
+            number: count(self.columns.len()),
             point: *point,
             text: String::from_str(self.alloc, text)?,
-            deeds,
+            deeds: Vec::new(self.alloc),
             latches: machine.view().latches,
         })?;
-        Ok(())
+        match self.columns.last_mut() {
+            Some(column) => read_deeds(
+                &self.file.machine,
+                machine,
+                &self.states,
+                text,
+                &mut column.deeds,
+            ),
+            None => Ok(()),
+        }
     }
 
     /// Keeps what is seen at a point that is shown.

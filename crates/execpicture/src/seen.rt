@@ -1,9 +1,10 @@
 //! What a picture shows of a task, of the interrupts and of an object at one point.
+use crate::deeds::waits;
 use crate::film::Shown;
 use execsim::{Call, ObjectView};
 use exectrace::ShortArg;
 use iorequest::request::ReqState;
-use taskq::{TaskId, TaskState, Why};
+use taskq::{TaskId, TaskState};
 use taskscript::{PortWord, RequestWord, SemaphoreWord, Word};
 
 /// What a task waits for in a call.
@@ -24,15 +25,6 @@ pub(crate) struct TaskSeen {
     pub state: TaskState,
     /// What the call is about that it waits in.
     pub awaits: Awaits,
-}
-
-/// What a task that runs keeps others from.
-#[derive(Clone, Copy, PartialEq)]
-pub(crate) struct NestSeen {
-    /// Whether it runs, and forbids switches.
-    pub forbids: bool,
-    /// Whether it runs, and disables interrupts.
-    pub disables: bool,
 }
 
 /// What is shown of an object.
@@ -85,36 +77,15 @@ fn awaits_in(word: Word, argument: u32) -> Awaits {
     }
 }
 
-/// What a task in that state waits for in a call.
-fn awaits_of(machine: &Shown, t: TaskId, state: TaskState) -> Awaits {
-    if !matches!(state, TaskState::Waiting(_)) {
-        return Awaits::Nothing;
+/// What is shown of a task that is in a state.
+pub(crate) fn task_seen(machine: &Shown, t: TaskId, state: TaskState) -> TaskSeen {
+    let mut awaits = Awaits::Nothing;
+    if waits(state) {
+        if let Some(call) = machine.call(t) {
+            awaits = awaits_in(call.word, first_argument(call));
+        }
     }
-    match machine.call(t) {
-        Some(call) => awaits_in(call.word, first_argument(call)),
-        None => Awaits::Nothing,
-    }
-}
-
-/// What is shown of a task; none past the last.
-pub(crate) fn task_seen(machine: &Shown, t: TaskId) -> Option<TaskSeen> {
-    match machine.task(t) {
-        None => None,
-        Some(view) => Some(TaskSeen {
-            state: view.state,
-            awaits: awaits_of(machine, t, view.state),
-        }),
-    }
-}
-
-/// What a task keeps others from.
-pub(crate) fn nest_seen(machine: &Shown, t: TaskId) -> Option<NestSeen> {
-    let view = machine.task(t)?;
-    let runs = view.state == TaskState::Running;
-    Some(NestSeen {
-        forbids: runs && view.forbids >= 0,
-        disables: runs && view.disables >= 0,
-    })
+    TaskSeen { state, awaits }
 }
 
 /// Whether interrupts are disabled.

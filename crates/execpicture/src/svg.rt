@@ -7,7 +7,7 @@ mod calls;
 mod columns;
 mod frame;
 mod interrupts;
-pub(crate) mod names;
+mod names;
 mod objects;
 mod plan;
 mod ruler;
@@ -22,7 +22,7 @@ use crate::scene::Scene;
 use crate::stretch::Stretch;
 use exectrace::Sink;
 use exectrace::sinks::{put, written};
-use plan::plan_of;
+use plan::{object_rows, plan_of};
 use std::alloc::{AllocError, Global};
 use taskscript::{Event, Events, Listed};
 
@@ -37,15 +37,17 @@ fn draw(
     title: &str,
     page: &mut Page,
 ) -> Result<(), AllocError> {
-    let plan = plan_of(alloc, scene)?;
+    let longest = calls::longest(scene, page);
+    let rows = object_rows(alloc, scene)?;
+    let plan = plan_of(scene, &rows, longest);
     frame::write_head(scene, &plan, title, page);
     columns::write_columns(scene, &plan, page);
-    ruler::write_ruler(alloc, scene, &plan, list, page);
+    ruler::write_ruler(scene, &plan, list, page);
     interrupts::write_interrupts(scene, &plan, page);
-    tasks::write_tasks(alloc, scene, &plan, page);
-    objects::write_objects(alloc, scene, &plan, page);
-    arrows::write_arrows(alloc, scene, &plan, page);
-    tasks::write_labels(alloc, scene, &plan, page);
+    tasks::write_tasks(scene, &plan, page);
+    objects::write_objects(scene, &plan, page);
+    arrows::write_arrows(scene, &plan, page);
+    tasks::write_labels(scene, &plan, page);
     calls::write_calls(scene, &plan, page);
     frame::write_foot(&plan, page);
     Ok(())

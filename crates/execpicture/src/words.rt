@@ -1,26 +1,18 @@
-//! How the state of a task is said in words.
-use crate::forms::Hex;
+//! How states are said in words.
 use crate::objects::{Objects, kind_text};
 use crate::page::Page;
+use crate::page::Value::{Hex, Millis, Plain};
 use crate::seen::{Awaits, TaskSeen};
-use std::alloc::{AllocError, Global};
 use taskq::TaskState;
 
 /// Writes what a task waits for in a call.
 fn write_awaited(objects: &Objects<'_>, awaits: Awaits, page: &mut Page) {
     match awaits {
         Awaits::Nothing => page.push_str("a call"),
-        Awaits::Signals(mask) => {
-            let mask = Hex(mask);
-            write!(page, "signals {mask}")
-        }
+        Awaits::Signals(mask) => page.fill("signals {}", &[Hex(mask)]),
         Awaits::Object(kind, address) => match objects.label(kind, address) {
             Some(label) => page.push_str(label),
-            None => {
-                let kind = kind_text(kind);
-                let at = Hex(address);
-                write!(page, "{kind} {at}")
-            }
+            None => page.fill("{} {}", &[Plain(kind_text(kind)), Hex(address)]),
         },
     }
 }
@@ -39,17 +31,8 @@ pub(crate) fn write_state(objects: &Objects<'_>, seen: &TaskSeen, page: &mut Pag
     }
 }
 
-/// The state of a task in words.
-///
-/// # Errors
-///
-/// Memory was refused.
-pub(crate) fn state_text(
-    alloc: Global,
-    objects: &Objects<'_>,
-    seen: &TaskSeen,
-) -> Result<String, AllocError> {
-    let mut words = Page::new(alloc);
-    write_state(objects, seen, &mut words);
-    words.into_text()
+/// Writes the time of a request in progress, in microseconds: for how long, or until when.
+pub(crate) fn write_time(is_until: bool, micros: u64, page: &mut Page) {
+    let before = if is_until { "until " } else { "" };
+    page.fill("{}{} ms", &[Plain(before), Millis(micros)]);
 }

@@ -2,6 +2,7 @@
 use super::records::Process;
 use crate::deeds::{Aim, Deed, Doer, Means};
 use crate::page::Page;
+use crate::page::Value::{Count, Number, Plain};
 use taskscript::Source;
 
 /// The track of the software interrupts.
@@ -20,7 +21,7 @@ pub(super) fn source_track(source: Source) -> usize {
 }
 
 /// The track of who does something.
-fn track_of_doer(doer: Doer) -> (Process, usize) {
+pub(super) fn track_of(doer: Doer) -> (Process, usize) {
     match doer {
         Doer::Task(t) => (Process::Tasks, t.saturating_add(1)),
         Doer::Server(source) => (Process::Interrupts, source_track(source)),
@@ -41,27 +42,44 @@ fn flow_name(means: Means) -> &'static str {
     }
 }
 
-/// Writes a flow to a task: from the middle of step `number` on the track of who does something to what the task is after it.
-fn write_flow(deed: &Deed, t: usize, number: u64, id: u64, page: &mut Page) {
-    let before = number.saturating_sub(1);
-    let name = flow_name(deed.means);
-    let (process, track) = track_of_doer(deed.doer);
-    let process = process.number();
-    write!(
-        page,
-        "{{\"ph\":\"s\",\"id\":{id},\"cat\":\"{name}\",\"name\":\"{name}\",\"pid\":{process}"
+/// The beginning of a flow, and its end.
+const BEGIN: &str =
+    "{\"ph\":\"s\",\"id\":{},\"cat\":\"{}\",\"name\":\"{}\",\"pid\":{},\"tid\":{},\"ts\":{}.5},\n";
+
+const END: &str =
+    "{\"ph\":\"f\",\"bp\":\"e\",\"id\":{},\"cat\":\"{}\",\"name\":\"{}\",\"pid\":{},\"tid\":{},\"ts\":{}.5,\"args\":{\"wakes\":{}}},\n";
+
+/// Writes where a flow begins: in the middle of step `number`, on the track of who does something.
+fn begin_flow(deed: &Deed, number: u64, id: u64, page: &mut Page) {
+    let name = Plain(flow_name(deed.means));
+    let (process, track) = track_of(deed.doer);
+    page.fill(
+        BEGIN,
+        &[
+            Number(id),
+            name,
+            name,
+            Number(process.number()),
+            Count(track),
+            Number(number.saturating_sub(1)),
+        ],
     );
-    write!(page, ",\"tid\":{track},\"ts\":{before}.5}},\n");
-    let aim = Process::Tasks.number();
-    let track = t.saturating_add(1);
-    write!(
-        page,
-        "{{\"ph\":\"f\",\"bp\":\"e\",\"id\":{id},\"cat\":\"{name}\",\"name\":\"{name}\",\"pid\":{aim}"
-    );
-    let wakes = deed.wakes;
-    write!(
-        page,
-        ",\"tid\":{track},\"ts\":{number}.5,\"args\":{{\"wakes\":{wakes}}}}},\n"
+}
+
+/// Writes where a flow ends: at what a task is after step `number`.
+fn end_flow(deed: &Deed, t: usize, number: u64, id: u64, page: &mut Page) {
+    let name = Plain(flow_name(deed.means));
+    page.fill(
+        END,
+        &[
+            Number(id),
+            name,
+            name,
+            Number(Process::Tasks.number()),
+            Count(t.saturating_add(1)),
+            Number(number),
+            Plain(if deed.wakes { "true" } else { "false" }),
+        ],
     );
 }
 
@@ -71,7 +89,8 @@ pub(super) fn write_flows(deeds: &[Deed], number: u64, done: u64, page: &mut Pag
     for deed in deeds {
         if let Aim::Task(t) = deed.aim {
             id = id.saturating_add(1);
-            write_flow(deed, t, number, id, page);
+            begin_flow(deed, number, id, page);
+            end_flow(deed, t, number, id, page);
         }
     }
     id

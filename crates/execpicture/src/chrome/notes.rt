@@ -1,39 +1,36 @@
 //! The instants of calls and alerts, the slices of what was served, and the counter of the clock.
-use super::flows::{SOFTINT_TRACK, TIMER_TRACK, source_track};
+use super::flows::{SOFTINT_TRACK, TIMER_TRACK, source_track, track_of};
 use super::records::{Process, Slice, write_slice};
-use crate::deeds::{Doer, doer_named};
+use crate::deeds::doer_named;
 use crate::film::Point;
-use crate::forms::{Json, Millis};
 use crate::lines::{TraceLine, read_line};
 use crate::page::Page;
+use crate::page::Value::{Count, Json, Millis, Number, Plain};
 use taskscript::{MachineFile, Source};
 
+/// An instant.
+const INSTANT: &str =
+    "{\"ph\":\"i\",\"s\":\"{}\",\"pid\":{},\"tid\":{},\"ts\":{}.5,\"name\":{}},\n";
+
 /// Writes an instant of a track, in the middle of a step.
-fn write_instant(
+fn write_instant<'a>(
     process: Process,
     track: usize,
     number: u64,
-    scope: &str,
-    name: &str,
+    scope: &'a str,
+    name: &'a str,
     page: &mut Page,
 ) {
-    let process = process.number();
-    let before = number.saturating_sub(1);
-    let name = Json(name);
-    write!(
-        page,
-        "{{\"ph\":\"i\",\"s\":\"{scope}\",\"pid\":{process},\"tid\":{track},\"ts\":{before}.5"
+    page.fill(
+        INSTANT,
+        &[
+            Plain(scope),
+            Number(process.number()),
+            Count(track),
+            Number(number.saturating_sub(1)),
+            Json(name),
+        ],
     );
-    write!(page, ",\"name\":{name}}},\n");
-}
-
-/// The track of the call of a doer.
-fn track_of(doer: Doer) -> (Process, usize) {
-    match doer {
-        Doer::Task(t) => (Process::Tasks, t.saturating_add(1)),
-        Doer::Server(source) => (Process::Interrupts, source_track(source)),
-        Doer::Softint(_) | Doer::Timer => (Process::Interrupts, SOFTINT_TRACK),
-    }
 }
 
 /// Writes the instant of a line, if it is a call or an alert.
@@ -85,12 +82,12 @@ pub(super) fn write_served(point: &Point, text: &str, page: &mut Page) {
 
 /// Writes what the clock shows at a point, in milliseconds.
 pub(super) fn write_clock(point: &Point, page: &mut Page) {
-    let number = point.number;
-    let clock = Millis(point.clock);
-    let process = Process::Ports.number();
-    write!(
-        page,
-        "{{\"ph\":\"C\",\"pid\":{process},\"ts\":{number},\"name\":\"clock\""
+    page.fill(
+        "{\"ph\":\"C\",\"pid\":{},\"ts\":{},\"name\":\"clock\",\"args\":{\"ms\":{}}},\n",
+        &[
+            Number(Process::Ports.number()),
+            Number(point.number),
+            Millis(point.clock),
+        ],
     );
-    write!(page, ",\"args\":{{\"ms\":{clock}}}}},\n");
 }

@@ -1,6 +1,6 @@
 //! The records of the format that name processes and threads, and the beginnings of the others.
-use crate::forms::Json;
 use crate::page::Page;
+use crate::page::Value::{Count, Json, Number, Plain};
 
 /// A group of tracks, which the format calls a process.
 #[derive(Clone, Copy)]
@@ -13,7 +13,7 @@ pub(super) enum Process {
 
 impl Process {
     /// Its number.
-    pub fn number(self) -> u32 {
+    pub fn number(self) -> u64 {
         match self {
             Process::Tasks => 1,
             Process::Interrupts => 2,
@@ -33,32 +33,30 @@ impl Process {
     }
 }
 
+/// The names of a group of tracks and of a track, each with where it is among the others.
+const PROCESS: &str =
+    "{\"ph\":\"M\",\"pid\":{},\"name\":\"process_name\",\"args\":{\"name\":\"{}\"}},\n\
+{\"ph\":\"M\",\"pid\":{},\"name\":\"process_sort_index\",\"args\":{\"sort_index\":{}}},\n";
+
+const THREAD: &str =
+    "{\"ph\":\"M\",\"pid\":{},\"tid\":{},\"name\":\"thread_name\",\"args\":{\"name\":{}}},\n\
+{\"ph\":\"M\",\"pid\":{},\"tid\":{},\"name\":\"thread_sort_index\",\"args\":{\"sort_index\":{}}},\n";
+
+/// A slice of a track.
+const SLICE: &str = "{\"ph\":\"X\",\"pid\":{},\"tid\":{},\"ts\":{},\"dur\":{},\"name\":{}},\n";
+
 /// Writes the name of a group of tracks.
 pub(super) fn write_process(process: Process, page: &mut Page) {
-    let number = process.number();
-    let name = process.name();
-    write!(
-        page,
-        "{{\"ph\":\"M\",\"pid\":{number},\"name\":\"process_name\",\"args\":{{\"name\":\"{name}\"}}}},\n"
-    );
-    write!(
-        page,
-        "{{\"ph\":\"M\",\"pid\":{number},\"name\":\"process_sort_index\",\"args\":{{\"sort_index\":{number}}}}},\n"
-    );
+    let number = Number(process.number());
+    let name = Plain(process.name());
+    page.fill(PROCESS, &[number, name, number, number]);
 }
 
 /// Writes the name of a track.
 pub(super) fn write_thread(process: Process, track: usize, name: &str, page: &mut Page) {
-    let number = process.number();
-    let name = Json(name);
-    write!(
-        page,
-        "{{\"ph\":\"M\",\"pid\":{number},\"tid\":{track},\"name\":\"thread_name\",\"args\":{{\"name\":{name}}}}},\n"
-    );
-    write!(
-        page,
-        "{{\"ph\":\"M\",\"pid\":{number},\"tid\":{track},\"name\":\"thread_sort_index\",\"args\":{{\"sort_index\":{track}}}}},\n"
-    );
+    let number = Number(process.number());
+    let track = Count(track);
+    page.fill(THREAD, &[number, track, Json(name), number, track, track]);
 }
 
 /// A slice of a track.
@@ -74,21 +72,22 @@ pub(super) struct Slice<'a> {
 
 /// Writes a slice.
 pub(super) fn write_slice(slice: &Slice<'_>, page: &mut Page) {
-    let process = slice.process.number();
-    let track = slice.track;
-    let from = slice.from;
-    let lasts = slice.to.saturating_sub(slice.from);
-    let name = Json(slice.name);
-    write!(
-        page,
-        "{{\"ph\":\"X\",\"pid\":{process},\"tid\":{track},\"ts\":{from},\"dur\":{lasts},\"name\":{name}}},\n"
+    page.fill(
+        SLICE,
+        &[
+            Number(slice.process.number()),
+            Count(slice.track),
+            Number(slice.from),
+            Number(slice.to.saturating_sub(slice.from)),
+            Json(slice.name),
+        ],
     );
 }
 
 /// Writes the last record of a document, after which none comes.
-pub(super) fn write_name(name: &str, at: u64, page: &mut Page) {
-    write!(
-        page,
-        "{{\"ph\":\"i\",\"s\":\"g\",\"pid\":1,\"tid\":0,\"ts\":{at},\"name\":\"{name}\"}}\n"
+pub(super) fn write_last(at: u64, page: &mut Page) {
+    page.fill(
+        "{\"ph\":\"i\",\"s\":\"g\",\"pid\":1,\"tid\":0,\"ts\":{},\"name\":\"done\"}\n",
+        &[Number(at)],
     );
 }

@@ -2,29 +2,35 @@
 use super::flows::{SOFTINT_TRACK, TIMER_TRACK, source_track};
 use super::records::{Process, Slice, write_slice, write_thread};
 use crate::film::Shown;
-use crate::forms::{Json, Millis};
 use crate::objects::{Object, Objects};
 use crate::page::Page;
-use crate::seen::{Kind, ObjectSeen, TaskSeen, object_seen, task_seen};
-use crate::words::state_text;
+use crate::page::Value::{Json, Number};
+use crate::seen::{Awaits, Kind, ObjectSeen, TaskSeen, object_seen, task_seen};
+use crate::words::{write_state, write_time};
 use std::alloc::{AllocError, Global};
 use taskq::TaskState;
 use taskscript::{Listed, Source};
 
-/// What is shown from a number on.
+/// What is shown of a task from a number on.
 #[derive(Clone, Copy)]
-struct Open<T> {
+struct OpenTask {
     from: u64,
-    shown: T,
+    shown: TaskSeen,
+}
+
+/// What is shown of an object from a number on.
+#[derive(Clone, Copy)]
+struct OpenObject {
+    from: u64,
+    shown: ObjectSeen,
 }
 
 /// What is open.
 #[derive(Drop)]
 pub(super) struct Slices {
-    alloc: Global,
-    tasks: Vec<Option<Open<TaskSeen>>>,
+    tasks: Vec<OpenTask>,
     /// In the order of the objects.
-    objects: Vec<Open<ObjectSeen>>,
+    objects: Vec<OpenObject>,
 }
 
 /// Writes the names of the tracks that a file states.
@@ -55,101 +61,81 @@ pub(super) fn write_threads(file: &Listed, page: &mut Page) {
 }
 
 /// Writes the slice of a task that was so from a number up to another; one that was never added, and one that was removed, has none.
-fn write_task(
-    alloc: Global,
-    objects: &Objects<'_>,
-    t: usize,
-    open: &Open<TaskSeen>,
-    to: u64,
-    page: &mut Page,
-) {
+fn write_task(objects: &Objects<'_>, t: usize, open: OpenTask, to: u64, page: &mut Page) {
     if matches!(open.shown.state, TaskState::Absent | TaskState::Removed) {
         return;
     }
-    let Some(name) = page.made(state_text(alloc, objects, &open.shown)) else {
-        return;
-    };
+    let mut name = page.draft();
+    write_state(objects, &open.shown, &mut name);
     let slice = Slice {
         process: Process::Tasks,
         track: t.saturating_add(1),
         from: open.from,
         to,
-        name: &name,
+        name: page.read(&name),
     };
     write_slice(&slice, page);
 }
 
-/// What the slice of an object is named: the owner of a semaphore, or the time of a request in progress; nothing else has one.
-fn object_text(
-    alloc: Global,
-    objects: &Objects<'_>,
-    shown: ObjectSeen,
-) -> Result<Option<String>, AllocError> {
-    let text = match shown {
-        ObjectSeen::Semaphore(Some(t)) => String::from_str(alloc, objects.task_name(t))?,
-        ObjectSeen::Busy(micros) => {
-            let time = Millis(micros);
-            format!(in alloc; "{time} ms")?
-        }
-        ObjectSeen::BusyUntil(micros) => {
-            let time = Millis(micros);
-            format!(in alloc; "until {time} ms")?
-        }
-        _ => return Ok(None),
-    };
-    Ok(Some(text))
+/// Writes what the slice of an object is named: the owner of a semaphore, or the time of a request in progress; nothing else has one. Answers
+/// whether it has one.
+fn write_name(objects: &Objects<'_>, shown: ObjectSeen, page: &mut Page) -> bool {
+    match shown {
+        ObjectSeen::Semaphore(Some(t)) => page.push_str(objects.task_name(t)),
+        ObjectSeen::Busy(micros) => write_time(false, micros, page),
+        ObjectSeen::BusyUntil(micros) => write_time(true, micros, page),
+        _ => return false,
+    }
+    true
 }
 
 /// Writes the slice of an object that was so from a number up to another: an owner of a semaphore, or a request in progress.
-fn write_object(
-    alloc: Global,
-    objects: &Objects<'_>,
-    track: usize,
-    open: &Open<ObjectSeen>,
-    to: u64,
-    page: &mut Page,
-) {
-    let Some(Some(name)) = page.made(object_text(alloc, objects, open.shown)) else {
-        return;
-    };
-    let slice = Slice {
-        process: Process::Objects,
-        track: track.saturating_add(1),
-        from: open.from,
-        to,
-        name: &name,
-    };
-    write_slice(&slice, page);
+fn write_object(objects: &Objects<'_>, track: usize, open: OpenObject, to: u64, page: &mut Page) {
+    let mut name = page.draft();
+    if write_name(objects, open.shown, &mut name) {
+        let slice = Slice {
+            process: Process::Objects,
+            track: track.saturating_add(1),
+            from: open.from,
+            to,
+            name: page.read(&name),
+        };
+        write_slice(&slice, page);
+    }
 }
 
 /// Writes how many messages a port has from a number on.
 fn write_messages(object: &Object, seen: ObjectSeen, number: u64, page: &mut Page) {
-    let many = match seen {
-        ObjectSeen::Port(many) => many,
-        ObjectSeen::Absent => 0,
+    let many = match (object.kind, seen) {
+        (Kind::Port, ObjectSeen::Port(many)) => many,
+        (Kind::Port, ObjectSeen::Absent) => 0,
         _ => return,
     };
-    if object.kind != Kind::Port {
-        return;
-    }
-    let process = Process::Ports.number();
-    let name = Json(&object.label);
-    write!(
-        page,
-        "{{\"ph\":\"C\",\"pid\":{process},\"ts\":{number},\"name\":{name}"
+    page.fill(
+        "{\"ph\":\"C\",\"pid\":{},\"ts\":{},\"name\":{},\"args\":{\"messages\":{}}},\n",
+        &[
+            Number(Process::Ports.number()),
+            Number(number),
+            Json(&object.label),
+            Number(u64::from(many)),
+        ],
     );
-    write!(page, ",\"args\":{{\"messages\":{many}}}}},\n");
 }
 
 impl Slices {
-    /// Nothing is open, of that many tasks.
+    /// Nothing is shown, of that many tasks.
     pub fn new(alloc: Global, tasks: usize) -> Result<Slices, AllocError> {
         let mut open = Vec::new(alloc);
         for _task in 0..tasks {
-            open.push(None)?;
+            open.push(OpenTask {
+                from: 0,
+                shown: TaskSeen {
+                    state: TaskState::Absent,
+                    awaits: Awaits::Nothing,
+                },
+            })?;
         }
         Ok(Slices {
-            alloc,
             tasks: open,
             objects: Vec::new(alloc),
         })
@@ -158,20 +144,16 @@ impl Slices {
     /// Notes what a machine shows of its tasks at a number, and writes what ended there.
     fn note_tasks(&mut self, machine: &Shown, objects: &Objects<'_>, number: u64, page: &mut Page) {
         for (t, open) in self.tasks.iter_mut().enumerate() {
-            let Some(shown) = task_seen(machine, t) else {
+            let Some(view) = machine.task(t) else {
                 return;
             };
-            match open {
-                Some(before) if before.shown == shown => {}
-                _ => {
-                    if let Some(before) = open {
-                        write_task(self.alloc, objects, t, before, number, page);
-                    }
-                    *open = Some(Open {
-                        from: number,
-                        shown,
-                    });
-                }
+            let shown = task_seen(machine, t, view.state);
+            if open.shown != shown {
+                write_task(objects, t, *open, number, page);
+                *open = OpenTask {
+                    from: number,
+                    shown,
+                };
             }
         }
     }
@@ -184,7 +166,7 @@ impl Slices {
         page: &mut Page,
     ) -> Result<(), AllocError> {
         for object in objects.list().iter().skip(self.objects.len()) {
-            self.objects.push(Open {
+            self.objects.push(OpenObject {
                 from: number,
                 shown: ObjectSeen::Absent,
             })?;
@@ -210,9 +192,9 @@ impl Slices {
             };
             let shown = object_seen(machine, object.kind, object.address);
             if open.shown != shown {
-                write_object(self.alloc, objects, k, open, number, page);
+                write_object(objects, k, *open, number, page);
                 write_messages(object, shown, number, page);
-                *open = Open {
+                *open = OpenObject {
                     from: number,
                     shown,
                 };
@@ -236,12 +218,10 @@ impl Slices {
     /// Writes what is still open, up to a number.
     pub fn close(&self, objects: &Objects<'_>, to: u64, page: &mut Page) {
         for (t, open) in self.tasks.iter().enumerate() {
-            if let Some(open) = open {
-                write_task(self.alloc, objects, t, open, to, page);
-            }
+            write_task(objects, t, *open, to, page);
         }
         for (k, open) in self.objects.iter().enumerate() {
-            write_object(self.alloc, objects, k, open, to, page);
+            write_object(objects, k, *open, to, page);
         }
     }
 }

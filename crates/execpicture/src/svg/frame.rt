@@ -1,11 +1,11 @@
 //! The frame of a picture: its ground, its title, what a screen reader reads, and the legend.
-use super::names::task_name;
 use super::plan::{MARGIN, Plan};
-use super::shapes::{Area, dot, line, open_rect, rect, text};
+use super::shapes::{Area, across, dot, open_rect, rect, text};
 use super::style::STYLE;
-use crate::forms::{Px, Xml, width_of};
+use crate::forms::{Px, width_of};
 use crate::page::Page;
-use crate::scene::Scene;
+use crate::page::Value::{At, Count, Number, Plain, Xml};
+use crate::scene::{Scene, TaskTrack};
 use crate::words::write_state;
 
 /// How a whole arrow, a dashed one and the hatching of disabled interrupts are drawn.
@@ -15,154 +15,177 @@ const DEFINITIONS: &str = "<defs>\
 <pattern id=\"run-shut\" width=\"6\" height=\"6\" patternUnits=\"userSpaceOnUse\" patternTransform=\"rotate(45)\"><rect width=\"2\" height=\"6\" class=\"stop\" fill-opacity=\".45\"/></pattern>\
 </defs>\n";
 
+/// The beginning of the document, up to what a screen reader reads.
+const HEAD: &str =
+    "<svg xmlns=\"http://www.w3.org/2000/svg\" viewBox=\"0 0 {} {}\" width=\"{}\" height=\"{}\" data-from=\"{}\" data-to=\"{}\" \
+class=\"run\" role=\"img\" aria-labelledby=\"run-title run-text\">\n\
+<title id=\"run-title\">{}</title>\n<desc id=\"run-text\">";
+
+/// How a picture is read, below its title.
+const READING: &str =
+    "each column is one step; a tinted one is a tick or a request of an interrupt";
+
 /// Writes how one task was, in words: each state with the numbers after which it begins and ends.
-fn write_story(scene: &Scene<'_>, plan: &Plan, t: usize, page: &mut Page) {
-    let Some(track) = scene.tasks.get(t) else {
-        return;
-    };
-    let name = task_name(scene, t);
-    write!(page, "Task {name}:");
-    let mut column = 0u32;
+fn write_story(scene: &Scene<'_>, plan: &Plan<'_>, t: usize, track: &TaskTrack, page: &mut Page) {
+    page.fill("Task {}:", &[Plain(scene.objects.task_name(t))]);
     for span in track.seen.spans() {
-        let end = column.saturating_add(span.lasts);
-        let from = scene.number_of(column);
-        let to = scene.number_of(end.min(plan.last));
-        page.push_str(if column == 0 { " " } else { ", " });
+        page.push_str(if span.from == 0 { " " } else { ", " });
         write_state(&scene.objects, &span.shown, page);
-        write!(page, " from {from} to {to}");
-        column = end;
+        let from = scene.number_of(span.from);
+        let to = scene.number_of(span.to.min(plan.last));
+        page.fill(" from {} to {}", &[Number(from), Number(to)]);
     }
     page.push_str(". ");
 }
 
 /// Writes what a screen reader reads of the picture.
-fn write_description(scene: &Scene<'_>, plan: &Plan, page: &mut Page) {
-    let many = scene.tasks.len();
-    let columns = plan.last;
-    let from = scene.from;
-    write!(
-        page,
-        "{many} tasks over {columns} steps, ticks and requests of interrupts, after number {from}. "
+fn write_description(scene: &Scene<'_>, plan: &Plan<'_>, page: &mut Page) {
+    page.fill(
+        "{} tasks over {} steps, ticks and requests of interrupts, after number {}. ",
+        &[
+            Count(scene.tasks.len()),
+            Number(u64::from(plan.last)),
+            Number(scene.from),
+        ],
     );
-    for t in 0..many {
-        write_story(scene, plan, t, page);
+    for (t, track) in scene.tasks.iter().enumerate() {
+        write_story(scene, plan, t, track, page);
     }
+    page.push_str("</desc>\n<style>\n");
+}
+
+/// Writes the beginning of the document, up to what a screen reader reads.
+fn open_document(scene: &Scene<'_>, plan: &Plan<'_>, title: &str, page: &mut Page) {
+    page.fill(
+        HEAD,
+        &[
+            At(plan.width),
+            At(plan.height),
+            At(plan.width),
+            At(plan.height),
+            Number(scene.from),
+            Number(scene.number_of(plan.last)),
+            Xml(title),
+        ],
+    );
 }
 
 /// Writes the beginning of the document.
-pub(super) fn write_head(scene: &Scene<'_>, plan: &Plan, title: &str, page: &mut Page) {
-    let width = plan.width;
-    let height = plan.height;
-    write!(
-        page,
-        "<svg xmlns=\"http://www.w3.org/2000/svg\" viewBox=\"0 0 {width} {height}\""
-    );
-    write!(page, " width=\"{width}\" height=\"{height}\"");
-    let from = scene.from;
-    let to = scene.number_of(plan.last);
-    write!(page, " data-from=\"{from}\" data-to=\"{to}\"");
-    page.push_str(" class=\"run\" role=\"img\" aria-labelledby=\"run-title run-text\">\n");
-    let shown = Xml(title);
-    write!(
-        page,
-        "<title id=\"run-title\">{shown}</title>\n<desc id=\"run-text\">"
-    );
+pub(super) fn write_head(scene: &Scene<'_>, plan: &Plan<'_>, title: &str, page: &mut Page) {
+    open_document(scene, plan, title, page);
     write_description(scene, plan, page);
-    write!(page, "</desc>\n<style>\n{STYLE}</style>\n{DEFINITIONS}");
+    page.push_str(STYLE);
+    page.push_str("</style>\n");
+    page.push_str(DEFINITIONS);
     let ground = Area {
         x: Px(0),
         y: Px(0),
-        width,
-        height,
+        width: plan.width,
+        height: plan.height,
     };
     rect(page, ground, 0, "ground");
     text(page, MARGIN, Px(30), 19, "ink strong", title);
-    text(
-        page,
-        MARGIN,
-        Px(49),
-        12,
-        "soft",
-        "each column is one step; a tinted one is a tick or a request of an interrupt",
-    );
+    text(page, MARGIN, Px(49), 12, "soft", READING);
 }
 
-/// Writes the name of a part of the picture.
-pub(super) fn write_heading(y: Px, said: &str, page: &mut Page) {
+/// Writes the line above a part of the picture, and its name.
+pub(super) fn write_part(page: &mut Page, plan: &Plan<'_>, top: Px, y: Px, said: &str) {
+    across(page, MARGIN, plan.end(), top, "grid", "");
     text(page, MARGIN, y, 9, "faint wide", said);
-}
-
-/// Writes a text of the legend, and answers where the next one begins.
-fn explain(x: Px, y: Px, said: &str, page: &mut Page) -> Px {
-    let start = x + Px(34);
-    text(page, start, y + Px(4), 11, "soft", said);
-    start + width_of(said.len(), 10) + Px(16)
-}
-
-/// Writes what the looks of tasks mean.
-fn write_states(y: Px, page: &mut Page) -> Px {
-    let mut x = MARGIN;
-    rect(page, Area::around(x, x + Px(26), y, Px(18)), 3, "t0");
-    x = explain(x, y, "running", page);
-    open_rect(
-        page,
-        Area::around(x, x + Px(26), y, Px(12)),
-        2,
-        "t0 k0 pale thin",
-    );
-    page.push_str("/>\n");
-    x = explain(x, y, "ready", page);
-    line(
-        page,
-        (x, y),
-        (x + Px(26), y),
-        "rest",
-        " stroke-width=\"1.6\"",
-    );
-    x = explain(x, y, "waits for signals", page);
-    let dashes = " stroke-width=\"2.2\" stroke-dasharray=\"4 3\"";
-    line(page, (x, y), (x + Px(26), y), "k1", dashes);
-    x = explain(x, y, "waits for a semaphore", page);
-    let cross = (x + Px(9), y - Px(4));
-    write_cross(cross.0, y, page);
-    explain(x, y, "removed", page)
 }
 
 /// Writes a cross, at which a task is removed.
 pub(super) fn write_cross(x: Px, y: Px, page: &mut Page) {
-    write!(
-        page,
-        "<path d=\"M{x},{y} m-4,-4 l8,8 m0,-8 l-8,8\" class=\"rest none\""
+    page.fill(
+        "<path d=\"M{},{} m-4,-4 l8,8 m0,-8 l-8,8\" class=\"rest none\" stroke-width=\"1.8\"/>\n",
+        &[At(x), At(y)],
     );
-    page.push_str(" stroke-width=\"1.8\"/>\n");
 }
 
-/// Writes what the arrows and the signs of interrupts mean.
-fn write_signs(y: Px, page: &mut Page) -> Px {
+/// What the legend explains.
+#[derive(Clone, Copy)]
+enum Sample {
+    /// A rectangle: its height, how round it is, and its class.
+    Bar(Px, u64, &'static str),
+    /// A line: its class, and how it is drawn.
+    Stroke(&'static str, &'static str),
+    Cross,
+    Dots,
+    Bracket,
+    Hatching,
+}
+
+/// What the looks of tasks mean.
+const STATES: [(Sample, &str); 5] = [
+    (Sample::Bar(Px(18), 3, "t0"), "running"),
+    (Sample::Bar(Px(12), 2, "t0 k0 pale thin"), "ready"),
+    (
+        Sample::Stroke("rest", " stroke-width=\"1.6\""),
+        "waits for signals",
+    ),
+    (
+        Sample::Stroke("k1", " stroke-width=\"2.2\" stroke-dasharray=\"4 3\""),
+        "waits for a semaphore",
+    ),
+    (Sample::Cross, "removed"),
+];
+
+/// What the arrows and the signs of interrupts mean.
+const SIGNS: [(Sample, &str); 5] = [
+    (
+        Sample::Stroke("line", " stroke-width=\"1.5\" marker-end=\"url(#run-tip)\""),
+        "wakes",
+    ),
+    (
+        Sample::Stroke(
+            "line",
+            " stroke-width=\"1.5\" stroke-dasharray=\"3 2\" marker-end=\"url(#run-tip)\"",
+        ),
+        "reaches one that does not wait for it",
+    ),
+    (Sample::Dots, "interrupt served, and latched"),
+    (Sample::Bracket, "Forbid, Disable"),
+    (Sample::Hatching, "interrupts are disabled"),
+];
+
+/// Draws what the legend explains.
+fn draw_sample(sample: Sample, x: Px, y: Px, page: &mut Page) {
+    let right = x + Px(26);
+    match sample {
+        Sample::Bar(height, round, class) => {
+            rect(page, Area::around(x, right, y, height), round, class)
+        }
+        Sample::Stroke(class, more) => across(page, x, right, y, class, more),
+        Sample::Cross => write_cross(x + Px(9), y, page),
+        Sample::Dots => {
+            dot(page, x + Px(6), y, 5, "ink", "served");
+            dot(page, x + Px(20), y, 4, "ground line", "latched");
+        }
+        Sample::Bracket => page.fill(
+            "<path d=\"M{},{} v-4 h26 v4\" class=\"line none\" stroke-width=\"1.8\"/>\n",
+            &[At(x), At(y)],
+        ),
+        Sample::Hatching => {
+            open_rect(page, Area::around(x, right, y, Px(16)), 0, "shut");
+            page.push_str(" fill=\"url(#run-shut)\"/>\n");
+        }
+    }
+}
+
+/// Writes a line of the legend.
+fn write_legend(samples: &[(Sample, &str)], y: Px, page: &mut Page) {
     let mut x = MARGIN;
-    let whole = " stroke-width=\"1.5\" marker-end=\"url(#run-tip)\"";
-    line(page, (x, y), (x + Px(26), y), "line", whole);
-    x = explain(x, y, "wakes", page);
-    let dashed = " stroke-width=\"1.5\" stroke-dasharray=\"3 2\" marker-end=\"url(#run-tip)\"";
-    line(page, (x, y), (x + Px(26), y), "line", dashed);
-    x = explain(x, y, "reaches one that does not wait for it", page);
-    dot(page, x + Px(6), y, 5, "ink", "served");
-    dot(page, x + Px(20), y, 4, "ground line", "latched");
-    x = explain(x, y, "interrupt served, and latched", page);
-    write!(
-        page,
-        "<path d=\"M{x},{y} v-4 h26 v4\" class=\"line none\" stroke-width=\"1.8\"/>\n"
-    );
-    x = explain(x, y, "Forbid, Disable", page);
-    let shut = Area::around(x, x + Px(26), y, Px(16));
-    open_rect(page, shut, 0, "shut");
-    page.push_str(" fill=\"url(#run-shut)\"/>\n");
-    explain(x, y, "interrupts are disabled", page)
+    for (sample, said) in samples {
+        draw_sample(*sample, x, y, page);
+        let start = x + Px(34);
+        text(page, start, y + Px(4), 11, "soft", said);
+        x = start + width_of(said.len(), 10) + Px(16);
+    }
 }
 
 /// Writes what the signs mean, and ends the document.
-pub(super) fn write_foot(plan: &Plan, page: &mut Page) {
-    write_states(plan.legend, page);
-    write_signs(plan.legend + Px(26), page);
+pub(super) fn write_foot(plan: &Plan<'_>, page: &mut Page) {
+    write_legend(&STATES, plan.legend, page);
+    write_legend(&SIGNS, plan.legend + Px(26), page);
     page.push_str("</svg>\n");
 }

@@ -1,21 +1,91 @@
 //! The rows of the interrupts: what is requested, what is served, and from where to where interrupts are disabled.
-use super::frame::write_heading;
-use super::plan::{MARGIN, Plan, SourceRow};
-use super::shapes::{Area, dot, line, open_rect, text};
-use crate::film::Turn;
-use crate::forms::{Px, Xml, width_of};
+use super::plan::{FIRST_ROW, MARGIN, Plan, requests};
+use super::shapes::{Area, across, dot, open_rect, text};
+use crate::forms::{Px, width_of};
 use crate::lines::{TraceLine, read_line};
 use crate::page::Page;
+use crate::page::Value::Xml;
 use crate::scene::{Column, Scene};
 use softint::latches::Latches;
 use taskscript::Source;
 
-/// Whether a column requests an interrupt of a source.
-fn requests(column: &Column, source: Source) -> bool {
-    match column.point.turn {
-        Turn::Tick => source == Source::Vertb,
-        Turn::Request(other) => source == other,
-        _ => false,
+/// How the line is drawn from where a source was requested to where it is served.
+const DASHES: &str = " stroke-width=\"1.3\" stroke-dasharray=\"2 2\"";
+
+/// The row of a source, and what was drawn in it so far.
+#[derive(Clone, Copy)]
+struct Row {
+    source: Source,
+    /// Its middle.
+    y: Px,
+    /// Where the source was requested, if it was not served yet.
+    asked: Option<Px>,
+    /// From where there is room for a name.
+    free: Px,
+}
+
+impl Row {
+    /// Draws that the source is not served from where it was requested up to a place, if it was.
+    fn draw_wait(&mut self, to: Px, page: &mut Page) {
+        if let Some(from) = self.asked {
+            across(page, from + Px(5), to, self.y, "line", DASHES);
+        }
+        self.asked = None;
+    }
+
+    /// Draws that the source is served.
+    fn draw_served(&mut self, x: Px, page: &mut Page) {
+        self.draw_wait(x - Px(5), page);
+        dot(page, x, self.y, 5, "ink", "served");
+    }
+
+    /// Draws that the source is requested, if that is not drawn yet.
+    fn draw_asked(&mut self, x: Px, page: &mut Page) {
+        if self.asked.is_none() {
+            self.asked = Some(x);
+            dot(
+                page,
+                x,
+                self.y,
+                4,
+                "ground line",
+                "requested, and not served yet",
+            );
+        }
+    }
+
+    /// Writes the name of a server that ran, if there is room up to the next that was served. Answers whether it was written.
+    fn write_server(&mut self, x: Px, name: &str, page: &mut Page) -> bool {
+        let fits = x.is_above(self.free);
+        if fits {
+            text(page, x, self.y - Px(7), 10, "soft", name);
+            self.free = x + width_of(name.len(), 10);
+        }
+        fits
+    }
+
+    /// Writes what became of the source in a column.
+    fn write_column(&mut self, column: &Column, mid: Px, page: &mut Page) {
+        let mut is_served = false;
+        let mut ours = false;
+        for said in column.text.lines() {
+            match read_line(said) {
+                TraceLine::Serve(name) => {
+                    ours = name == self.source.text();
+                    if ours && !is_served {
+                        is_served = true;
+                        self.draw_served(mid, page);
+                    }
+                }
+                TraceLine::Server(name) => {
+                    ours = ours && !self.write_server(mid + Px(7), name, page);
+                }
+                _ => {}
+            }
+        }
+        if !is_served && requests(column.point.turn, self.source) {
+            self.draw_asked(mid, page);
+        }
     }
 }
 
@@ -28,175 +98,91 @@ fn is_latched(latches: Latches, source: Source) -> bool {
     }
 }
 
-/// Whether a source is served in a column.
-fn is_served(column: &Column, source: Source) -> bool {
-    column.text.lines().any(
-        |line| matches!(read_line(line), TraceLine::Serve(name) if name == source.text()),
-    )
-}
-
-/// Writes the names of the servers of a source that ran in a column, if there is room up to the next that was served.
-fn write_servers(column: &Column, row: &SourceRow, x: Px, free: &mut Px, page: &mut Page) {
-    let mut ours = false;
-    for said in column.text.lines() {
-        match read_line(said) {
-            TraceLine::Serve(name) => ours = name == row.source.text(),
-            TraceLine::Server(name) => {
-                if ours && x.is_above(*free) {
-                    text(page, x, row.y - Px(7), 10, "soft", name);
-                    *free = x + width_of(name.len(), 10);
-                    ours = false;
-                }
-            }
-            _ => {}
-        }
-    }
-}
-
-/// Writes what became of a source in a column. `asked` is where it was requested, if it was not served yet.
-fn write_source_in(
-    column: &Column,
-    row: &SourceRow,
-    x: Px,
-    asked: &mut Option<Px>,
-    page: &mut Page,
-) {
-    if is_served(column, row.source) {
-        if let Some(from) = *asked {
-            let dashes = " stroke-width=\"1.3\" stroke-dasharray=\"2 2\"";
-            line(
-                page,
-                (from + Px(5), row.y),
-                (x - Px(5), row.y),
-                "line",
-                dashes,
-            );
-        }
-        *asked = None;
-        dot(page, x, row.y, 5, "ink", "served");
-    } else if requests(column, row.source) && asked.is_none() {
-        *asked = Some(x);
-        dot(
-            page,
-            x,
-            row.y,
-            4,
-            "ground line",
-            "requested, and not served yet",
-        );
-    }
-}
-
 /// Writes the row of a source.
-fn write_source(scene: &Scene<'_>, plan: &Plan, row: &SourceRow, page: &mut Page) {
-    line(page, (plan.left, row.y), (plan.end(), row.y), "grid", "");
-    text(page, MARGIN, row.y + Px(4), 11, "ink", row.source.text());
-    let mut asked = None;
-    let mut free = Px(0);
-    let mut number = 0u32;
+fn write_source(scene: &Scene<'_>, plan: &Plan<'_>, source: Source, y: Px, page: &mut Page) {
+    write_row(page, plan, y, source.text());
+    let mut row = Row {
+        source,
+        y,
+        asked: None,
+        free: Px(0),
+    };
     for column in scene.columns.iter() {
-        if number > 0 {
-            write_source_in(column, row, plan.mid(number), &mut asked, page);
-            write_servers(column, row, plan.mid(number) + Px(7), &mut free, page);
-        } else if is_latched(column.latches, row.source) {
-            asked = Some(plan.left);
+        if column.number > 0 {
+            row.write_column(column, plan.mid(column.number), page);
+        } else if is_latched(column.latches, source) {
+            row.asked = Some(plan.left);
         }
-        number = number.saturating_add(1);
     }
-    write_unserved(plan, row, asked, page);
+    row.draw_wait(plan.end(), page);
 }
 
-/// Writes that a source is not served before the picture ends, if it was requested.
-fn write_unserved(plan: &Plan, row: &SourceRow, asked: Option<Px>, page: &mut Page) {
-    if let Some(from) = asked {
-        let dashes = " stroke-width=\"1.3\" stroke-dasharray=\"2 2\"";
-        line(
-            page,
-            (from + Px(5), row.y),
-            (plan.end(), row.y),
-            "line",
-            dashes,
-        );
-    }
+/// Writes the line and the name of a row.
+fn write_row(page: &mut Page, plan: &Plan<'_>, y: Px, name: &str) {
+    across(page, plan.left, plan.end(), y, "grid", "");
+    text(page, MARGIN, y + Px(4), 11, "ink", name);
 }
 
-/// Writes a software interrupt that ran in a column.
-fn write_softint(plan: &Plan, y: Px, column: u32, name: &str, free: &mut Px, page: &mut Page) {
+/// Writes a software interrupt that ran in a column, with its name if that is free from before it. Answers from where it is free then.
+fn write_softint(plan: &Plan<'_>, y: Px, column: u32, name: &str, free: Px, page: &mut Page) -> Px {
     let from = plan.start(column) + Px(1);
     let to = plan.x(column) - Px(1);
     open_rect(page, Area::around(from, to, y, Px(14)), 2, "ink");
-    let shown = Xml(name);
-    write!(
-        page,
-        "><title>software interrupt {shown} runs</title></rect>\n"
+    page.fill(
+        "><title>software interrupt {} runs</title></rect>\n",
+        &[Xml(name)],
     );
-    if from.is_above(*free) {
-        text(page, to + Px(4), y + Px(4), 10, "soft", name);
-        *free = to + width_of(name.len(), 10) + Px(6);
+    if !from.is_above(free) {
+        return free;
     }
+    text(page, to + Px(4), y + Px(4), 10, "soft", name);
+    to + width_of(name.len(), 10) + Px(6)
 }
 
 /// Writes the row of the software interrupts.
-fn write_softints(scene: &Scene<'_>, plan: &Plan, y: Px, page: &mut Page) {
-    line(page, (plan.left, y), (plan.end(), y), "grid", "");
-    text(page, MARGIN, y + Px(4), 11, "ink", "softints");
+fn write_softints(scene: &Scene<'_>, plan: &Plan<'_>, y: Px, page: &mut Page) {
+    write_row(page, plan, y, "softints");
     let mut free = Px(0);
-    let mut number = 0u32;
     for column in scene.columns.iter() {
         for said in column.text.lines() {
             if let TraceLine::Softint(name) = read_line(said) {
-                write_softint(plan, y, number, name, &mut free, page);
+                free = write_softint(plan, y, column.number, name, free, page);
             }
         }
-        number = number.saturating_add(1);
     }
 }
 
-/// The first and the last row of the interrupts.
-fn rows_of(plan: &Plan) -> Option<(Px, Px)> {
-    let first = match plan.sources.first() {
-        Some(row) => row.y,
-        None => plan.softints?,
-    };
-    let last = match plan.softints {
-        Some(y) => y,
-        None => plan.sources.last()?.y,
-    };
-    Some((first, last))
-}
-
 /// Hatches the rows of the interrupts wherever interrupts are disabled.
-fn write_shut(scene: &Scene<'_>, plan: &Plan, top: Px, bottom: Px, page: &mut Page) {
-    let mut column = 0u32;
+fn write_shut(scene: &Scene<'_>, plan: &Plan<'_>, page: &mut Page) {
     for span in scene.shut.spans() {
-        let end = column.saturating_add(span.lasts);
         if span.shown {
-            let from = plan.x(column);
-            let to = plan.x(end);
+            let from = plan.x(span.from);
             let area = Area {
                 x: from,
-                y: top - Px(10),
-                width: to - from,
-                height: bottom - top + Px(20),
+                y: FIRST_ROW - Px(10),
+                width: plan.x(span.to) - from,
+                height: plan.tasks_top - FIRST_ROW - Px(2),
             };
             open_rect(page, area, 0, "shut");
             page.push_str(
                 " fill=\"url(#run-shut)\"><title>interrupts are disabled</title></rect>\n",
             );
         }
-        column = end;
     }
 }
 
 /// Writes the rows of the interrupts.
-pub(super) fn write_interrupts(scene: &Scene<'_>, plan: &Plan, page: &mut Page) {
-    let Some((top, bottom)) = rows_of(plan) else {
+pub(super) fn write_interrupts(scene: &Scene<'_>, plan: &Plan<'_>, page: &mut Page) {
+    if !plan.tasks_top.is_above(FIRST_ROW) {
         return;
-    };
-    write_heading(top - Px(18), "INTERRUPTS", page);
-    write_shut(scene, plan, top, bottom, page);
-    for row in plan.sources.iter() {
-        write_source(scene, plan, row, page);
+    }
+    let y = FIRST_ROW - Px(18);
+    text(page, MARGIN, y, 9, "faint wide", "INTERRUPTS");
+    write_shut(scene, plan, page);
+    for source in [Source::Exter, Source::Vertb, Source::Ports] {
+        if let Some(y) = plan.source(source) {
+            write_source(scene, plan, source, y, page);
+        }
     }
     if let Some(y) = plan.softints {
         write_softints(scene, plan, y, page);

@@ -1,10 +1,8 @@
 //! Where each part of a picture is.
-use super::calls::longest;
 use crate::film::Turn;
-use crate::forms::{Px, width_of};
-use crate::objects::{Object, Objects};
+use crate::forms::{Px, count, width_of};
 use crate::scene::Scene;
-use crate::seen::Kind;
+use crate::seen::{Kind, ObjectSeen};
 use std::alloc::{AllocError, Global};
 use taskscript::Source;
 
@@ -17,50 +15,43 @@ const MANY_OBJECTS: usize = 13;
 /// What is above the rows: the title, the events, the numbers and the clock.
 pub(super) const RULER: Px = Px(98);
 
+/// The middle of the first row of the interrupts.
+pub(super) const FIRST_ROW: Px = Px(164);
+
+/// How high a row of the interrupts is.
+const ROW: Px = Px(22);
+
 /// How far the rows go on after the last column.
 const TAIL: Px = Px(12);
 
 /// What is free at the left and at the right.
 pub(super) const MARGIN: Px = Px(20);
 
-/// The row of a source of interrupts.
-#[derive(Clone, Copy)]
-pub(super) struct SourceRow {
-    pub source: Source,
-    /// Its middle.
-    pub y: Px,
-}
-
-/// The row of an object.
-#[derive(Clone, Copy)]
-pub(super) struct ObjectRow {
-    /// Its place among the objects.
-    pub object: usize,
-    /// Its middle.
-    pub y: Px,
-}
-
 /// Where each part of a picture is.
-#[derive(Drop)]
-pub(super) struct Plan {
+#[derive(Clone, Copy)]
+pub(super) struct Plan<'a> {
     /// Where the first column begins.
     pub left: Px,
     /// How wide a column is.
     step: Px,
     /// The number of the last column.
     pub last: u32,
-    pub sources: Vec<SourceRow>,
+    /// The middles of the rows of the sources that have one.
+    exter: Option<Px>,
+    vertb: Option<Px>,
+    ports: Option<Px>,
     /// The middle of the row of the software interrupts, if there are any.
     pub softints: Option<Px>,
     /// Where the rows of the tasks begin.
     pub tasks_top: Px,
-    /// The middles of the rows of the tasks.
-    pub tasks: Vec<Px>,
     /// Whether the rows of the tasks are dense.
     pub dense: bool,
     /// Where the rows of the objects begin.
     pub objects_top: Px,
-    pub objects: Vec<ObjectRow>,
+    /// How high a row of an object is.
+    object_height: Px,
+    /// The places of the objects that have a row, from the top.
+    pub objects: &'a [usize],
     /// Where the calls begin.
     pub calls_top: Px,
     /// Where the legend is.
@@ -69,24 +60,19 @@ pub(super) struct Plan {
     pub height: Px,
 }
 
-impl Plan {
+impl Plan<'_> {
     /// Where a column ends, and what is shown after it begins.
     pub fn x(&self, column: u32) -> Px {
         if column > self.last {
-            self.right() + TAIL
+            self.end()
         } else {
             self.left + self.step.times(column)
         }
     }
 
-    /// Where the last column ends.
-    pub fn right(&self) -> Px {
-        self.left + self.step.times(self.last)
-    }
-
     /// Where the rows end.
     pub fn end(&self) -> Px {
-        self.right() + TAIL
+        self.left + self.step.times(self.last) + TAIL
     }
 
     /// Where a column begins.
@@ -99,46 +85,63 @@ impl Plan {
         self.start(column).middle(self.x(column))
     }
 
-    /// How wide a column is.
-    pub fn step(&self) -> Px {
-        self.step
-    }
-
     /// The middle of the row of a task.
     pub fn task(&self, t: usize) -> Px {
-        match self.tasks.get(t) {
-            Some(y) => *y,
-            None => self.tasks_top,
-        }
+        self.tasks_top + Px(36) + task_height(self.dense).times(count(t))
     }
 
     /// The middle of the row of a source, if it has one.
     pub fn source(&self, source: Source) -> Option<Px> {
-        let row = self.sources.iter().find(|row| row.source == source)?;
-        Some(row.y)
+        match source {
+            Source::Exter => self.exter,
+            Source::Vertb => self.vertb,
+            Source::Ports => self.ports,
+        }
+    }
+
+    /// The middle of a row of the objects, which are numbered from 0.
+    pub fn object_row(&self, row: usize) -> Px {
+        self.objects_top + Px(34) + self.object_height.times(count(row))
     }
 
     /// The middle of the row of the object at that place, if it has one.
-    pub fn object(&self, object: usize) -> Option<Px> {
-        let row = self.objects.iter().find(|row| row.object == object)?;
-        Some(row.y)
+    pub fn object(&self, place: usize) -> Option<Px> {
+        for (row, object) in self.objects.iter().enumerate() {
+            if *object == place {
+                return Some(self.object_row(row));
+            }
+        }
+        None
     }
+}
+
+/// How high the row of a task is.
+fn task_height(dense: bool) -> Px {
+    if dense { Px(28) } else { Px(54) }
 }
 
 /// Whether a source is to have a row: it has a server, or it asked to be served.
 fn is_shown(scene: &Scene<'_>, source: Source) -> bool {
-    let asks = |turn: Turn| match turn {
+    for server in scene.file.machine.servers() {
+        if server.source == source {
+            return true;
+        }
+    }
+    for column in scene.columns.iter() {
+        if requests(column.point.turn, source) {
+            return true;
+        }
+    }
+    false
+}
+
+/// Whether what is done requests an interrupt of a source.
+pub(super) fn requests(turn: Turn, source: Source) -> bool {
+    match turn {
         Turn::Tick => source == Source::Vertb,
         Turn::Request(other) => source == other,
         _ => false,
-    };
-    scene
-        .file
-        .machine
-        .servers()
-        .iter()
-        .any(|server| server.source == source)
-        || scene.columns.iter().any(|column| asks(column.point.turn))
+    }
 }
 
 /// The longest text that is at the left of a row.
@@ -153,68 +156,39 @@ fn longest_label(scene: &Scene<'_>) -> usize {
     longest
 }
 
-/// Whether an object is shown at any point of the picture.
+/// Whether an object is shown at any point of the picture: what is shown of it changes, or is something all the time.
 fn is_object_shown(scene: &Scene<'_>, object: usize) -> bool {
-    match scene.object_tracks.get(object) {
-        Some(track) => track.is_shown(),
-        None => false,
+    let Some(track) = scene.object_tracks.get(object) else {
+        return false;
+    };
+    match track.spans() {
+        [] => false,
+        [only] => only.shown != ObjectSeen::Absent,
+        _ => true,
     }
 }
 
-/// Adds the rows of the objects of a kind.
-fn push_rows(
-    scene: &Scene<'_>,
-    kind: Kind,
-    height: Px,
-    y: &mut Px,
-    rows: &mut Vec<ObjectRow>,
-) -> Result<(), AllocError> {
-    for (object, made) in scene.objects.list().iter().enumerate() {
-        if made.kind == kind && is_object_shown(scene, object) {
-            rows.push(ObjectRow { object, y: *y })?;
-            *y = *y + height;
-        }
-    }
-    Ok(())
-}
-
-/// The rows of the sources.
-fn source_rows(alloc: Global, scene: &Scene<'_>, y: &mut Px) -> Result<Vec<SourceRow>, AllocError> {
+/// The places of the objects that have a row, from the top: semaphores, ports and requests.
+pub(super) fn object_rows(alloc: Global, scene: &Scene<'_>) -> Result<Vec<usize>, AllocError> {
     let mut rows = Vec::new(alloc);
-    for source in [Source::Exter, Source::Vertb, Source::Ports] {
-        if is_shown(scene, source) {
-            rows.push(SourceRow { source, y: *y })?;
-            *y = *y + Px(22);
+    for kind in [Kind::Semaphore, Kind::Port, Kind::Request] {
+        for (place, object) in scene.objects.list().iter().enumerate() {
+            if object.kind == kind && is_object_shown(scene, place) {
+                rows.push(place)?;
+            }
         }
     }
     Ok(rows)
 }
 
-/// The middles of the rows of the tasks.
-fn task_rows(alloc: Global, many: usize, height: Px, y: &mut Px) -> Result<Vec<Px>, AllocError> {
-    let mut rows = Vec::new(alloc);
-    for _task in 0..many {
-        rows.push(*y)?;
-        *y = *y + height;
+/// The middle of the row of a source, if it has one, below which the next row is.
+fn row_if(has_row: bool, y: &mut Px) -> Option<Px> {
+    if !has_row {
+        return None;
     }
-    Ok(rows)
-}
-
-/// The rows of the objects: semaphores, ports and requests.
-fn object_rows(alloc: Global, scene: &Scene<'_>, y: &mut Px) -> Result<Vec<ObjectRow>, AllocError> {
-    let dense = scene.objects.list().len() >= MANY_OBJECTS;
-    let height = if dense { Px(20) } else { Px(28) };
-    let mut rows = Vec::new(alloc);
-    push_rows(scene, Kind::Semaphore, height, y, &mut rows)?;
-    push_rows(scene, Kind::Port, height, y, &mut rows)?;
-    push_rows(scene, Kind::Request, height, y, &mut rows)?;
-    Ok(rows)
-}
-
-/// How high the calls are: as the longest of them.
-fn calls_height(alloc: Global, scene: &Scene<'_>) -> Result<Px, AllocError> {
-    let many = longest(alloc, scene)?;
-    Ok((width_of(many, 9) + Px(30)).max(Px(66)))
+    let middle = *y;
+    *y = middle + ROW;
+    Some(middle)
 }
 
 /// How wide a column is: wider if there are few.
@@ -228,47 +202,46 @@ fn step_for(last: u32) -> Px {
     }
 }
 
-/// Where each part of the picture of a scene is.
-pub(super) fn plan_of(alloc: Global, scene: &Scene<'_>) -> Result<Plan, AllocError> {
+/// Where each part of the picture of a scene is, with the places of the objects that have a row. `longest` is how many characters the longest
+/// call has.
+pub(super) fn plan_of<'a>(scene: &Scene<'_>, objects: &'a [usize], longest: usize) -> Plan<'a> {
     let many = scene.file.machine.tasks().len();
     let dense = many >= MANY_TASKS;
     let last = scene.last_column();
+    let step = step_for(last);
     let left = MARGIN + width_of(longest_label(scene), 11) + Px(20);
-    let mut y = RULER + Px(66);
-    let sources = source_rows(alloc, scene, &mut y)?;
-    let softints = if scene.file.machine.softints().is_empty() {
-        None
-    } else {
-        y = y + Px(22);
-        Some(y - Px(22))
-    };
+    let mut y = FIRST_ROW;
+    let exter = row_if(is_shown(scene, Source::Exter), &mut y);
+    let vertb = row_if(is_shown(scene, Source::Vertb), &mut y);
+    let ports = row_if(is_shown(scene, Source::Ports), &mut y);
+    let softints = row_if(!scene.file.machine.softints().is_empty(), &mut y);
     let tasks_top = y;
-    y = y + Px(36);
-    let tasks = task_rows(alloc, many, if dense { Px(28) } else { Px(54) }, &mut y)?;
-    let objects_top = if dense { y - Px(2) } else { y - Px(16) };
-    y = objects_top + Px(34);
-    let objects = object_rows(alloc, scene, &mut y)?;
+    let tasks_end = tasks_top + Px(36) + task_height(dense).times(count(many));
+    let objects_top = tasks_end - if dense { Px(2) } else { Px(16) };
+    let is_full = scene.objects.list().len() >= MANY_OBJECTS;
+    let object_height = if is_full { Px(20) } else { Px(28) };
     let calls_top = if objects.is_empty() {
         objects_top
     } else {
-        y - Px(4)
+        objects_top + Px(30) + object_height.times(count(objects.len()))
     };
-    let legend = calls_top + calls_height(alloc, scene)? + Px(30);
-    let right = left + step_for(last).times(last) + TAIL;
-    Ok(Plan {
+    let legend = calls_top + (width_of(longest, 9) + Px(30)).max(Px(66)) + Px(30);
+    Plan {
         left,
-        step: step_for(last),
+        step,
         last,
-        sources,
+        exter,
+        vertb,
+        ports,
         softints,
         tasks_top,
-        tasks,
         dense,
         objects_top,
+        object_height,
         objects,
         calls_top,
         legend,
-        width: (right + MARGIN).max(Px(900)),
+        width: (left + step.times(last) + TAIL + MARGIN).max(Px(900)),
         height: legend + Px(52),
-    })
+    }
 }
