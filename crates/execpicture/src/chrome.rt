@@ -95,6 +95,21 @@ impl<'a, W: Sink> Chrome<'a, W> {
         self.flush()
     }
 
+    /// Writes all of the document, up to number `to`. Answers whether an alert has stopped the machine.
+    fn write(
+        &mut self,
+        alloc: Global,
+        events: &Events,
+        title: &str,
+        to: u64,
+    ) -> Result<bool, PictureFault> {
+        self.begin(title)?;
+        let file = self.file;
+        let ending = film(alloc, &file.machine, events, to, self)?;
+        self.finish()?;
+        Ok(ending.stopped)
+    }
+
     /// Writes what was done since the point before.
     fn write_turn(&mut self, machine: &Shown, point: &Point, text: &str) -> Result<(), AllocError> {
         let file = &self.file.machine;
@@ -170,15 +185,13 @@ pub fn write_chrome<W: Sink>(
     if part.is_empty() {
         return Err(PictureFault::Empty);
     }
-    let ending = {
+    let ended = {
         let mut chrome = Chrome::new(alloc, file, part.from, &mut *out)?;
-        chrome.begin(title)?;
-        let ending = film(alloc, &file.machine, events, part.to, &mut chrome)?;
-        chrome.finish()?;
-        ending
+        chrome.write(alloc, events, title, part.to)
     };
+    let stopped = ended?;
     match written(out) {
-        Ok(()) => Ok(ending.stopped),
+        Ok(()) => Ok(stopped),
         Err(_) => Err(PictureFault::Write),
     }
 }

@@ -133,27 +133,30 @@ fn aim_of_name(file: &MachineFile, said: &str) -> Option<Aim> {
     Some(Aim::Softint(softint_named(file, name.trim_matches('"'))?))
 }
 
-/// What a call does, and to whom.
-fn reach(file: &MachineFile, machine: &Shown, call: &CallLine<'_>) -> Option<(Means, Aim)> {
-    match call.word {
-        Word::Signals(SignalWord::Signal) => {
-            Some((Means::Signal, aim_of_number(file, call.first?)?))
-        }
-        Word::Ports(PortWord::PutMsg) => Some((Means::Message, aim_of_port(machine, call.first?)?)),
-        Word::Ports(PortWord::ReplyMsg) => {
-            Some((Means::Reply, aim_of_reply(machine, call.first?)?))
-        }
-        Word::Requests(RequestWord::AbortIO) => {
-            Some((Means::Request, aim_of_reply(machine, call.first?)?))
-        }
-        Word::Semaphores(SemaphoreWord::ReleaseSemaphore) => {
-            Some((Means::Semaphore, aim_of_semaphore(machine, call.first?)?))
-        }
-        Word::Interrupts(InterruptWord::Cause) => Some((
-            Means::Cause,
-            aim_of_name(file, call.said)?,
-        )),
+/// What a word does to another, if it does.
+fn means_of(word: Word) -> Option<Means> {
+    match word {
+        Word::Signals(SignalWord::Signal) => Some(Means::Signal),
+        Word::Ports(PortWord::PutMsg) => Some(Means::Message),
+        Word::Ports(PortWord::ReplyMsg) => Some(Means::Reply),
+        Word::Requests(RequestWord::AbortIO) => Some(Means::Request),
+        Word::Semaphores(SemaphoreWord::ReleaseSemaphore) => Some(Means::Semaphore),
+        Word::Interrupts(InterruptWord::Cause) => Some(Means::Cause),
         _ => None,
+    }
+}
+
+/// To whom a call does that.
+fn aim_of(file: &MachineFile, machine: &Shown, means: Means, call: &CallLine<'_>) -> Option<Aim> {
+    if matches!(means, Means::Cause) {
+        return aim_of_name(file, call.said);
+    }
+    let first = call.first?;
+    match means {
+        Means::Signal => aim_of_number(file, first),
+        Means::Message => aim_of_port(machine, first),
+        Means::Semaphore => aim_of_semaphore(machine, first),
+        _ => aim_of_reply(machine, first),
     }
 }
 
@@ -169,7 +172,8 @@ fn act_of(file: &MachineFile, machine: &Shown, line: &str) -> Option<Deed> {
         }),
         TraceLine::Call(call) => {
             let doer = doer_named(file, call.who)?;
-            let (means, aim) = reach(file, machine, &call)?;
+            let means = means_of(call.word)?;
+            let aim = aim_of(file, machine, means, &call)?;
             Some(Deed {
                 doer,
                 aim,

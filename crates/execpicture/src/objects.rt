@@ -5,9 +5,7 @@ use crate::page::Page;
 use crate::page::Value::{Hex, Plain};
 use crate::seen::Kind;
 use std::alloc::{AllocError, Global};
-use taskscript::{
-    Command, Listed, PortWord, RequestWord, SemaphoreWord, Variable, VariableName, Word,
-};
+use taskscript::{Command, Listed, PortWord, RequestWord, SemaphoreWord, Variable, Word};
 
 /// An object that a call has made.
 #[derive(Drop)]
@@ -50,26 +48,6 @@ pub(crate) fn command_at(file: &Listed, actor: Actor) -> Option<&Command> {
     file.machine.tasks().get(actor.task)?.code.get(actor.place)
 }
 
-/// The variable that got the answer of the command done last, if it was one of a task: its name, and the task if it is private to it.
-fn variable_at<'a>(file: &'a Listed, point: &Point) -> Option<(VariableName, Option<&'a str>)> {
-    let actor = point.actor?;
-    match command_at(file, actor)?.target? {
-        Variable::Private(number) => {
-            let name = file.listing.tasks().get(actor.task)?.private_name(number)?;
-            Some((name, Some(task_name(file, actor.task))))
-        }
-        Variable::Shared(number) => Some((file.listing.shared_name(number)?, None)),
-    }
-}
-
-/// The name of a task; nothing past the last.
-fn task_name(file: &Listed, t: usize) -> &str {
-    match file.machine.tasks().get(t) {
-        Some(task) => task.name.as_str(),
-        None => "",
-    }
-}
-
 impl<'a> Objects<'a> {
     /// No object.
     pub fn new(alloc: Global, file: &'a Listed) -> Objects<'a> {
@@ -87,7 +65,10 @@ impl<'a> Objects<'a> {
 
     /// The name of a task; nothing past the last.
     pub fn task_name(&self, t: usize) -> &str {
-        task_name(self.file, t)
+        match self.file.machine.tasks().get(t) {
+            Some(task) => task.name.as_str(),
+            None => "",
+        }
     }
 
     /// The place in the list of the object of a kind at an address.
@@ -132,19 +113,30 @@ impl<'a> Objects<'a> {
         Ok(())
     }
 
+    /// Writes what an object of a kind is called by the variable that got its address, if one did.
+    fn write_variable(&self, kind: Kind, point: &Point, label: &mut Page) -> Option<()> {
+        let actor = point.actor?;
+        let listing = &self.file.listing;
+        let kind = Plain(kind_text(kind));
+        match command_at(self.file, actor)?.target? {
+            Variable::Private(number) => {
+                let name = listing.tasks().get(actor.task)?.private_name(number)?;
+                let owner = Plain(self.task_name(actor.task));
+                label.fill("{} {} of {}", &[kind, Plain(name.as_str()), owner]);
+            }
+            Variable::Shared(number) => {
+                let name = listing.shared_name(number)?;
+                label.fill("{} @{}", &[kind, Plain(name.as_str())]);
+            }
+        }
+        Some(())
+    }
+
     /// Keeps an object that a call has made.
     fn keep_made(&mut self, kind: Kind, address: u32, point: &Point) -> Result<(), AllocError> {
         let mut label = Page::new(self.alloc);
-        let made = Plain(kind_text(kind));
-        match variable_at(self.file, point) {
-            Some((name, owner)) => {
-                let name = Plain(name.as_str());
-                match owner {
-                    Some(owner) => label.fill("{} {} of {}", &[made, name, Plain(owner)]),
-                    None => label.fill("{} @{}", &[made, name]),
-                }
-            }
-            None => label.fill("{} {}", &[made, Hex(address)]),
+        if self.write_variable(kind, point, &mut label).is_none() {
+            label.fill("{} {}", &[Plain(kind_text(kind)), Hex(address)]);
         }
         self.name(kind, address, label)
     }

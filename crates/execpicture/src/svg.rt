@@ -53,6 +53,39 @@ fn draw(
     Ok(())
 }
 
+/// Runs a machine over the events, and keeps what a scene shows of a part of the run. Answers whether an alert has stopped the machine.
+fn film_scene(
+    alloc: Global,
+    events: &Events,
+    part: Stretch,
+    scene: &mut Scene<'_>,
+) -> Result<bool, PictureFault> {
+    let file = scene.file;
+    let Ending { last, stopped } = film(alloc, &file.machine, events, part.to, scene)?;
+    if last < part.from || (last == part.from && last > 0) {
+        return Err(PictureFault::PastEnd(last));
+    }
+    if last - part.from > u64::from(LIMIT) {
+        return Err(PictureFault::TooLong(last - part.from));
+    }
+    Ok(stopped)
+}
+
+/// Draws a part of the run of a machine file. Answers whether an alert has stopped the machine.
+fn draw_run(
+    alloc: Global,
+    file: &Listed,
+    events: &Events,
+    title: &str,
+    part: Stretch,
+    page: &mut Page,
+) -> Result<bool, PictureFault> {
+    let mut scene = Scene::new(alloc, file, part.from, LIMIT)?;
+    let stopped = film_scene(alloc, events, part, &mut scene)?;
+    draw(alloc, &scene, events.list(), title, page)?;
+    Ok(stopped)
+}
+
 /// Runs the machine of a file over the events, and writes one picture of a part of the run to `out`, which is good: an SVG document that
 /// shows, from above, the events and the clock; the interrupts; the state of each task from step to step; who owns a semaphore, what is in a
 /// port and which request is in progress; and the calls. Objects are named by the variable that got their address, or by their public name.
@@ -77,16 +110,8 @@ pub fn write_svg<W: Sink>(
     if part.is_empty() {
         return Err(PictureFault::Empty);
     }
-    let mut scene = Scene::new(alloc, file, part.from, LIMIT)?;
-    let Ending { last, stopped } = film(alloc, &file.machine, events, part.to, &mut scene)?;
-    if last < part.from || (last == part.from && last > 0) {
-        return Err(PictureFault::PastEnd(last));
-    }
-    if last - part.from > u64::from(LIMIT) {
-        return Err(PictureFault::TooLong(last - part.from));
-    }
     let mut page = Page::new(alloc);
-    draw(alloc, &scene, events.list(), title, &mut page)?;
+    let stopped = draw_run(alloc, file, events, title, part, &mut page)?;
     put(page.text()?.as_bytes(), out);
     match written(out) {
         Ok(()) => Ok(stopped),

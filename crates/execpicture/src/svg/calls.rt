@@ -181,18 +181,18 @@ fn write_column(scene: &Scene<'_>, plan: &Plan<'_>, column: &Column, page: &mut 
     write_turned(plan, &entry, column, page);
 }
 
+/// Writes a line of how the calls are read.
+fn write_note(y: Px, said: &str, page: &mut Page) {
+    text(page, MARGIN, y, 10, "faint", said);
+}
+
 /// Writes the calls.
 pub(super) fn write_calls(scene: &Scene<'_>, plan: &Plan<'_>, page: &mut Page) {
     let top = plan.calls_top;
     write_part(page, plan, top, top + Px(15), "CALLS");
-    let notes = [
-        (Px(29), "number of the task,"),
-        (Px(41), "and its call; slanted:"),
-        (Px(53), "a word that prints nothing"),
-    ];
-    for (down, said) in notes {
-        text(page, MARGIN, top + down, 10, "faint", said);
-    }
+    write_note(top + Px(29), "number of the task,", page);
+    write_note(top + Px(41), "and its call; slanted:", page);
+    write_note(top + Px(53), "a word that prints nothing", page);
     for column in scene.columns.iter().skip(1) {
         write_column(scene, plan, column, page);
     }

@@ -11,21 +11,18 @@ pub(super) struct Colour {
     pub pale: &'static str,
 }
 
-/// The fill, the stroke and the pale shape of each colour.
-const COLOURS: [(&str, &str, &str); 8] = [
-    ("t0", "k0", "t0 k0 pale thin"),
-    ("t1", "k1", "t1 k1 pale thin"),
-    ("t2", "k2", "t2 k2 pale thin"),
-    ("t3", "k3", "t3 k3 pale thin"),
-    ("t4", "k4", "t4 k4 pale thin"),
-    ("t5", "k5", "t5 k5 pale thin"),
-    ("t6", "k6", "t6 k6 pale thin"),
-    ("t7", "k7", "t7 k7 pale thin"),
-];
-
 /// The colour of a task: there are eight.
 pub(super) fn colour_of(t: TaskId) -> Colour {
-    let (fill, stroke, pale) = COLOURS[t % 8];
+    let (fill, stroke, pale) = match t % 8 {
+        0 => ("t0", "k0", "t0 k0 pale thin"),
+        1 => ("t1", "k1", "t1 k1 pale thin"),
+        2 => ("t2", "k2", "t2 k2 pale thin"),
+        3 => ("t3", "k3", "t3 k3 pale thin"),
+        4 => ("t4", "k4", "t4 k4 pale thin"),
+        5 => ("t5", "k5", "t5 k5 pale thin"),
+        6 => ("t6", "k6", "t6 k6 pale thin"),
+        _ => ("t7", "k7", "t7 k7 pale thin"),
+    };
     Colour { fill, stroke, pale }
 }
 

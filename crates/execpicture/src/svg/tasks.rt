@@ -114,6 +114,11 @@ fn write_nesting<'a>(
     }
 }
 
+/// Writes the priority of a task, which ends a text.
+fn write_priority(pri: i8, page: &mut Page) {
+    write!(page, "{pri}</text>\n")
+}
+
 /// Writes the name of a task at the left of its row: behind its number if the row is dense, or else above its number and its priority.
 fn write_name(scene: &Scene<'_>, plan: &Plan<'_>, t: usize, page: &mut Page) {
     let Some(task) = scene.file.machine.tasks().get(t) else {
@@ -137,8 +142,8 @@ fn write_name(scene: &Scene<'_>, plan: &Plan<'_>, t: usize, page: &mut Page) {
     }
     text(page, x, y + Px(1), 13, "ink strong", name);
     open_text(page, x, y + Px(14), 10, "faint");
-    let pri = task.pri;
-    write!(page, "task {number}, priority {pri}</text>\n");
+    page.fill("task {}, priority ", &[Count(number)]);
+    write_priority(task.pri, page);
 }
 
 /// Writes what a task waits for over its line, if it waits and there is room.
