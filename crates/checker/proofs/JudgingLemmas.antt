@@ -1,10 +1,7 @@
 -- From what is found in the texts to the status.
-use Rattle.std.proofs.Common.{◌≡◌, ◌≢◌, ◌⊎◌, ◌↔◌, ℕ, List, Option, None, Some, inl, inr, sym, subst}
-use Rattle.std.specs.Prelude.{IsSomeAnd, MatchOption}
-use Rattle.std.specs.Borrow.{Bor}
+use Rattle.std.proofs.Common.{◌≡◌, ◌≢◌, ◌⊎◌, ◌↔◌, ℕ, List, Option, None, Some, inl, inr, sym, subst, IsSomeAnd, MatchOption, Bor}
 use Rattle.execrun.specs.Texts.{IsTextAt, TextAt}
-use Rattle.checker.specs.Judging.{IsRefusedMachine, IsRefusedScript, JudgesEvents, JudgesTexts}
-use Rattle.checker.specs.declared.command_line.Paths.{Paths}
+use Rattle.checker.specs.{Judging.IsRefusedMachine, Judging.IsRefusedScript, Judging.JudgesEvents, Judging.JudgesTexts, declared.command_line.Paths.Paths}
 
 -- an event text and its run, if a run refuses nothing
 pub judges_events : (text_at : TextAt) (path : List ℕ) (status of_text of_run : ℕ) (events : List ℕ) → IsTextAt text_at path events

@@ -1,12 +1,10 @@
 -- The status that comes of the texts at the paths.
 use Rattle.std.specs.Prelude.{◌≡◌, ◌⊎◌, ◌↔◌, ℕ, List, Option, None, Some, IsSome, IsSomeAnd, MatchOption}
 use Rattle.clap.specs.Words.{Text}
-use Rattle.taskscript.specs.File.{file_of}
-use Rattle.taskscript.specs.Events.{script_of}
+use Rattle.taskscript.specs.{File.file_of, Events.script_of}
 use Rattle.execadvice.specs.Findings.{fault_of}
 use Rattle.execrun.specs.Texts.{TextAt, IsTextAt}
-use Rattle.checker.specs.CommandLine.{AreGivenBy}
-use Rattle.checker.specs.declared.command_line.Paths.{Paths}
+use Rattle.checker.specs.{CommandLine.AreGivenBy, declared.command_line.Paths.Paths}
 
 -- these bytes are a machine file that is refused
 abbrev pub IsRefusedMachine : List ℕ → Type 0

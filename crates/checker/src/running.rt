@@ -3,8 +3,7 @@ ghost use Rattle.std.specs.Prelude.{◌≡◌, ◌≢◌, ◌≤◌, ◌⊎◌};
 ghost use Rattle.clap.specs.Walk.{texts as words_of};
 ghost use Rattle.clap.specs.Words.{kind_of};
 ghost use Rattle.execrun.specs.CommandLine.{AreRefused, AreRight, AskForHelp};
-ghost use Rattle.checker.specs.CommandLine.{one_path_or_two};
-ghost use Rattle.checker.specs.Judging.{JudgesGiven};
+ghost use Rattle.checker.specs.{CommandLine.one_path_or_two, Judging.JudgesGiven};
 
 use crate::checking::check_texts;
 use crate::command_line::paths_given;

@@ -1,7 +1,6 @@
 -- What a finding says of a text.
 use Rattle.std.specs.Prelude.{Option, Some, None, Result, Ok, Err}
-use Rattle.taskscript.specs.declared.place.Place.{Place}
-use Rattle.taskscript.specs.declared.refused.Refused.{Refused}
+use Rattle.taskscript.specs.{declared.place.Place.Place, declared.refused.Refused.Refused}
 
 -- the fault that the reading of a text has, if it has one
 abbrev pub fault_of : {X F : Type 0} → Result X F → Option F

@@ -1,22 +1,11 @@
 -- The report of a search: what was searched, and the table of what is seen.
-use Rattle.std.specs.Prelude.{ℕ, ◌++◌, List, [], ◌∷◌, Option, option_map, codes, length, map}
-use Rattle.std.specs.Fmt.{decimal}
-use Rattle.std.specs.List.{flat_map}
-use Rattle.std.specs.String.{string_bytes}
-use Rattle.taskscript.specs.Sources.{source_text}
-use Rattle.taskscript.specs.declared.event.Event.{Event}
+use Rattle.std.specs.Prelude.{ℕ, ◌++◌, List, [], ◌∷◌, Option, option_map, codes, length, map, decimal, flat_map, string_bytes}
 use Rattle.taskscript.specs.declared.event.Event.TheVariants.{Run, Tick, Irq}
-use Rattle.ways.specs.Ways.{part_of, ways}
-use Rattle.ways.specs.Tables.{Entry, number_where, table_of}
-use Rattle.ways.specs.declared.visiting.Window.{Window}
-use Rattle.wayrun.specs.Seen.{is_alerted, seen_of}
-use Rattle.wayrun.specs.Words.{see_text}
-use Rattle.wayrun.specs.declared.see.See.{See}
-use Rattle.wayreport.specs.Reports.{ReportData, told, ways_text}
-use Rattle.wayreport.specs.declared.report.Part.{Part}
-use Rattle.execexplore.specs.declared.stretch.Stretch.{Stretch}
-use Rattle.execexplore.specs.declared.frame.Frame.{Frame}
-use Rattle.execexplore.specs.declared.whole.Paths.{Paths}
+use Rattle.taskscript.specs.{Sources.source_text, declared.event.Event.Event}
+use Rattle.ways.specs.{Ways.part_of, Ways.ways, Tables.Entry, Tables.number_where, Tables.table_of, declared.visiting.Window.Window}
+use Rattle.wayrun.specs.{Seen.is_alerted, Seen.seen_of, Words.see_text, declared.see.See.See}
+use Rattle.wayreport.specs.{Reports.ReportData, Reports.told, Reports.ways_text, declared.report.Part.Part}
+use Rattle.execexplore.specs.{declared.stretch.Stretch.Stretch, declared.frame.Frame.Frame, declared.whole.Paths.Paths}
 
 -- ---- what was searched
 

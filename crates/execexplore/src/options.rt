@@ -1,7 +1,5 @@
 //! What the options of a command line ask for.
-ghost use Rattle.std.specs.Prelude.{◌≡◌, ◌≤◌, ◌++◌, IfOk, IfSome, OnOk};
-ghost use Rattle.std.specs.List.{flat_map};
-ghost use Rattle.std.specs.String.{string_bytes};
+ghost use Rattle.std.specs.Prelude.{◌≡◌, ◌≤◌, ◌++◌, IfOk, IfSome, OnOk, flat_map, string_bytes};
 ghost use Rattle.execexplore.specs.Reporting.{kind_text, kinds_text, marked_kind};
 
 use crate::stretch::Stretch;

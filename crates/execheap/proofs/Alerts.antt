@@ -1,22 +1,12 @@
 -- The alerts of the calls on lists and nodes by address, reported by number.
-use Rattle.std.proofs.Common.{◌≡◌, ℕ, zero, suc, List, Bool, true, false, map, refl, ap, sym, ◌∙◌}
-use Rattle.std.specs.Prelude.{Option, None, Some, codes, is_some, not, if◌then◌else◌, unwrap_or, IsSome}
-use Rattle.std.specs.Option.{option_map, ForSome}
-use Rattle.execlist.specs.Order.{first}
-use Rattle.execlist.specs.Lists.{home, part_after, sequence}
+use Rattle.std.proofs.Common.{◌≡◌, ℕ, zero, suc, List, Bool, true, false, map, refl, ap, sym, ◌∙◌, Option, None, Some, codes, is_some, not, if◌then◌else◌, unwrap_or, IsSome, option_map}
+use Rattle.std.specs.Option.{ForSome}
+use Rattle.execlist.specs.{Order.first, Lists.home, Lists.part_after, Lists.sequence, Pool.slot}
+use Rattle.execmodel.specs.Lists.{find_alert, free_list_alert, free_node_alert, insert_alert, link_alert, linked_alert, list_alert, is_linked, is_list_at, is_node_at, is_pred_at, is_pred_in, nodes_of, pred_alert, predecessor, searched, sequence_with, stands_in}
 use Rattle.execmodel.specs.State.{Heap}
-use Rattle.execmodel.specs.Lists.{find_alert, free_list_alert, free_node_alert, insert_alert, link_alert, linked_alert, list_alert}
-use Rattle.execmodel.specs.Lists.{is_linked, is_list_at, is_node_at, is_pred_at, is_pred_in, nodes_of, pred_alert, predecessor}
-use Rattle.execmodel.specs.Lists.{searched, sequence_with, stands_in}
-use Rattle.execlist.specs.Pool.{slot}
 use Rattle.execheap.specs.declared.tag.Kind.TheVariants as variant
-use Rattle.execheap.specs.Numbered.{Numbered, IsSound, IsSpace, address_in, shown_heap, places}
-use Rattle.execheap.specs.Table.{number_at}
-use Rattle.execheap.specs.Refusals.{is_none_or_in}
-use Rattle.execheap.proofs.Linked.{is_linked_shown, sequence_shown, some_is, stands_shown, told_apart}
-use Rattle.execheap.proofs.Mapped.{first-map, part_after-map}
-use Rattle.execheap.proofs.Matching.{number_placed, number_same}
-use Rattle.execheap.proofs.Shown.{list_at_shown, node_at_shown, nodes_shown}
+use Rattle.execheap.specs.{Numbered.Numbered, Numbered.IsSound, Numbered.IsSpace, Numbered.address_in, Numbered.shown_heap, Numbered.places, Table.number_at, Refusals.is_none_or_in}
+use Rattle.execheap.proofs.{Linked.is_linked_shown, Linked.sequence_shown, Linked.some_is, Linked.stands_shown, Linked.told_apart, Mapped.first-map, Mapped.part_after-map, Matching.number_placed, Matching.number_same, Shown.list_at_shown, Shown.node_at_shown, Shown.nodes_shown}
 
 -- ---- one test of a call
 

@@ -1,6 +1,5 @@
 -- Two lists that are the same as far as they were compared.
-use Rattle.std.proofs.Common.{◌≡◌, ℕ, zero, suc, ◌+◌, List, [], ◌∷◌, Bool, true, false, not, length, take, drop, get_or, refl, ap, sym, ◌∙◌, subst, arith, Option, Some, None, is_some, unwrap_or}
-use Rattle.std.specs.Prelude.{slice_get}
+use Rattle.std.proofs.Common.{◌≡◌, ℕ, zero, suc, ◌+◌, List, [], ◌∷◌, Bool, true, false, not, length, take, drop, get_or, refl, ap, sym, ◌∙◌, subst, arith, Option, Some, None, is_some, unwrap_or, slice_get}
 
 module _ {A : Type 0} where
   same_next : (xs ys : List A) (k : ℕ) → take k xs ≡ take k ys → slice_get xs k ≡ slice_get ys k → take (suc k) xs ≡ take (suc k) ys

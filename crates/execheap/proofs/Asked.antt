@@ -1,32 +1,17 @@
 -- Libraries that are asked by number are expunged under low memory as those by address are.
-use Rattle.std.proofs.Common.{◌≡◌, ℕ, List, [], ◌∷◌, Bool, true, false, length, map, refl, ap, sym, ◌∙◌, subst}
-use Rattle.std.specs.Prelude.{Some, None, Option, is_some, ◌&&◌, not, nat_eq, if◌then◌else◌}
-use Rattle.std.specs.Option.{option_map}
+use Rattle.std.proofs.Common.{◌≡◌, ℕ, List, [], ◌∷◌, Bool, true, false, length, map, refl, ap, sym, ◌∙◌, subst, Some, None, Option, is_some, ◌&&◌, not, nat_eq, if◌then◌else◌, option_map}
 use Rattle.std.specs.List.{range_with_len}
 use Rattle.std.proofs.lemmas.List.{length-map}
-use Rattle.memlist.specs.Fit.{fit}
-use Rattle.memlist.specs.Memory.{IsWellFormed, allocated}
+use Rattle.memlist.specs.{Fit.fit, Memory.IsWellFormed, Memory.allocated}
 use Rattle.execlist.specs.Pool.{IsStocked, next_number}
+use Rattle.execlib.specs.Libraries.{Lent, asked_each, asked_one, fits, gives_way, lent, loaded_at, memory_after_removal, numbers, removed}
 use Rattle.execlib.specs.declared.library.Loaded.{Loaded}
 use Rattle.execlib.specs.Libraries as library
-use Rattle.execlib.specs.Libraries.{Lent, asked_each, asked_one, fits, gives_way, lent, loaded_at, memory_after_removal, numbers, removed}
 use Rattle.execmodel.specs.GivingWay as model
-use Rattle.execmodel.specs.GivingWay.{after_asking_for_object, gives_way_at}
-use Rattle.execmodel.specs.Memory.{place_for, placed}
-use Rattle.execmodel.specs.State.{Object, Plain}
-use Rattle.execmodel.specs.Objects.{is_allowed, place_for_object}
-use Rattle.execheap.specs.declared.tag.Kind.{Kind}
+use Rattle.execmodel.specs.{GivingWay.after_asking_for_object, GivingWay.gives_way_at, Memory.place_for, Memory.placed, State.Object, State.Plain, Objects.is_allowed, Objects.place_for_object}
+use Rattle.execheap.specs.{declared.tag.Kind.Kind, Tags.size_of, Table.Tabled, Table.IsSound, Table.after_asking, Table.library_removed, Table.next_object, Table.pool_of, Table.ready_for, Table.ready_for_number, Table.with_lent, Table.with_object, Numbered.Numbered, Numbered.Fits, Numbered.IsKept, Numbered.own_shape, Numbered.shown_library, Numbered.shown_memory, Numbered.test_of}
 use Rattle.execheap.specs.declared.tag.Kind.TheVariants as variant
-use Rattle.execheap.specs.Tags.{size_of}
-use Rattle.execheap.specs.Table.{Tabled, IsSound, after_asking, library_removed, next_object, pool_of, ready_for, ready_for_number, with_lent, with_object}
-use Rattle.execheap.specs.Numbered.{Numbered, Fits, IsKept, own_shape, shown_library, shown_memory, test_of}
-use Rattle.execheap.proofs.Asking.{IsSettled, settled_after, settled_now, settled_one}
-use Rattle.execheap.proofs.Blocks.{fit_shown}
-use Rattle.execheap.proofs.Libraries.{base_shown}
-use Rattle.execheap.proofs.LibraryCalls.{removed_shown}
-use Rattle.execheap.proofs.Made.{IsMade, made_at}
-use Rattle.execheap.proofs.Plain.{plain_placed}
-use Rattle.execheap.proofs.Showing.{address_of, allowed_shown, place_shown}
+use Rattle.execheap.proofs.{Asking.IsSettled, Asking.settled_after, Asking.settled_now, Asking.settled_one, Blocks.fit_shown, Libraries.base_shown, LibraryCalls.removed_shown, Made.IsMade, Made.made_at, Plain.plain_placed, Showing.address_of, Showing.allowed_shown, Showing.place_shown}
 
 -- objects by number, whose libraries and memory are others
 abbrev pub lending : Numbered → Lent → Numbered

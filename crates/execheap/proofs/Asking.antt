@@ -1,20 +1,13 @@
 -- A table stays sound if libraries are expunged under low memory: what becomes of the libraries and of the memory that is lent to them.
-use Rattle.std.proofs.Common.{◌≡◌, ℕ, ◌<◌, Bool, true, false, length, refl, ap, sym, ◌∙◌, subst}
-use Rattle.std.specs.Prelude.{Some, None, Option, IfSome, if◌then◌else◌, slice_index_or, slice_set}
-use Rattle.std.specs.Option.{option_map}
-use Rattle.memlist.specs.Fit.{fit}
-use Rattle.memlist.specs.Memory.{IsWellFormed, Memory, allocated}
+use Rattle.std.proofs.Common.{◌≡◌, ℕ, ◌<◌, Bool, true, false, length, refl, ap, sym, ◌∙◌, subst, Some, None, Option, IfSome, if◌then◌else◌, slice_index_or, slice_set, option_map}
+use Rattle.memlist.specs.{Fit.fit, Memory.IsWellFormed, Memory.Memory, Memory.allocated}
 use Rattle.memlist.proofs.Keeping.{freed_well_formed}
 use Rattle.execlist.specs.Pool.{IsStocked, Pooled, given, next_number}
 use Rattle.execlib.specs.Libraries as library
 use Rattle.execlib.specs.Libraries.{Lent, Libraries, LieIn, asked_one, base_of, expunged, fits, gives_way, is_loaded, leaves_by_removal, lent, marked, memory_without, opened_base}
 use Rattle.execlib.proofs.Asking.{asking_keeps, ready_keeps, ways}
-use Rattle.execheap.specs.declared.tag.Kind.{Kind}
-use Rattle.execheap.specs.Tags.{kind_code, size_of, tag_of}
-use Rattle.execheap.specs.Table.{Tabled, IsSound, after_asking, library_opened, next_object, object_at_next, pool_of, ready_for, ready_for_number, with_lent, with_object}
-use Rattle.execheap.proofs.Keeping.{kept_made, pool_is}
-use Rattle.execheap.proofs.LibraryTables.{sound_after, sound_opened, sound_removed}
-use Rattle.execheap.proofs.Plain.{sound_allocated}
+use Rattle.execheap.specs.{declared.tag.Kind.Kind, Tags.kind_code, Tags.size_of, Tags.tag_of, Table.Tabled, Table.IsSound, Table.after_asking, Table.library_opened, Table.next_object, Table.object_at_next, Table.pool_of, Table.ready_for, Table.ready_for_number, Table.with_lent, Table.with_object}
+use Rattle.execheap.proofs.{Keeping.kept_made, Keeping.pool_is, LibraryTables.sound_after, LibraryTables.sound_opened, LibraryTables.sound_removed, Plain.sound_allocated}
 
 -- loaded libraries lie in the memory
 pub lie_in : {t : Tabled} → IsSound t → LieIn t.libs t.memory

@@ -1,24 +1,14 @@
 -- A port that a request under way has as its reply port: by number a slot of the requests has it, by address a block does.
-use Rattle.std.proofs.Common.{◌≡◌, ℕ, zero, suc, List, [], ◌∷◌, Bool, true, false, map, refl, ap, sym, ◌∙◌}
-use Rattle.std.specs.Prelude.{Some, None, Option, is_some, ◌||◌, nat_eq, ◌&&◌, unwrap_or}
+use Rattle.std.proofs.Common.{◌≡◌, ℕ, zero, suc, List, [], ◌∷◌, Bool, true, false, map, refl, ap, sym, ◌∙◌, Some, None, Option, is_some, ◌||◌, nat_eq, ◌&&◌, unwrap_or}
 use Rattle.std.specs.List.{list_any}
 use Rattle.memlist.specs.Blocks.{Blocks}
 use Rattle.execlist.specs.Pool.{slot}
-use Rattle.iorequest.specs.declared.request.Request.{Request as TimerRequest}
-use Rattle.iorequest.specs.Request.{idle_request, is_under_way}
-use Rattle.iorequest.specs.Requests.{is_under_way_at}
-use Rattle.execmodel.specs.Ports.{is_awaited_at, replies_to}
-use Rattle.execmodel.specs.State.{Block}
+use Rattle.iorequest.specs.{declared.request.Request.Request as TimerRequest, Request.idle_request, Request.is_under_way, Requests.is_under_way_at}
+use Rattle.execmodel.specs.{Ports.is_awaited_at, Ports.replies_to, State.Block}
 use Rattle.execheap.specs.declared.tag.Kind.TheVariants as variant
-use Rattle.execheap.specs.declared.tag.Tagged.{Tagged}
+use Rattle.execheap.specs.{declared.tag.Tagged.Tagged, Tags.tag_of, Tags.tagged, Table.pool_of, Numbered.Numbered, Numbered.IsSound, Numbered.places, Numbered.shown_entry, Numbered.shown_heap, Numbered.shown_tagged}
 use Rattle.execheap.specs.declared.tag.Tagged.TheVariants as tag
-use Rattle.execheap.specs.Tags.{tag_of, tagged}
-use Rattle.execheap.specs.Table.{pool_of}
-use Rattle.execheap.specs.Numbered.{Numbered, IsSound, places, shown_entry, shown_heap, shown_tagged}
-use Rattle.execheap.proofs.Linked.{any_found, some_is}
-use Rattle.execheap.proofs.Matching.{number_small}
-use Rattle.execheap.proofs.Stepping.{shape_lives}
-use Rattle.execheap.proofs.Tagging.{read_tag}
+use Rattle.execheap.proofs.{Linked.any_found, Linked.some_is, Matching.number_small, Stepping.shape_lives, Tagging.read_tag}
 
 -- what a tag names is a request under way with that reply port
 abbrev Replies : ℕ → Numbered → Tagged → Bool

@@ -1,18 +1,13 @@
 -- What shows the same if others change.
-use Rattle.std.proofs.Common.{◌≡◌, ℕ, List, true, false, map, ap, refl, sym, ◌∙◌}
-use Rattle.std.specs.Prelude.{Some, None, Option, if◌then◌else◌, IsSome, unwrap_or, ◌==◌, ◌++◌}
+use Rattle.std.proofs.Common.{◌≡◌, ℕ, List, true, false, map, ap, refl, sym, ◌∙◌, Some, None, Option, if◌then◌else◌, IsSome, unwrap_or, ◌==◌, ◌++◌}
 use Rattle.std.specs.List.{list_any}
-use Rattle.execlist.specs.Lists.{home, is_at, sequence, times, key_at}
-use Rattle.execlist.specs.Pool.{slot}
+use Rattle.execlist.specs.{Lists.home, Lists.is_at, Lists.sequence, Lists.times, Lists.key_at, Pool.slot}
 use Rattle.msgport.specs.Ports.{messages_of, port_at}
 use Rattle.timerdev.specs.Timing.{Waiting, is_waiting}
 use Rattle.execmodel.specs.State.{ListHead, MsgPort}
-use Rattle.execheap.specs.declared.tag.Kind.{Kind}
+use Rattle.execheap.specs.{declared.tag.Kind.Kind, Table.Tabled, Table.slots_of, Numbered.Numbered, Numbered.address_in, Numbered.object_of, Numbered.places, Numbered.shown_public, Numbered.shown_timer, Numbered.shown_waiting}
 use Rattle.execheap.specs.declared.tag.Kind.TheVariants as variant
-use Rattle.execheap.specs.Table.{Tabled, slots_of}
-use Rattle.execheap.specs.Numbered.{Numbered, address_in, object_of, places, shown_public, shown_timer, shown_waiting}
-use Rattle.execheap.proofs.Mapped.{map_agree, members, stands_by_times}
-use Rattle.execheap.proofs.Waits.{waiting_members}
+use Rattle.execheap.proofs.{Mapped.map_agree, Mapped.members, Mapped.stands_by_times, Waits.waiting_members}
 
 -- ---- objects that show the addresses of others
 

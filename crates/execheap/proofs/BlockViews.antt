@@ -1,15 +1,8 @@
 -- What is seen of a block, reported by its tag.
-use Rattle.std.proofs.Common.{◌≡◌, ℕ, ◌≤◌, List, [], ◌∷◌, zero, suc, length, refl, ap, sym, ◌∙◌, arith}
-use Rattle.std.specs.Prelude.{Option, None, Some, slice_index_or}
-use Rattle.std.specs.Option.{option_map}
+use Rattle.std.proofs.Common.{◌≡◌, ℕ, ◌≤◌, List, [], ◌∷◌, zero, suc, length, refl, ap, sym, ◌∙◌, arith, Option, None, Some, slice_index_or, option_map}
 use Rattle.memlist.specs.Blocks.{block_at}
 use Rattle.execmodel.specs.Places as model
-use Rattle.execheap.specs.declared.tag.Tagged.{Tagged}
-use Rattle.execheap.specs.declared.view.BlockView.{BlockView}
-use Rattle.execheap.specs.BlockViews.{block_view, object_view}
-use Rattle.execheap.specs.Tags.{tagged}
-use Rattle.execheap.specs.Table.{begins_at}
-use Rattle.execheap.specs.Numbered.{Numbered, shown_block, shown_heap, shown_tagged}
+use Rattle.execheap.specs.{declared.tag.Tagged.Tagged, declared.view.BlockView.BlockView, BlockViews.block_view, BlockViews.object_view, Tags.tagged, Table.begins_at, Numbered.Numbered, Numbered.shown_block, Numbered.shown_heap, Numbered.shown_tagged}
 use Rattle.execheap.proofs.Showing.{block_shown}
 
 -- what is seen of a block, by its size and what begins there

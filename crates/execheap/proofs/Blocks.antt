@@ -1,16 +1,8 @@
 -- Blocks by number and by address: where one fits, and how much is free, is the same.
-use Rattle.std.proofs.Common.{◌≡◌, ℕ, List, [], ◌∷◌, ◌++◌, ◌+◌, map, refl, ap, ◌∙◌}
+use Rattle.std.proofs.Common.{◌≡◌, ℕ, List, [], ◌∷◌, ◌++◌, ◌+◌, map, refl, ap, ◌∙◌, None, Option, Some, ◌&&◌, nat_eq, if◌then◌else◌, is_some, option_map, option_and_then, filter, flat_map, sum_by}
 use Rattle.std.proofs.Math.Path.{fun_ext}
-use Rattle.std.specs.Prelude.{None, Option, Some, ◌&&◌, nat_eq, if◌then◌else◌, is_some}
-use Rattle.std.specs.Option.{option_map, option_and_then}
-use Rattle.std.specs.List.{filter, flat_map, sum_by}
 use Rattle.execlist.specs.Order.{chosen}
-use Rattle.memlist.specs.declared.gap.Gap.{Gap}
-use Rattle.memlist.specs.declared.region.Region.{Region}
-use Rattle.memlist.specs.Regions.{region_end, total_size}
-use Rattle.memlist.specs.Blocks.{Blocks, blocks_in, is_in, gaps_between, gaps, stretch}
-use Rattle.memlist.specs.Fit.{fit, avail, round, asks, is_suitable, lowest_gap, greatest, region_pri}
-use Rattle.memlist.specs.Readers.{gaps_in}
+use Rattle.memlist.specs.{declared.gap.Gap.Gap, declared.region.Region.Region, Regions.region_end, Regions.total_size, Blocks.Blocks, Blocks.blocks_in, Blocks.is_in, Blocks.gaps_between, Blocks.gaps, Blocks.stretch, Fit.fit, Fit.avail, Fit.round, Fit.asks, Fit.is_suitable, Fit.lowest_gap, Fit.greatest, Fit.region_pri, Readers.gaps_in}
 use Rattle.execmodel.specs.Memory.{extents, place_for}
 use Rattle.execheap.specs.Numbered.{Numbered, shown_entry, shown_heap, shown_memory}
 use Rattle.execheap.proofs.Entries.{where_key_shown}

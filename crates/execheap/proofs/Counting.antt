@@ -1,14 +1,8 @@
 -- How many blocks have a tag of some sort, and what holds of every block, where a block is put or freed.
-use Rattle.std.proofs.Common.{◌≡◌, ◌≢◌, ℕ, ◌+◌, [], ◌∷◌, Bool, true, false, cond, length, ap, sym, ◌∙◌, subst, arith}
-use Rattle.std.specs.Prelude.{Some, None, is_some, nat_eq, not, if◌then◌else◌}
-use Rattle.std.specs.List.{AllByRecursion, filter}
-use Rattle.std.specs.Ordering.{nat_cmp, eq_by_cmp}
-use Rattle.std.specs.FinMap.{put}
+use Rattle.std.proofs.Common.{◌≡◌, ◌≢◌, ℕ, ◌+◌, [], ◌∷◌, Bool, true, false, cond, length, ap, sym, ◌∙◌, subst, arith, Some, None, is_some, nat_eq, not, if◌then◌else◌, filter, nat_cmp}
+use Rattle.std.specs.{List.AllByRecursion, Ordering.eq_by_cmp, FinMap.put}
 use Rattle.memlist.specs.Blocks.{Blocks, block_at, freed}
-use Rattle.memlist.proofs.Answered.{cases_eq, found_here, found_later, key_same, nat_eq-same, put_after, put_before}
-use Rattle.memlist.proofs.Gaps.{freed_later}
-use Rattle.memlist.proofs.Merged.{IsRising, cases_order, put_same}
-use Rattle.memlist.proofs.Slots.{AllFrom, freed_none}
+use Rattle.memlist.proofs.{Answered.cases_eq, Answered.found_here, Answered.found_later, Answered.key_same, Answered.nat_eq-same, Answered.put_after, Answered.put_before, Gaps.freed_later, Merged.IsRising, Merged.cases_order, Merged.put_same, Slots.AllFrom, Slots.freed_none}
 
 module _ (p : ℕ → Bool) where
   -- how many blocks have a tag that passes

@@ -1,36 +1,21 @@
 -- A task that waits for no semaphore any more, and one that begins to wait: by number and by address it is the same.
-use Rattle.std.proofs.Common.{◌≡◌, ℕ, ◌<◌, [], ◌∷◌, ◌++◌, Bool, true, false, map, length, refl, ap, sym, ◌∙◌, arith}
-use Rattle.std.specs.Prelude.{Option, Some, None, if◌then◌else◌, slice_set, ◌==◌, IsTrue}
+use Rattle.std.proofs.Common.{◌≡◌, ℕ, ◌<◌, [], ◌∷◌, ◌++◌, Bool, true, false, map, length, refl, ap, sym, ◌∙◌, arith, Option, Some, None, if◌then◌else◌, slice_set, ◌==◌, IsTrue}
 use Rattle.std.specs.List.{list_any}
 use Rattle.std.proofs.Math.Path.{fun_ext}
 use Rattle.std.proofs.lemmas.Simd.{map-map}
-use Rattle.execlist.specs.Order.{without}
-use Rattle.execlist.specs.Lists.{is_at, times}
+use Rattle.execlist.specs.{Order.without, Lists.is_at, Lists.times, Pool.slot}
 use Rattle.execlist.proofs.Pools.{item_of}
 use Rattle.memlist.proofs.Answered.{nat_eq-other, nat_eq-same}
 use Rattle.sigsem.specs.Semaphores as sems
 use Rattle.sigsem.specs.Semaphores.{Semaphores, dropped_from, sem_at, waiters_of, waits_at}
-use Rattle.execlist.specs.Pool.{slot}
 use Rattle.memlist.specs.Memory.{IsWellFormed}
-use Rattle.execmodel.specs.State.{Object, Semaphore, Block, on_heap}
+use Rattle.execmodel.specs.{State.Object, State.Semaphore, State.Block, State.on_heap, Semaphores.left_by_task}
 use Rattle.execmodel.specs.Semaphores as model
-use Rattle.execmodel.specs.Semaphores.{left_by_task}
-use Rattle.execheap.specs.declared.tag.Kind.{Kind}
-use Rattle.execheap.specs.declared.tag.Kind.TheVariants as variant
-use Rattle.execheap.specs.declared.tag.Tagged.{Tagged}
-use Rattle.execheap.specs.declared.tag.Tagged.TheVariants as tag
-use Rattle.execheap.specs.Tags.{tagged}
 use Rattle.execheap.specs.Numbered.{Numbered, IsSound, object_of, shown_entry, shown_heap, shown_memory, shown_tagged, places}
-use Rattle.execheap.specs.Table.{number_at, pool_of}
-use Rattle.execheap.specs.Changes.{on_semaphores}
-use Rattle.execheap.proofs.Mapped.{stands_by_times, without_absent}
-use Rattle.execheap.proofs.Owning.{attempted_heap, entered_heap, heap_owned, queue_heap, released_heap}
-use Rattle.execheap.proofs.Posted.{item_known}
-use Rattle.execheap.proofs.Relisted.{Tells, sequence_set}
-use Rattle.execheap.proofs.Matching.{number_live}
-use Rattle.execheap.proofs.Shown.{sem_shown, tells, waiters_shown}
-use Rattle.execheap.proofs.Stepping.{shape_lives}
-use Rattle.execheap.proofs.Tagging.{either_number}
+use Rattle.execheap.specs.{declared.tag.Kind.Kind, declared.tag.Tagged.Tagged, Tags.tagged, Table.number_at, Table.pool_of, Changes.on_semaphores}
+use Rattle.execheap.specs.declared.tag.Kind.TheVariants as variant
+use Rattle.execheap.specs.declared.tag.Tagged.TheVariants as tag
+use Rattle.execheap.proofs.{Mapped.stands_by_times, Mapped.without_absent, Owning.attempted_heap, Owning.entered_heap, Owning.heap_owned, Owning.queue_heap, Owning.released_heap, Posted.item_known, Relisted.Tells, Relisted.sequence_set, Matching.number_live, Shown.sem_shown, Shown.tells, Shown.waiters_shown, Stepping.shape_lives, Tagging.either_number}
 
 -- ---- the queues without a task
 

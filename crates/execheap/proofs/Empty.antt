@@ -1,26 +1,19 @@
 -- The memory of a machine at first: no object lives.
-use Rattle.std.proofs.Common.{◌≡◌, ℕ, ◌+◌, ◌-◌, List, [], Bool, map, true, false, refl, ap, sym, ◌∙◌, subst, arith}
-use Rattle.std.specs.Prelude.{None, Option, is_some, unwrap_or, ◌&&◌}
+use Rattle.std.proofs.Common.{◌≡◌, ℕ, ◌+◌, ◌-◌, List, [], Bool, map, true, false, refl, ap, sym, ◌∙◌, subst, arith, None, Option, is_some, unwrap_or, ◌&&◌}
 use Rattle.std.proofs.lemmas.List.{length-replicate}
 use Rattle.execlib.specs.Libraries.{Description}
 use Rattle.memlist.specs.declared.region.Region.{Region}
 use Rattle.execlist.proofs.Pools.{slot_new}
 use Rattle.execlist.specs.Pool.{Pooled, all_free}
-use Rattle.iorequest.specs.declared.request.Request.{Request}
-use Rattle.iorequest.specs.Request.{idle_request, is_under_way}
+use Rattle.iorequest.specs.{declared.request.Request.Request, Request.idle_request, Request.is_under_way}
 use Rattle.sigsem.specs.declared.semaphore.Sem.{Sem}
-use Rattle.msgport.specs.declared.message.Message.{Message}
-use Rattle.msgport.specs.Ports.{no_ports}
-use Rattle.msgport.specs.Port.{Port}
+use Rattle.msgport.specs.{declared.message.Message.Message, Ports.no_ports, Port.Port}
 use Rattle.timerdev.specs.Timing.{new_timer}
-use Rattle.execheap.specs.declared.tag.Kind.{Kind}
+use Rattle.execheap.specs.Numbered.{Fits, IsInTime, IsKept, Numbered, is_way_at, own_shape, shown_heap, shown_library, shown_memory}
+use Rattle.execheap.specs.{declared.tag.Kind.Kind, Table.pool_of, Changes.reserved, Changes.unused}
 use Rattle.execheap.specs.declared.tag.Kind.TheVariants as variant
 use Rattle.execheap.specs.Table as table
-use Rattle.execheap.specs.Table.{pool_of}
-use Rattle.execheap.specs.Numbered.{Fits, IsInTime, IsKept, Numbered, is_way_at, own_shape, shown_heap, shown_library, shown_memory}
-use Rattle.execheap.specs.Changes.{reserved, unused}
-use Rattle.execheap.proofs.Reserved.{IsReserved, all_reserved, front_new, reserved_beside}
-use Rattle.execheap.proofs.Stepping.{shape_new}
+use Rattle.execheap.proofs.{Reserved.IsReserved, Reserved.all_reserved, Reserved.front_new, Reserved.reserved_beside, Stepping.shape_new}
 
 -- the messages of the requests at first
 made_unused : (pool : ℕ) → IsReserved (pool + pool) pool (reserved pool (no_ports pool (pool + pool))).messages

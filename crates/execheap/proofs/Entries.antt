@@ -1,18 +1,8 @@
 -- Entries of blocks: each is the one that its address finds, and what holds of each entry carries over to what is shown.
-use Rattle.std.proofs.Common.{◌≡◌, ℕ, ◌+◌, ◌<◌, List, [], ◌∷◌, Bool, true, false, cond, map, refl, ap, sym, ◌∙◌, subst, arith}
-use Rattle.std.specs.Prelude.{Option, Some, is_some, unwrap_or}
-use Rattle.std.specs.Option.{option_map}
-use Rattle.std.specs.List.{AllByRecursion}
-use Rattle.std.specs.Ordering.{nat_cmp, eq_by_cmp, is_eq}
-use Rattle.std.specs.declared.cmp.Ordering.{Ordering}
-use Rattle.std.specs.declared.cmp.Ordering.TheVariants.{Less, Equal, Greater}
-use Rattle.std.specs.FinMap.{find, is_sorted, put}
-use Rattle.std.specs.FinMap.Entries.{where_key, by_order}
+use Rattle.std.proofs.Common.{◌≡◌, ℕ, ◌+◌, ◌<◌, List, [], ◌∷◌, Bool, true, false, cond, map, refl, ap, sym, ◌∙◌, subst, arith, Option, Some, is_some, unwrap_or, option_map, nat_cmp, is_eq, Ordering, Less, Equal, Greater}
+use Rattle.std.specs.{List.AllByRecursion, Ordering.eq_by_cmp, FinMap.find, FinMap.is_sorted, FinMap.put, FinMap.Entries.where_key, FinMap.Entries.by_order}
 use Rattle.memlist.specs.Blocks.{Blocks}
-use Rattle.memlist.proofs.Answered.{cmp_greater, cmp_less, cmp_same}
-use Rattle.memlist.proofs.Keeping.{rising_sorted}
-use Rattle.memlist.proofs.Merged.{IsRising, cases_order}
-use Rattle.memlist.proofs.Slots.{AllFrom}
+use Rattle.memlist.proofs.{Answered.cmp_greater, Answered.cmp_less, Answered.cmp_same, Keeping.rising_sorted, Merged.IsRising, Merged.cases_order, Slots.AllFrom}
 
 pub some_same : {A : Type 0} {x y : A} → Some x ≡ Some y → x ≡ y
 some_same {x = x} e = ap (λ o. unwrap_or o x) e

@@ -1,21 +1,15 @@
 -- The objects of a memory in which all was freed: no object lives, and the messages of the requests stay.
-use Rattle.std.proofs.Common.{◌≡◌, ℕ, ◌+◌, ◌-◌, ◌<◌, ◌≤◌, List, [], Bool, map, length, drop, replicate, refl, ap, sym, ◌∙◌, subst, arith}
-use Rattle.std.specs.Prelude.{None, Option, is_some, IsTrue}
-use Rattle.std.proofs.lemmas.List.{get_or-append_right, get_or-drop, get_or_append_left, length-append, length-drop, length-map, length-replicate}
-use Rattle.execlist.specs.Lists.{blank}
-use Rattle.execlist.specs.Pool.{Pooled, all_free, free_below, slot}
+use Rattle.std.proofs.Common.{◌≡◌, ℕ, ◌+◌, ◌-◌, ◌<◌, ◌≤◌, List, [], Bool, map, length, drop, replicate, refl, ap, sym, ◌∙◌, subst, arith, None, Option, is_some, IsTrue, get_or-drop, length-append, length-drop}
+use Rattle.std.proofs.lemmas.List.{get_or-append_right, get_or_append_left, length-map, length-replicate}
+use Rattle.execlist.specs.{Lists.blank, Pool.Pooled, Pool.all_free, Pool.free_below, Pool.slot}
 use Rattle.execlist.proofs.Pools.{slot_new}
-use Rattle.msgport.specs.declared.message.Message.{Message}
-use Rattle.msgport.specs.Ports.{all_freed, is_message, no_ports}
+use Rattle.msgport.specs.{declared.message.Message.Message, Ports.all_freed, Ports.is_message, Ports.no_ports}
 use Rattle.sigsem.specs.Semaphores.{no_sems}
 use Rattle.timerdev.specs.Timing.{new_timer}
-use Rattle.execheap.specs.declared.tag.Kind.{Kind}
+use Rattle.execheap.specs.{declared.tag.Kind.Kind, Table.pool_of, Numbered.IsKept, Numbered.IsSound, Numbered.Numbered, Numbered.Shape, Numbered.shape, Numbered.shown_library, Numbered.shown_memory}
 use Rattle.execheap.specs.declared.tag.Kind.TheVariants as variant
 use Rattle.execheap.specs.Table as table
-use Rattle.execheap.specs.Table.{pool_of}
-use Rattle.execheap.specs.Numbered.{IsKept, IsSound, Numbered, Shape, shape, shown_library, shown_memory}
-use Rattle.execheap.proofs.Empty.{kept_with, unused_with, with_shown}
-use Rattle.execheap.proofs.Reserved.{IsReserved}
+use Rattle.execheap.proofs.{Empty.kept_with, Empty.unused_with, Empty.with_shown, Reserved.IsReserved}
 
 -- each number from the pool on is that of a request's message
 pub message_there : (s : Numbered) → IsKept s → (m : ℕ) → s.table.pool ≤ m → m < length s.ports.messages.slots → IsTrue (is_message m s.ports)

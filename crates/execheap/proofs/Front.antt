@@ -1,14 +1,11 @@
 -- The first numbers of a pool, and the messages of the table among them.
-use Rattle.std.proofs.Common.{◌≡◌, ℕ, zero, suc, ◌<◌, List, [], ◌∷◌, map, slice_set, refl, ap, sym, ◌∙◌, arith}
-use Rattle.std.specs.Prelude.{Some, None, Option, is_some, take, IsTrue, IsSome}
+use Rattle.std.proofs.Common.{◌≡◌, ℕ, zero, suc, ◌<◌, List, [], ◌∷◌, map, slice_set, refl, ap, sym, ◌∙◌, arith, Some, None, Option, is_some, take, IsTrue, IsSome}
 use Rattle.execlist.specs.Pool.{Pooled, given, given_at, next_number, released, slot}
 use Rattle.execlist.proofs.Pools.{item_of, slot_known}
-use Rattle.msgport.specs.declared.message.Message.{Message}
-use Rattle.msgport.specs.Ports.{is_message}
+use Rattle.msgport.specs.{declared.message.Message.Message, Ports.is_message}
 use Rattle.execheap.specs.declared.tag.Kind.TheVariants as variant
 use Rattle.execheap.specs.Table as table
-use Rattle.execheap.specs.Table.{pool_of, slots_of}
-use Rattle.execheap.specs.Numbered.{Numbered, IsKept, Shape, shape, places}
+use Rattle.execheap.specs.{Table.pool_of, Table.slots_of, Numbered.Numbered, Numbered.IsKept, Numbered.Shape, Numbered.shape, Numbered.places}
 use Rattle.execheap.proofs.Stepping.{shape_lives, shape_next}
 
 module _ {A : Type 0} where

@@ -1,19 +1,12 @@
 -- The requests and their messages go on agreeing if calls leave them alone.
-use Rattle.std.proofs.Common.{◌≡◌, ℕ, ◌+◌, ◌<◌, ◌≤◌, ◌^◌, length, ap, sym, ◌∙◌, subst, arith}
-use Rattle.std.specs.Prelude.{Some, nat_lt, Option, is_some, slice_set, IsSome, IsTrue}
-use Rattle.std.proofs.lemmas.List.{length-set}
+use Rattle.std.proofs.Common.{◌≡◌, ℕ, ◌+◌, ◌<◌, ◌≤◌, ◌^◌, length, ap, sym, ◌∙◌, subst, arith, Some, nat_lt, Option, is_some, slice_set, IsSome, IsTrue, length-set}
 use Rattle.execlist.proofs.Pools.{slot_other}
-use Rattle.execlist.specs.Lists.{home, times}
-use Rattle.execlist.specs.Pool.{Pooled, slot}
-use Rattle.iorequest.specs.declared.request.Request.{Request as TimerRequest}
-use Rattle.iorequest.specs.Requests.{request_at}
-use Rattle.msgport.specs.declared.message.Message.{Message}
-use Rattle.msgport.specs.Ports.{MessagePorts, is_message}
-use Rattle.timerdev.specs.Held.{Held}
-use Rattle.timerdev.specs.Timing.{is_waiting}
+use Rattle.execlist.specs.{Lists.home, Lists.times, Pool.Pooled, Pool.slot}
+use Rattle.iorequest.specs.{declared.request.Request.Request as TimerRequest, Requests.request_at}
+use Rattle.msgport.specs.{declared.message.Message.Message, Ports.MessagePorts, Ports.is_message}
+use Rattle.timerdev.specs.{Held.Held, Timing.is_waiting}
 use Rattle.execheap.specs.declared.tag.Kind.TheVariants as variant
-use Rattle.execheap.specs.Table.{slots_of}
-use Rattle.execheap.specs.Numbered.{Numbered, IsInTime, is_way_at, message_of_request, places}
+use Rattle.execheap.specs.{Table.slots_of, Numbered.Numbered, Numbered.IsInTime, Numbered.is_way_at, Numbered.message_of_request, Numbered.places}
 
 -- what is held and waits is the same, the message of each request is there, and is in a port only if it was
 pub record IsAlong (s u : Numbered) : Type 0 where

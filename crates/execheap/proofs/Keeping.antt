@@ -1,14 +1,9 @@
 -- A table stays sound by what its calls make of its parts.
-use Rattle.std.proofs.Common.{◌≡◌, ℕ, zero, suc, ◌<◌, List, [], ◌∷◌, length, refl, ap, sym, ◌∙◌, subst, arith}
-use Rattle.std.specs.Prelude.{Some, slice_index_or, slice_set}
-use Rattle.memlist.specs.Fit.{fit}
-use Rattle.memlist.specs.Memory.{IsWellFormed, Memory, allocated, without_block}
+use Rattle.std.proofs.Common.{◌≡◌, ℕ, zero, suc, ◌<◌, List, [], ◌∷◌, length, refl, ap, sym, ◌∙◌, subst, arith, Some, slice_index_or, slice_set}
+use Rattle.memlist.specs.{Fit.fit, Memory.IsWellFormed, Memory.Memory, Memory.allocated, Memory.without_block}
 use Rattle.execlist.specs.Pool.{IsStocked, Pooled, all_free, given, next_number, released, slot}
-use Rattle.execheap.specs.declared.tag.Kind.{Kind}
-use Rattle.execheap.specs.Tags.{kind_code, size_of, tag_of}
-use Rattle.execheap.specs.Table.{Tabled, IsSound, pool_of, slots_of}
-use Rattle.execheap.proofs.Matching.{sound_freed, sound_made}
-use Rattle.execheap.proofs.Tagging.{kind_few}
+use Rattle.execheap.specs.{declared.tag.Kind.Kind, Tags.kind_code, Tags.size_of, Tags.tag_of, Table.Tabled, Table.IsSound, Table.pool_of, Table.slots_of}
+use Rattle.execheap.proofs.{Matching.sound_freed, Matching.sound_made, Tagging.kind_few}
 
 at_known : (xs : List (Pooled ℕ)) (i : ℕ) (d e : Pooled ℕ) → i < length xs → slice_index_or xs i d ≡ slice_index_or xs i e
 at_known [] i d e l = absurd (omega (arith, l))

@@ -1,18 +1,11 @@
 -- What objects hold goes on fitting the table if an object of any kind is made or freed.
-use Rattle.std.proofs.Common.{length, ◌≡◌, ◌≢◌, ℕ, ap, sym, ◌∙◌, subst}
-use Rattle.std.specs.Prelude.{Some, is_some, IsSome}
-use Rattle.execlist.specs.Lists.{home}
-use Rattle.execlist.specs.Pool.{IsStocked, Pooled, given, next_number, released, slot}
-use Rattle.memlist.specs.Fit.{fit}
-use Rattle.memlist.specs.Memory.{IsWellFormed, Memory}
-use Rattle.execheap.specs.declared.tag.Kind.{Kind}
+use Rattle.std.proofs.Common.{length, ◌≡◌, ◌≢◌, ℕ, ap, sym, ◌∙◌, subst, Some, is_some, IsSome}
+use Rattle.execlist.specs.{Lists.home, Pool.IsStocked, Pool.Pooled, Pool.given, Pool.next_number, Pool.released, Pool.slot}
+use Rattle.memlist.specs.{Fit.fit, Memory.IsWellFormed, Memory.Memory}
+use Rattle.execheap.specs.{declared.tag.Kind.Kind, Tags.kind_code, Tags.size_of, Table.Tabled, Table.IsSound, Table.pool_of, Table.slots_of, Table.with_object, Table.without_object, Numbered.Numbered, Numbered.Fits, Numbered.IsApt, Numbered.IsKept, Numbered.message_of_request, Numbered.own_shape}
 use Rattle.execheap.specs.declared.tag.Kind.TheVariants as variant
-use Rattle.execheap.specs.Tags.{kind_code, size_of}
-use Rattle.execheap.specs.Table.{Tabled, IsSound, pool_of, slots_of, with_object, without_object}
-use Rattle.execheap.specs.Numbered.{Numbered, Fits, IsApt, IsKept, message_of_request, own_shape}
-use Rattle.execheap.proofs.InTime.{IsAbout, IsAlong, in_time_kept}
 use Rattle.execheap.proofs.Matching.{cases_object, changed, freed_beside, lives_beside, made_beside, made_here, pool_here, pool_other, sound_freed, sound_made}
-use Rattle.execheap.proofs.Tagging.{cases_kind}
+use Rattle.execheap.proofs.{InTime.IsAbout, InTime.IsAlong, InTime.in_time_kept, Tagging.cases_kind}
 
 module _ {s : Numbered} (sound : IsSound s.table) (formed : IsWellFormed s.table.memory.regions s.table.memory.blocks) (kept : IsKept s)
     (kind : Kind) (number a : ℕ) where

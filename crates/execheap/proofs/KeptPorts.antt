@@ -1,23 +1,13 @@
 -- What calls on ports and messages leave alone.
-use Rattle.std.proofs.Common.{◌≡◌, ℕ, ◌<◌, ◌≤◌, List, true, false, length, refl, ap, sym, ◌∙◌, subst, arith}
-use Rattle.std.specs.Prelude.{Some, None, Option, Ok, Result, is_ok, is_some, slice_set, unwrap_or, IsTrue}
+use Rattle.std.proofs.Common.{◌≡◌, ℕ, ◌<◌, ◌≤◌, List, true, false, length, refl, ap, sym, ◌∙◌, subst, arith, Some, None, Option, Ok, Result, is_ok, is_some, slice_set, unwrap_or, IsTrue}
 use Rattle.memlist.proofs.Answered.{cases_eq}
-use Rattle.execlist.specs.Lists.{home}
-use Rattle.execlist.specs.Pool.{Pooled, slot, written}
+use Rattle.execlist.specs.{Lists.home, Pool.Pooled, Pool.slot, Pool.written, Answers.fault_or, Answers.kept_or}
 use Rattle.execlist.proofs.Pools.{item_of, slot_known, slot_other, slot_same}
 use Rattle.msgport.proofs.Linking.{left_home}
-use Rattle.msgport.specs.declared.fault.PortFault.{PortFault}
-use Rattle.msgport.specs.declared.message.Message.{Message}
-use Rattle.execlist.specs.Answers.{fault_or, kept_or}
-use Rattle.msgport.specs.Port.{Port, new_port}
-use Rattle.msgport.specs.Ports.{MessagePorts, is_message, is_port, taken_off, with_message, with_port}
-use Rattle.execheap.specs.declared.tag.Kind.{Kind}
+use Rattle.msgport.specs.{declared.fault.PortFault.PortFault, declared.message.Message.Message, Port.Port, Port.new_port, Ports.MessagePorts, Ports.is_message, Ports.is_port, Ports.taken_off, Ports.with_message, Ports.with_port}
+use Rattle.execheap.specs.{declared.tag.Kind.Kind, Table.pool_of, Numbered.Numbered, Numbered.Fits, Numbered.IsKept, Numbered.message_of_request, Numbered.own_shape, Numbered.shape}
 use Rattle.execheap.specs.declared.tag.Kind.TheVariants as variant
-use Rattle.execheap.specs.Table.{pool_of}
-use Rattle.execheap.specs.Numbered.{Numbered, Fits, IsKept, message_of_request, own_shape, shape}
-use Rattle.execheap.proofs.Front.{front_step}
-use Rattle.execheap.proofs.InTime.{IsAlong, about_same, in_time_kept}
-use Rattle.execheap.proofs.Stepping.{shape_length, shape_lives, shape_written}
+use Rattle.execheap.proofs.{Front.front_step, InTime.IsAlong, InTime.about_same, InTime.in_time_kept, Stepping.shape_length, Stepping.shape_lives, Stepping.shape_written}
 
 -- a port, if there is one, has a signal of its task's own
 abbrev pub IsOwn : Option Port → Type 0

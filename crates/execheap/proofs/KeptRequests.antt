@@ -1,31 +1,18 @@
 -- What calls on requests leave alone: by number, the invariant goes on if one request changes, with its message and its place in the timer.
-use Rattle.std.proofs.Common.{◌≡◌, ◌≢◌, ℕ, ◌+◌, ◌<◌, ◌≤◌, ◌^◌, Bool, true, false, inl, inr, ◌⊎◌, refl, ap, sym, ◌∙◌, subst, arith}
-use Rattle.std.specs.Prelude.{ℤ, Some, None, Option, is_some, not, unwrap_or, ◌&&◌, ◌||◌, ◌/◌, ◌%◌, if◌then◌else◌, IfSome, IsSome, IsTrue}
+use Rattle.std.proofs.Common.{◌≡◌, ◌≢◌, ℕ, ◌+◌, ◌<◌, ◌≤◌, ◌^◌, Bool, true, false, inl, inr, ◌⊎◌, refl, ap, sym, ◌∙◌, subst, arith, ℤ, Some, None, Option, is_some, not, unwrap_or, ◌&&◌, ◌||◌, ◌/◌, ◌%◌, if◌then◌else◌, IfSome, IsSome, IsTrue}
 use Rattle.std.proofs.lemmas.Bool.{cases_eq}
-use Rattle.execlist.specs.Lists.{home}
-use Rattle.execlist.specs.Pool.{Pooled, slot}
+use Rattle.execlist.specs.{Lists.home, Pool.Pooled, Pool.slot, Answers.kept_or}
 use Rattle.execlist.proofs.Pools.{item_of, slot_known, slot_other, slot_same}
-use Rattle.iorequest.specs.declared.request.Request.{Request as TimerRequest}
-use Rattle.iorequest.specs.declared.fault.ReqFault.TheVariants.{InUse}
-use Rattle.execlist.specs.Answers.{kept_or}
 use Rattle.iorequest.specs.Request.{asks_time, begun, done_state, finished, idle_request, is_under_way, is_way, reply_port, second}
-use Rattle.iorequest.specs.Requests.{in_use_fault, is_request, request_at, with_request}
-use Rattle.msgport.specs.Port.{Port}
+use Rattle.iorequest.specs.{declared.request.Request.Request as TimerRequest, declared.fault.ReqFault.TheVariants.InUse, Requests.in_use_fault, Requests.is_request, Requests.request_at, Requests.with_request}
 use Rattle.msgport.specs.declared.fault.PortFault.TheVariants.{Link, Unknown}
+use Rattle.msgport.specs.{Port.Port, Ports.MessagePorts, Ports.is_held, Ports.is_message, Ports.is_port, Ports.is_queued as is_in_port, Ports.let_go, Ports.loose_fault, Ports.nt_replymsg, Ports.posted, Ports.queued_fault, Ports.taken_out}
 use Rattle.msgport.specs.Ports as ports
-use Rattle.msgport.specs.Ports.{MessagePorts, is_held, is_message, is_port, is_queued as is_in_port, let_go, loose_fault, nt_replymsg, posted, queued_fault, taken_out}
-use Rattle.timerdev.specs.Held.{Held, on_timer}
-use Rattle.timerdev.specs.Timing.{Due, begins_to_wait, is_waiting, waits_no_more}
-use Rattle.execheap.specs.declared.tag.Kind.{Kind}
-use Rattle.execheap.specs.declared.tag.Kind.TheVariants as variant
-use Rattle.execheap.specs.Table.{number_at, pool_of}
+use Rattle.timerdev.specs.{Held.Held, Held.on_timer, Timing.Due, Timing.begins_to_wait, Timing.is_waiting, Timing.waits_no_more}
 use Rattle.execheap.specs.Numbered.{Numbered, Fits, IsInTime, IsKept, IsSound, is_way_at, message_of_request, own_shape, places, shape}
-use Rattle.execheap.proofs.Front.{front_step}
-use Rattle.execheap.specs.Requesting.{port_number, put_at}
-use Rattle.execheap.proofs.KeptPorts.{IsOwn}
-use Rattle.execheap.proofs.Matching.{number_placed}
-use Rattle.execheap.proofs.Stepping.{shape_length, shape_lives, shape_written}
-use Rattle.execheap.proofs.Waits.{IsMoved, IsTimed, moved_held, moved_let_go, moved_not, moved_out, moved_posted, timed_begun, timed_ended, timed_not}
+use Rattle.execheap.specs.{declared.tag.Kind.Kind, Table.number_at, Table.pool_of, Requesting.port_number, Requesting.put_at}
+use Rattle.execheap.specs.declared.tag.Kind.TheVariants as variant
+use Rattle.execheap.proofs.{Front.front_step, KeptPorts.IsOwn, Matching.number_placed, Stepping.shape_length, Stepping.shape_lives, Stepping.shape_written, Waits.IsMoved, Waits.IsTimed, Waits.moved_held, Waits.moved_let_go, Waits.moved_not, Waits.moved_out, Waits.moved_posted, Waits.timed_begun, Waits.timed_ended, Waits.timed_not}
 
 -- ---- one request is another
 

@@ -1,18 +1,11 @@
 -- What calls on semaphores leave alone.
-use Rattle.std.proofs.Common.{◌≡◌, ℕ, Bool, true, false, length, refl, ap, sym, ◌∙◌, subst}
-use Rattle.std.specs.Prelude.{Some, None, Option, Ok, Result, is_ok, if◌then◌else◌, IsTrue}
-use Rattle.std.proofs.lemmas.List.{length-set}
-use Rattle.execlist.specs.Order.{first}
-use Rattle.sigsem.specs.declared.fault.SemFault.{SemFault}
-use Rattle.sigsem.specs.declared.semaphore.Sem.{Sem}
-use Rattle.execlist.specs.Answers.{fault_or, kept_or}
+use Rattle.std.proofs.Common.{◌≡◌, ℕ, Bool, true, false, length, refl, ap, sym, ◌∙◌, subst, Some, None, Option, Ok, Result, is_ok, if◌then◌else◌, IsTrue, length-set}
+use Rattle.execlist.specs.{Order.first, Answers.fault_or, Answers.kept_or}
 use Rattle.sigsem.specs.Semaphores.{Semaphores, attempted, dropped, dropped_from, entered, free_sem, handed_on, is_last, is_open, is_sem, let_go, obtained, once_less, once_more, owned_by, queued, sem_at, waiters_of, waits_at, with_sem}
-use Rattle.execheap.specs.declared.tag.Kind.{Kind}
+use Rattle.sigsem.specs.{declared.fault.SemFault.SemFault, declared.semaphore.Sem.Sem}
+use Rattle.execheap.specs.{declared.tag.Kind.Kind, Table.pool_of, Numbered.Numbered, Numbered.Fits, Numbered.IsKept, Numbered.own_shape, Numbered.shape}
 use Rattle.execheap.specs.declared.tag.Kind.TheVariants as variant
-use Rattle.execheap.specs.Table.{pool_of}
-use Rattle.execheap.specs.Numbered.{Numbered, Fits, IsKept, own_shape, shape}
-use Rattle.execheap.proofs.InTime.{in_time_beside}
-use Rattle.execheap.proofs.Stepping.{shape_written}
+use Rattle.execheap.proofs.{InTime.in_time_beside, Stepping.shape_written}
 
 -- ---- what stays
 

@@ -1,37 +1,15 @@
 -- What libraries by number show by address, and what the calls on them make of it.
-use Rattle.std.proofs.Common.{◌≡◌, ◌≢◌, ℕ, ◌<◌, [], ◌∷◌, Bool, true, false, cond, length, map, refl, ap, sym, ◌∙◌}
-use Rattle.std.specs.Prelude.{Some, None, Option, is_some, nat_eq, not, find, if◌then◌else◌}
-use Rattle.std.specs.Option.{option_map, option_and_then, option_map_or}
-use Rattle.std.specs.List.{AllByRecursion}
-use Rattle.std.specs.Ordering.{nat_cmp}
-use Rattle.std.specs.FinMap.{put}
-use Rattle.std.specs.FinMap.Entries.{where_key}
-use Rattle.memlist.specs.Blocks.{Blocks, block_at}
-use Rattle.memlist.specs.Fit.{round}
-use Rattle.memlist.specs.Memory.{IsWellFormed, allocated, without_block}
+use Rattle.std.proofs.Common.{◌≡◌, ◌≢◌, ℕ, ◌<◌, [], ◌∷◌, Bool, true, false, cond, length, map, refl, ap, sym, ◌∙◌, Some, None, Option, is_some, nat_eq, not, find, if◌then◌else◌, option_map, option_and_then, nat_cmp}
+use Rattle.std.specs.{Option.option_map_or, List.AllByRecursion, FinMap.put, FinMap.Entries.where_key}
+use Rattle.memlist.specs.{Blocks.Blocks, Blocks.block_at, Fit.round, Memory.IsWellFormed, Memory.allocated, Memory.without_block}
 use Rattle.memlist.proofs.Answered.{cases_eq, found_later, nat_eq-other, nat_eq-same}
-use Rattle.execlib.specs.declared.library.Loaded.{Loaded}
-use Rattle.execlib.specs.Libraries.{count_of, expunged, is_delayed, library_tag, loaded_at, with_loaded}
-use Rattle.execmodel.specs.State.{Library, Block, on_heap}
-use Rattle.execmodel.specs.Memory.{freed, placed}
-use Rattle.execmodel.specs.Objects.{is_kind, object_at, replaced}
+use Rattle.execlib.specs.{declared.library.Loaded.Loaded, Libraries.count_of, Libraries.expunged, Libraries.is_delayed, Libraries.library_tag, Libraries.loaded_at, Libraries.with_loaded}
+use Rattle.execmodel.specs.{State.Library, State.Block, State.on_heap, Memory.freed, Memory.placed, Objects.is_kind, Objects.object_at, Objects.replaced, Libraries.is_library, Libraries.is_library_at, Libraries.is_numbered, Libraries.with_library}
 use Rattle.execmodel.specs.Libraries as model
-use Rattle.execmodel.specs.Libraries.{is_library, is_library_at, is_numbered, with_library}
-use Rattle.execheap.specs.declared.tag.Kind.{Kind}
+use Rattle.execheap.specs.{declared.tag.Kind.Kind, declared.tag.Tagged.Tagged, Tags.library_in, Tags.tagged, Table.IsSound, Table.IsTagged, Table.base_at, Table.library_at, Table.place_of, Numbered.Numbered, Numbered.object_of, Numbered.shown_block, Numbered.shown_entry, Numbered.shown_heap, Numbered.shown_memory, Numbered.shown_tagged}
 use Rattle.execheap.specs.declared.tag.Kind.TheVariants as variant
-use Rattle.execheap.specs.declared.tag.Tagged.{Tagged}
 use Rattle.execheap.specs.declared.tag.Tagged.TheVariants as tag
-use Rattle.execheap.specs.Tags.{library_in, tagged}
-use Rattle.execheap.specs.Table.{IsSound, IsTagged, base_at, library_at, place_of}
-use Rattle.execheap.specs.Numbered.{Numbered, object_of, shown_block, shown_entry, shown_heap, shown_memory, shown_tagged}
-use Rattle.execheap.proofs.Counting.{all_freed}
-use Rattle.execheap.proofs.Entries.{IsFound, all_found, all_then, all_with, map_same, put_shown, some_same, where_key_shown}
-use Rattle.execheap.proofs.Beside.{objects_kept}
-use Rattle.execheap.proofs.Loaded.{lies_known, loaded_beside, loaded_here, read_library}
-use Rattle.execheap.proofs.Matching.{tag_in}
-use Rattle.execheap.proofs.Relisted.{tagged_replaced}
-use Rattle.execheap.proofs.Showing.{object_at_shown}
-use Rattle.execheap.proofs.Tagging.{either_number}
+use Rattle.execheap.proofs.{Counting.all_freed, Entries.IsFound, Entries.all_found, Entries.all_then, Entries.all_with, Entries.map_same, Entries.put_shown, Entries.some_same, Entries.where_key_shown, Beside.objects_kept, Loaded.lies_known, Loaded.loaded_beside, Loaded.loaded_here, Loaded.read_library, Matching.tag_in, Relisted.tagged_replaced, Showing.object_at_shown, Tagging.either_number}
 
 -- a tag says that it is library i
 abbrev pub is_the_library : ℕ → Tagged → Bool

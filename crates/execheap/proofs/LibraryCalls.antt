@@ -1,23 +1,16 @@
 -- The calls on libraries by address, reported by number.
-use Rattle.std.proofs.Common.{◌≡◌, ◌≢◌, ℕ, zero, suc, ◌+◌, ◌-◌, ◌<◌, List, [], ◌∷◌, Bool, true, false, cond, length, map, refl, ap, sym, ◌∙◌, arith}
-use Rattle.std.specs.Prelude.{Some, None, Option, IfSome, is_some, nat_eq, nat_le, bytes_eq, not, ◌&&◌, slice_index_or, if◌then◌else◌, codes}
-use Rattle.std.specs.Option.{option_map, option_and_then, option_map_or}
-use Rattle.std.specs.List.{position_from}
+use Rattle.std.proofs.Common.{◌≡◌, ◌≢◌, ℕ, zero, suc, ◌+◌, ◌-◌, ◌<◌, List, [], ◌∷◌, Bool, true, false, cond, length, map, refl, ap, sym, ◌∙◌, arith, Some, None, Option, IfSome, is_some, nat_eq, nat_le, bytes_eq, not, ◌&&◌, slice_index_or, if◌then◌else◌, codes, option_map, option_and_then}
+use Rattle.std.specs.{Option.option_map_or, List.position_from}
 use Rattle.memlist.specs.Memory.{IsWellFormed, without_block}
+use Rattle.execlib.specs.Libraries.{Description, Libraries, base_or_fit, count_of, entered, expunged, is_delayed, leaves_by_close, leaves_by_removal, library_to_open, loaded_at, loads, memory_without, most_openings, number_of, opened_base, with_loaded}
 use Rattle.execlib.specs.declared.library.Loaded.{Loaded}
 use Rattle.execlib.specs.Libraries as library
-use Rattle.execlib.specs.Libraries.{Description, Libraries, base_or_fit, count_of, entered, expunged, is_delayed, leaves_by_close, leaves_by_removal, library_to_open, loaded_at, loads, memory_without, most_openings, number_of, opened_base, with_loaded}
-use Rattle.execmodel.specs.State.{Library, on_heap}
-use Rattle.execmodel.specs.Memory.{freed, place_for, placed}
+use Rattle.execmodel.specs.{State.Library, State.on_heap, Memory.freed, Memory.place_for, Memory.placed, Libraries.base_opened, Libraries.base_or_place, Libraries.entered_or_loaded, Libraries.library_named, Libraries.with_library}
 use Rattle.execmodel.specs.Libraries as model
-use Rattle.execmodel.specs.Libraries.{base_opened, base_or_place, entered_or_loaded, library_named, with_library}
 use Rattle.taskscript.specs.File.{LibraryData}
-use Rattle.execheap.specs.Table.{Tabled, IsSound, base_at, library_at, library_closed, library_opened, library_removed}
-use Rattle.execheap.specs.Numbered.{Numbered, IsKept, shown_heap, shown_library, shown_memory}
-use Rattle.execheap.proofs.Blocks.{fit_shown}
+use Rattle.execheap.specs.{Table.Tabled, Table.IsSound, Table.base_at, Table.library_at, Table.library_closed, Table.library_opened, Table.library_removed, Numbered.Numbered, Numbered.IsKept, Numbered.shown_heap, Numbered.shown_library, Numbered.shown_memory}
 use Rattle.execheap.proofs.Libraries.{base_shown, count_there, delayed_there, library_at_shown, library_changed, library_freed, library_placed, library_there, openings_shown}
-use Rattle.execheap.proofs.LibraryTables.{loads_absent, loads_loaded, loads_nowhere}
-use Rattle.execheap.proofs.Loaded.{lies_at}
+use Rattle.execheap.proofs.{Blocks.fit_shown, LibraryTables.loads_absent, LibraryTables.loads_loaded, LibraryTables.loads_nowhere, Loaded.lies_at}
 use Rattle.memlist.proofs.Answered.{nat_eq-other}
 
 -- ---- the libraries of the file

@@ -1,28 +1,16 @@
 -- A table stays sound if a library is opened, closed or removed.
-use Rattle.std.proofs.Common.{◌≡◌, ◌≢◌, ℕ, ◌<◌, Bool, true, false, cond, length, refl, ap, sym, ◌∙◌, subst, arith}
-use Rattle.std.specs.Prelude.{Some, None, Option, is_some, if◌then◌else◌, IfSome, ◌-◌}
-use Rattle.std.specs.Option.{option_and_then, option_map, option_map_or}
-use Rattle.memlist.specs.Blocks.{block_at}
-use Rattle.std.specs.Ordering.{nat_cmp}
-use Rattle.std.specs.FinMap.Entries.{find-put}
+use Rattle.std.proofs.Common.{◌≡◌, ◌≢◌, ℕ, ◌<◌, Bool, true, false, cond, length, refl, ap, sym, ◌∙◌, subst, arith, Some, None, Option, is_some, if◌then◌else◌, IfSome, ◌-◌, option_and_then, option_map, nat_cmp}
+use Rattle.std.specs.{Option.option_map_or, FinMap.Entries.find-put}
+use Rattle.memlist.specs.{Blocks.block_at, Fit.fit, Fit.round, Memory.IsWellFormed, Memory.Memory, Memory.allocated, Memory.without_block}
 use Rattle.std.proofs.lemmas.Cmp.{nat_cmp_total}
-use Rattle.memlist.specs.Fit.{fit, round}
-use Rattle.memlist.specs.Memory.{IsWellFormed, Memory, allocated, without_block}
-use Rattle.memlist.proofs.Fitting.{fitted_fresh}
-use Rattle.memlist.proofs.Answered.{cases_eq, key_same, nat_eq-other}
+use Rattle.memlist.proofs.{Fitting.fitted_fresh, Answered.cases_eq, Answered.key_same, Answered.nat_eq-other}
+use Rattle.execlib.specs.Libraries.{Libraries, base_of, base_or_fit, close_fault, count_of, entered, expunged, is_delayed, is_loaded, leaves_by_close, leaves_by_removal, library_tag, loaded_at, loads, memory_without, opened_base, public_memory, with_loaded}
 use Rattle.execlib.specs.declared.library.Loaded.{Loaded}
 use Rattle.execlist.specs.Answers.{kept_or}
 use Rattle.execlib.specs.Libraries as library
-use Rattle.execlib.specs.Libraries.{Libraries, base_of, base_or_fit, close_fault, count_of, entered, expunged, is_delayed, is_loaded, leaves_by_close, leaves_by_removal, library_tag, loaded_at, loads, memory_without, opened_base, public_memory, with_loaded}
-use Rattle.execheap.specs.Tags.{is_plain, library_in, tagged}
-use Rattle.execheap.specs.declared.tag.Tagged.{Tagged}
+use Rattle.execheap.specs.{Tags.is_plain, Tags.library_in, Tags.tagged, declared.tag.Tagged.Tagged, Table.Tabled, Table.IsSound, Table.IsTagged, Table.base_at, Table.library_at, Table.library_closed, Table.library_opened, Table.library_removed, Table.place_of, Table.tag_at}
 use Rattle.execheap.specs.declared.tag.Tagged.TheVariants as tag
-use Rattle.execheap.specs.Table.{Tabled, IsSound, IsTagged, base_at, library_at, library_closed, library_opened, library_removed, place_of, tag_at}
-use Rattle.execheap.proofs.Entries.{all_then, at_found, some_same}
-use Rattle.execheap.proofs.Loaded.{base_beside, bases_same, each_kept, lies_at, lies_known, loaded_here, read_library, tally_library}
-use Rattle.execheap.proofs.Matching.{tag_in, tag_left, tag_placed}
-use Rattle.execheap.proofs.Placing.{place_same, sound_left, sound_put}
-use Rattle.execheap.proofs.Tagging.{kind_few}
+use Rattle.execheap.proofs.{Entries.all_then, Entries.at_found, Entries.some_same, Loaded.base_beside, Loaded.bases_same, Loaded.each_kept, Loaded.lies_at, Loaded.lies_known, Loaded.loaded_here, Loaded.read_library, Loaded.tally_library, Matching.tag_in, Matching.tag_left, Matching.tag_placed, Placing.place_same, Placing.sound_left, Placing.sound_put, Tagging.kind_few}
 
 -- the memory in which a library is loaded that was, or was not
 pub loads_loaded : (i : ℕ) (base : Option ℕ) (m : Libraries) (memory : Memory) (l : Loaded) → loaded_at i m ≡ Some l → loads i base m memory ≡ memory

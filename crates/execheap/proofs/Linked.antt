@@ -1,26 +1,15 @@
 -- A node that is linked: by number it has a home, by address one list has it.
-use Rattle.std.proofs.Common.{◌≡◌, ℕ, List, [], ◌∷◌, Bool, true, false, cond, map, refl, ap, sym, ◌∙◌}
-use Rattle.std.specs.Prelude.{Some, None, Option, is_some, nat_eq, ◌==◌, ◌||◌, if◌then◌else◌, unwrap_or, IsSome}
-use Rattle.std.specs.Option.{option_map}
-use Rattle.std.specs.List.{list_any}
-use Rattle.std.specs.Ordering.{nat_cmp, eq_by_cmp}
-use Rattle.std.specs.FinMap.{find}
-use Rattle.execlist.specs.Lists.{home, is_at, sequence}
+use Rattle.std.proofs.Common.{◌≡◌, ℕ, List, [], ◌∷◌, Bool, true, false, cond, map, refl, ap, sym, ◌∙◌, Some, None, Option, is_some, nat_eq, ◌==◌, ◌||◌, if◌then◌else◌, unwrap_or, IsSome, option_map, nat_cmp}
+use Rattle.std.specs.{List.list_any, Ordering.eq_by_cmp, FinMap.find}
+use Rattle.execlist.specs.{Lists.home, Lists.is_at, Lists.sequence, Pool.slot}
 use Rattle.memlist.specs.Blocks.{Blocks}
 use Rattle.memlist.proofs.Answered.{nat_eq-other, nat_eq-same}
 use Rattle.execmodel.specs.Lists.{is_linked, nodes_in, sequence_with, stands_in}
-use Rattle.execlist.specs.Pool.{slot}
 use Rattle.execheap.specs.declared.tag.Kind.TheVariants as variant
-use Rattle.execheap.specs.declared.tag.Tagged.{Tagged}
-use Rattle.execheap.specs.declared.tag.Tagged.TheVariants as tag
-use Rattle.execheap.specs.Tags.{tag_of, tagged}
-use Rattle.execheap.specs.Table.{tag_at}
 use Rattle.execheap.specs.Numbered.{Numbered, IsSound, IsSpace, address_in, places, shown_entry, shown_heap, shown_tagged}
-use Rattle.execheap.proofs.Entries.{some_same}
-use Rattle.execheap.proofs.Beside.{at_home}
-use Rattle.execheap.proofs.Mapped.{Alike, alike_apart, stands-map, stands_by_times}
-use Rattle.execheap.proofs.Matching.{number_same, number_small}
-use Rattle.execheap.proofs.Tagging.{either_number, read_tag}
+use Rattle.execheap.specs.{declared.tag.Tagged.Tagged, Tags.tag_of, Tags.tagged, Table.tag_at}
+use Rattle.execheap.specs.declared.tag.Tagged.TheVariants as tag
+use Rattle.execheap.proofs.{Entries.some_same, Beside.at_home, Mapped.Alike, Mapped.alike_apart, Mapped.stands-map, Mapped.stands_by_times, Matching.number_same, Matching.number_small, Tagging.either_number, Tagging.read_tag}
 
 pub some_is : {A : Type 0} (o : Option A) → IsSome o → (a : A) × (o ≡ Some a)
 some_is None there = let bad : false ≡ true = there in cc

@@ -1,33 +1,22 @@
 -- Nodes linked and unlinked: what it makes of numbered objects is what it makes of those that are shown.
-use Rattle.std.proofs.Common.{◌≡◌, ℕ, ◌-◌, ◌<◌, List, [], ◌∷◌, ◌++◌, map, length, take, drop, slice_set, refl, ap, sym, ◌∙◌, arith}
-use Rattle.std.specs.Prelude.{ℤ, Some, None, Option, is_some, if◌then◌else◌, unwrap_or, option_map, IsSome, find}
-use Rattle.std.specs.Option.{ForSome}
-use Rattle.std.specs.List.{AllByRecursion}
-use Rattle.std.proofs.lemmas.Simd.{map-map}
-use Rattle.std.proofs.lemmas.List.{map-append}
-use Rattle.execlist.specs.Order.{enqueue, first, without}
+use Rattle.std.proofs.Common.{◌≡◌, ℕ, ◌-◌, ◌<◌, List, [], ◌∷◌, ◌++◌, map, length, take, drop, slice_set, refl, ap, sym, ◌∙◌, arith, ℤ, Some, None, Option, is_some, if◌then◌else◌, unwrap_or, option_map, IsSome, find}
+use Rattle.std.specs.{Option.ForSome, List.AllByRecursion}
+use Rattle.std.proofs.lemmas.{Simd.map-map, List.map-append}
 use Rattle.execlist.specs.Lists.{Key, home, is_at, is_named, last, name_is, part_after, part_before, part_from, pri_of, put_after, sequence, key_at}
+use Rattle.execlist.specs.{Order.enqueue, Order.first, Order.without, Pool.slot}
 use Rattle.memlist.specs.Memory.{IsWellFormed}
-use Rattle.execmodel.specs.State.{Object, ListHead, Block, Heap, on_heap}
 use Rattle.execmodel.specs.Lists.{added_head, added_tail, enqueued, found_node, first_of, has_name, inserted, key_of, last_of, left_by, nodes_of, or_none, pred_of, predecessor, removed_head, removed_tail, searched, succ_of, unlinked, with_nodes}
-use Rattle.execlist.specs.Pool.{slot}
-use Rattle.execheap.specs.declared.tag.Kind.{Kind}
-use Rattle.execheap.specs.declared.tag.Kind.TheVariants as variant
-use Rattle.execheap.specs.declared.tag.Tagged.{Tagged}
-use Rattle.execheap.specs.declared.tag.Tagged.TheVariants as tag
-use Rattle.execheap.specs.Tags.{tagged}
+use Rattle.execmodel.specs.State.{Object, ListHead, Block, Heap, on_heap}
 use Rattle.execheap.specs.Numbered.{IsSound, IsSpace, Numbered, address_in, object_of, places, shown_entry, shown_heap, shown_memory, shown_tagged}
+use Rattle.execheap.specs.{declared.tag.Kind.Kind, declared.tag.Tagged.Tagged, Tags.tagged}
+use Rattle.execheap.specs.declared.tag.Kind.TheVariants as variant
+use Rattle.execheap.specs.declared.tag.Tagged.TheVariants as tag
 use Rattle.execheap.specs.Changes as numbered
-use Rattle.execheap.proofs.Entries.{all_then}
 use Rattle.execheap.proofs.Mapped.{all_of_part_after, enqueue-map, find-map, first-map, last-map, members, part_after-map, part_before-map, put_after-map, without-map, without_absent, without_first-map, without_last-map}
-use Rattle.execheap.proofs.Linked.{sequence_shown, some_is, stands_at, standing_lives, told_apart}
-use Rattle.execheap.proofs.Relisted.{sequence_set, with_nodes_shown}
+use Rattle.execheap.proofs.{Entries.all_then, Linked.sequence_shown, Linked.some_is, Linked.stands_at, Linked.standing_lives, Linked.told_apart, Relisted.sequence_set, Relisted.with_nodes_shown, Tagging.either_number, Matching.number_live, Shown.key_shown, Shown.nodes_shown, Shown.tells}
 use Rattle.execlist.proofs.Pools.{slot_known}
-use Rattle.execheap.proofs.Tagging.{either_number}
 use Rattle.memlist.proofs.Answered.{nat_eq-other}
 use Rattle.std.proofs.Math.Path.{fun_ext}
-use Rattle.execheap.proofs.Matching.{number_live}
-use Rattle.execheap.proofs.Shown.{key_shown, nodes_shown, tells}
 
 heap_set : (s : Numbered) (sequences : List (List ℕ)) (homes : List (Option ℕ)) (heap : Heap)
     → shown_heap (record s { sequences = sequences; homes = homes }) ≡ heap

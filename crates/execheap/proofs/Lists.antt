@@ -1,17 +1,11 @@
 -- Lists made and freed.
-use Rattle.std.proofs.Common.{◌≡◌, ℕ, suc, List, [], ◌∷◌, true, false, cond, map, refl, ap, sym, ◌∙◌, arith}
-use Rattle.std.specs.Prelude.{Some, None, Option, is_some, if◌then◌else◌, nat_eq}
+use Rattle.std.proofs.Common.{◌≡◌, ℕ, suc, List, [], ◌∷◌, true, false, cond, map, refl, ap, sym, ◌∙◌, arith, Some, None, Option, is_some, if◌then◌else◌, nat_eq}
 use Rattle.memlist.proofs.Answered.{nat_eq-same}
 use Rattle.execlist.specs.Lists.{home, is_at, sequence, times}
-use Rattle.execmodel.specs.State.{ListHead}
-use Rattle.execmodel.specs.Memory.{freed, placed}
-use Rattle.execheap.proofs.Tagging.{either_number}
+use Rattle.execmodel.specs.{State.ListHead, Memory.freed, Memory.placed}
+use Rattle.execheap.proofs.{Tagging.either_number, Beside.objects_kept, Beside.public_kept, Beside.timer_kept, InTime.along_same, Made.IsMade, Made.IsFreed, Made.IsLoose, Made.own_kept, Made.vacant, Made.apart, Made.kept_new, Made.shown_new, Made.apart_left, Made.kept_left, Made.shown_left}
 use Rattle.execheap.specs.declared.tag.Kind.TheVariants as variant
-use Rattle.execheap.specs.Table.{Tabled, slots_of}
-use Rattle.execheap.specs.Numbered.{Numbered, IsKept, address_in, shown_memory}
-use Rattle.execheap.proofs.Beside.{objects_kept, public_kept, timer_kept}
-use Rattle.execheap.proofs.InTime.{along_same}
-use Rattle.execheap.proofs.Made.{IsMade, IsFreed, IsLoose, own_kept, vacant, apart, kept_new, shown_new, apart_left, kept_left, shown_left}
+use Rattle.execheap.specs.{Table.Tabled, Table.slots_of, Numbered.Numbered, Numbered.IsKept, Numbered.address_in, Numbered.shown_memory}
 
 -- what every list space reports of sequences and homes
 abbrev pub Stands : Numbered → Type 0

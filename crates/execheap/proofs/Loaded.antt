@@ -1,21 +1,12 @@
 -- What is kept of libraries by number: where each lies once one is changed.
-use Rattle.std.proofs.Common.{◌≡◌, ◌≢◌, ℕ, suc, ◌+◌, ◌<◌, List, [], ◌∷◌, Bool, true, false, cond, length, refl, ap, sym, ◌∙◌, subst, arith}
-use Rattle.std.specs.Prelude.{Some, None, Option, IfSome, is_some, bytes_eq, ◌-◌, if◌then◌else◌}
-use Rattle.std.specs.Option.{option_and_then, option_map, option_map_or}
-use Rattle.std.specs.List.{position_from}
-use Rattle.std.proofs.lemmas.Bool.{le-ltb}
-use Rattle.std.proofs.lemmas.List.{length-set}
+use Rattle.std.proofs.Common.{◌≡◌, ◌≢◌, ℕ, suc, ◌+◌, ◌<◌, List, [], ◌∷◌, Bool, true, false, cond, length, refl, ap, sym, ◌∙◌, subst, arith, Some, None, Option, IfSome, is_some, bytes_eq, ◌-◌, if◌then◌else◌, option_and_then, option_map, le-ltb, length-set}
+use Rattle.std.specs.{Option.option_map_or, List.position_from}
 use Rattle.memlist.proofs.Answered.{cases_eq}
-use Rattle.execlib.specs.declared.library.Loaded.{Loaded}
 use Rattle.execlib.specs.Libraries.{Description, Libraries, base_of, can_open, library_tag, library_to_open, loaded_at, number_of, only_if, with_loaded}
+use Rattle.execlib.specs.declared.library.Loaded.{Loaded}
 use Rattle.execlist.proofs.Pools.{slot_known, slot_other, slot_same}
-use Rattle.execheap.proofs.Counting.{tally}
-use Rattle.execheap.proofs.Entries.{some_same}
-use Rattle.execheap.proofs.Matching.{counts}
-use Rattle.execheap.specs.declared.tag.Kind.{Kind}
-use Rattle.execheap.specs.declared.tag.Tagged.TheVariants.{Library}
-use Rattle.execheap.specs.Tags.{is_of, libraries, object_tagged, tagged}
-use Rattle.execheap.specs.Table.{base_at}
+use Rattle.execheap.proofs.{Counting.tally, Entries.some_same, Matching.counts}
+use Rattle.execheap.specs.{declared.tag.Kind.Kind, declared.tag.Tagged.TheVariants.Library, Tags.is_of, Tags.libraries, Tags.object_tagged, Tags.tagged, Table.base_at}
 
 -- ---- the tag of a library
 

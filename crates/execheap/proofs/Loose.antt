@@ -1,19 +1,13 @@
 -- A message of the table that is in no port is not held, and so may be put, replied and freed.
-use Rattle.std.proofs.Common.{◌≡◌, ℕ, ◌+◌, ◌<◌, false, ap, sym, ◌∙◌}
-use Rattle.std.specs.Prelude.{Some, None, is_some, if◌then◌else◌, not, slice_set, ◌||◌, IsSome, IsTrue}
-use Rattle.execlist.specs.Lists.{home}
-use Rattle.execlist.specs.Order.{without}
-use Rattle.execlist.specs.Pool.{slot, written}
+use Rattle.std.proofs.Common.{◌≡◌, ℕ, ◌+◌, ◌<◌, false, ap, sym, ◌∙◌, Some, None, is_some, if◌then◌else◌, not, slice_set, ◌||◌, IsSome, IsTrue}
+use Rattle.execlist.specs.{Lists.home, Order.without, Pool.slot, Pool.written}
 use Rattle.msgport.proofs.Linking.{without_absent}
 use Rattle.msgport.specs.declared.fault.PortFault.TheVariants.{Link, Unknown}
-use Rattle.msgport.specs.declared.message.Message.{Message}
-use Rattle.msgport.specs.Ports.{MessagePorts, is_held, is_message, is_port, let_go, loose_fault, nt_replymsg, post_fault, posted, reply_fault}
+use Rattle.msgport.specs.{declared.message.Message.Message, Ports.MessagePorts, Ports.is_held, Ports.is_message, Ports.is_port, Ports.let_go, Ports.loose_fault, Ports.nt_replymsg, Ports.post_fault, Ports.posted, Ports.reply_fault}
 use Rattle.execheap.specs.declared.tag.Kind.TheVariants as variant
 use Rattle.execheap.specs.Table as table
-use Rattle.execheap.specs.Changes.{on_ports}
-use Rattle.execheap.specs.Numbered.{Numbered, IsInTime, IsKept, places}
-use Rattle.execheap.proofs.Front.{message_live, message_small}
-use Rattle.execheap.proofs.KeptPorts.{kept_message_set, kept_posted}
+use Rattle.execheap.specs.{Changes.on_ports, Numbered.Numbered, Numbered.IsInTime, Numbered.IsKept, Numbered.places}
+use Rattle.execheap.proofs.{Front.message_live, Front.message_small, KeptPorts.kept_message_set, KeptPorts.kept_posted}
 
 pub unheld_loose : {s : Numbered} → IsInTime s → (n : ℕ) → n < s.table.pool → IsTrue (is_message n s.ports) → home s.ports.places n ≡ None
     → loose_fault n s.ports ≡ None

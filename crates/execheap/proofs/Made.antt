@@ -1,29 +1,18 @@
 -- An object made or freed in the table: what holds whatever its kind.
-use Rattle.std.proofs.Common.{◌≡◌, ◌≢◌, ℕ, ◌<◌, true, false, length, map, refl, ap, sym, ◌∙◌, subst, arith}
-use Rattle.std.specs.Prelude.{Some, None, Option, is_some, slice_set, IsSome, ⊤}
-use Rattle.std.specs.Option.{option_map}
-use Rattle.memlist.specs.Fit.{fit}
-use Rattle.memlist.specs.Memory.{IsWellFormed}
-use Rattle.execlist.specs.Lists.{home}
-use Rattle.execlist.specs.Pool.{IsStocked, Pooled, given, given_at, next_number, released, slot}
+use Rattle.std.proofs.Common.{◌≡◌, ◌≢◌, ℕ, ◌<◌, true, false, length, map, refl, ap, sym, ◌∙◌, subst, arith, Some, None, Option, is_some, slice_set, IsSome, option_map}
+use Rattle.std.specs.Prelude.{⊤}
+use Rattle.memlist.specs.{Fit.fit, Memory.IsWellFormed}
+use Rattle.execlist.specs.{Lists.home, Pool.IsStocked, Pool.Pooled, Pool.given, Pool.given_at, Pool.next_number, Pool.released, Pool.slot}
 use Rattle.execlist.proofs.Pools.{slot_known}
 use Rattle.msgport.specs.Ports.{MessagePorts}
 use Rattle.sigsem.specs.Semaphores.{Semaphores}
 use Rattle.iorequest.specs.declared.request.Request.{Request as TimerRequest}
-use Rattle.execmodel.specs.State.{Object}
-use Rattle.execmodel.specs.Memory.{freed, placed}
-use Rattle.execheap.specs.declared.tag.Kind.{Kind}
-use Rattle.execheap.specs.declared.tag.Kind.TheVariants as variant
-use Rattle.execheap.specs.Tags.{kind_code, size_of}
-use Rattle.execheap.specs.Table.{Tabled, IsSound, object_at_next, pool_of, slots_of, with_object, without_object}
+use Rattle.execmodel.specs.{State.Object, Memory.freed, Memory.placed}
 use Rattle.execheap.specs.Numbered.{Numbered, Fits, IsApt, IsKept, message_of_request, object_of, own_shape, places, shape, shown_memory, shown_public, shown_timer}
-use Rattle.execheap.proofs.Entries.{some_same}
-use Rattle.execheap.proofs.Front.{front}
-use Rattle.execheap.proofs.InTime.{IsAlong}
-use Rattle.execheap.proofs.Kept.{about_freed, kept_freed, kept_made, pool_freed, pool_made, slots_freed, slots_made}
+use Rattle.execheap.specs.{declared.tag.Kind.Kind, Tags.kind_code, Tags.size_of, Table.Tabled, Table.IsSound, Table.object_at_next, Table.pool_of, Table.slots_of, Table.with_object, Table.without_object}
+use Rattle.execheap.specs.declared.tag.Kind.TheVariants as variant
 use Rattle.execheap.proofs.Matching.{freed_beside, lives_beside, made_beside, next_known, next_vacant, other_object, sound_freed, sound_made}
-use Rattle.execheap.proofs.Showing.{freed_shown, made_shown}
-use Rattle.execheap.proofs.Stepping.{shape_given, shape_length, shape_lives, shape_next, shape_released}
+use Rattle.execheap.proofs.{Entries.some_same, Front.front, InTime.IsAlong, Kept.about_freed, Kept.kept_freed, Kept.kept_made, Kept.pool_freed, Kept.pool_made, Kept.slots_freed, Kept.slots_made, Showing.freed_shown, Showing.made_shown, Stepping.shape_given, Stepping.shape_length, Stepping.shape_lives, Stepping.shape_next, Stepping.shape_released}
 
 pub is_none : {A : Type 0} (o : Option A) → is_some o ≡ false → o ≡ None
 is_none None e = refl

@@ -1,13 +1,9 @@
 -- What the operations on sequences make of numbers, a map makes of what represents the numbers: each operation commutes with a map.
 -- Nodes are numbers inside and addresses outside, and a sequence of numbers is shown as the sequence of their addresses.
-use Rattle.std.proofs.Common.{◌≡◌, ℕ, suc, ◌-◌, ◌==◌, Bool, true, false, cond, not, ◌||◌, List, [], ◌∷◌, ◌++◌, length, take, drop, map, find, refl, sym, ◌∙◌, ap, arith, Option, Some, None, option_map, inl, inr, ◌⊎◌}
-use Rattle.std.specs.Prelude.{ℤ, int_lt, if◌then◌else◌}
-use Rattle.std.specs.List.{AllByRecursion, list_any}
-use Rattle.std.specs.Option.{ForSome}
-use Rattle.std.proofs.lemmas.Bool.{cases_eq, eq-eqb, ne_eqb, or_left, or_parts, or_right}
-use Rattle.std.proofs.lemmas.List.{drop-map, length-map, map-append, take-map}
-use Rattle.execlist.specs.Order.{chosen, chosen_or, enqueue, first, is_lower, without}
-use Rattle.execlist.specs.Lists.{last, part_after, part_before, put_after, times}
+use Rattle.std.proofs.Common.{◌≡◌, ℕ, suc, ◌-◌, ◌==◌, Bool, true, false, cond, not, ◌||◌, List, [], ◌∷◌, ◌++◌, length, take, drop, map, find, refl, sym, ◌∙◌, ap, arith, Option, Some, None, option_map, inl, inr, ◌⊎◌, ℤ, int_lt, if◌then◌else◌, eq-eqb, ne_eqb}
+use Rattle.std.specs.{List.AllByRecursion, List.list_any, Option.ForSome}
+use Rattle.std.proofs.lemmas.{Bool.cases_eq, Bool.or_left, Bool.or_parts, Bool.or_right, List.drop-map, List.length-map, List.map-append, List.take-map}
+use Rattle.execlist.specs.{Order.chosen, Order.chosen_or, Order.enqueue, Order.first, Order.is_lower, Order.without, Lists.last, Lists.part_after, Lists.part_before, Lists.put_after, Lists.times}
 
 -- f distinguishes n from the members of a sequence
 abbrev pub Alike : (ℕ → ℕ) → ℕ → List ℕ → Type 0

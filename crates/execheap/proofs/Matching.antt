@@ -1,30 +1,15 @@
 -- Blocks and numbers go on agreeing if an object of any kind is made or freed.
-use Rattle.std.proofs.Common.{◌≡◌, ◌≢◌, ℕ, ◌+◌, ◌<◌, Bool, true, false, cond, length, slice_set, refl, ap, sym, ◌∙◌, subst, arith}
-use Rattle.std.specs.Prelude.{Some, None, Option, is_some, nat_eq, not, IfSome, IsSome}
-use Rattle.std.specs.Option.{option_map, option_and_then}
-use Rattle.std.specs.Ordering.{nat_cmp, eq_by_cmp}
-use Rattle.std.specs.FinMap.{put}
-use Rattle.std.specs.FinMap.{nat_cmp-IsAntisymmetric}
-use Rattle.std.specs.FinMap.Entries.{find-put, find-where_key}
+use Rattle.std.proofs.Common.{◌≡◌, ◌≢◌, ℕ, ◌+◌, ◌<◌, Bool, true, false, cond, length, slice_set, refl, ap, sym, ◌∙◌, subst, arith, Some, None, Option, is_some, nat_eq, not, IfSome, IsSome, option_map, option_and_then, nat_cmp, get_or-set_same, get_or-set_other, length-set}
+use Rattle.std.specs.{Ordering.eq_by_cmp, FinMap.put, FinMap.nat_cmp-IsAntisymmetric, FinMap.Entries.find-put, FinMap.Entries.find-where_key}
 use Rattle.std.proofs.lemmas.Cmp.{nat_cmp_total}
-use Rattle.std.proofs.lemmas.List.{get_or-set_same, get_or-set_other, length-set}
-use Rattle.memlist.specs.Blocks.{Blocks, block_at, freed}
-use Rattle.memlist.specs.Fit.{fit, round}
-use Rattle.memlist.specs.Memory.{Memory, IsWellFormed}
-use Rattle.memlist.proofs.Fitting.{fitted_fresh}
-use Rattle.memlist.proofs.Answered.{cases_eq, key_other, key_same, nat_eq-other}
-use Rattle.memlist.proofs.Keeping.{rising_sorted}
+use Rattle.memlist.specs.{Blocks.Blocks, Blocks.block_at, Blocks.freed, Fit.fit, Fit.round, Memory.Memory, Memory.IsWellFormed}
+use Rattle.memlist.proofs.{Fitting.fitted_fresh, Answered.cases_eq, Answered.key_other, Answered.key_same, Answered.nat_eq-other, Keeping.rising_sorted}
 use Rattle.execlib.specs.Libraries.{library_tag}
 use Rattle.execlist.specs.Pool.{IsStocked, Pooled, all_free, given, next_number, released, slot, taken}
 use Rattle.execlist.proofs.Pools.{given_slots, slot_known, slot_other, slot_same, taken_given, taken_released}
-use Rattle.execheap.proofs.Entries.{all_then, at_found, some_same}
-use Rattle.execheap.specs.declared.tag.Kind.{Kind}
-use Rattle.execheap.specs.declared.tag.Tagged.{Tagged}
+use Rattle.execheap.proofs.{Entries.all_then, Entries.at_found, Entries.some_same, Counting.all_freed, Counting.all_placed, Counting.passing_freed, Counting.passing_put, Counting.tally, Tagging.cases_kind, Tagging.kind_few, Tagging.read_tag, Tagging.same_other, Tagging.same_self, Tagging.tag_same}
 use Rattle.execheap.specs.declared.tag.Tagged.TheVariants.{Plain, Object, Library}
-use Rattle.execheap.specs.Tags.{is_of, is_plain, is_same, kind_code, number_in, size_of, tag_of, tagged}
-use Rattle.execheap.specs.Table.{Tabled, IsMatched, IsSound, IsTagged, number_at, place_of, pool_of, slots_of, tag_at, with_object, without_object}
-use Rattle.execheap.proofs.Counting.{all_freed, all_placed, passing_freed, passing_put, tally}
-use Rattle.execheap.proofs.Tagging.{cases_kind, kind_few, read_tag, same_other, same_self, tag_same}
+use Rattle.execheap.specs.{declared.tag.Kind.Kind, declared.tag.Tagged.Tagged, Tags.is_of, Tags.is_plain, Tags.is_same, Tags.kind_code, Tags.number_in, Tags.size_of, Tags.tag_of, Tags.tagged, Table.Tabled, Table.IsMatched, Table.IsSound, Table.IsTagged, Table.number_at, Table.place_of, Table.pool_of, Table.slots_of, Table.tag_at, Table.with_object, Table.without_object}
 
 -- the tag of a block that was found, or of none
 abbrev pub tag_in : Option (ℕ × ℕ) → Option ℕ

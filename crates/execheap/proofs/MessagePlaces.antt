@@ -1,29 +1,16 @@
 -- What may be in a port: a message, or a request, whose numbers as messages are after those of the messages. Each has one address.
-use Rattle.std.proofs.Common.{◌≡◌, ◌≢◌, ℕ, ◌+◌, ◌-◌, ◌<◌, ◌≤◌, true, false, inl, inr, map, ap, sym, ◌∙◌, arith}
-use Rattle.std.specs.Prelude.{Some, None, Option, List, [], ◌∷◌, is_some, IfSome, IsSome, unwrap_or, ◌++◌, ◌==◌}
+use Rattle.std.proofs.Common.{◌≡◌, ◌≢◌, ℕ, ◌+◌, ◌-◌, ◌<◌, ◌≤◌, true, false, inl, inr, map, ap, sym, ◌∙◌, arith, Some, None, Option, List, [], ◌∷◌, is_some, IfSome, IsSome, unwrap_or, ◌++◌, ◌==◌, eq-eqb}
 use Rattle.std.specs.List.{list_any}
-use Rattle.std.proofs.lemmas.Bool.{cases_lt, eq-eqb, or_left}
-use Rattle.std.proofs.lemmas.List.{get_or_append_left, get_or-append_right}
+use Rattle.std.proofs.lemmas.{Bool.cases_lt, Bool.or_left, List.get_or_append_left, List.get_or-append_right}
 use Rattle.memlist.proofs.Headers.{from_eq}
-use Rattle.execlist.specs.Lists.{home, is_at}
-use Rattle.execlist.specs.Order.{first}
-use Rattle.execlist.specs.Pool.{slot}
+use Rattle.execlist.specs.{Lists.home, Lists.is_at, Order.first, Pool.slot}
 use Rattle.execlist.proofs.Pools.{slot_known}
 use Rattle.msgport.specs.Ports as ports
 use Rattle.msgport.specs.Ports.{messages_of}
-use Rattle.execheap.specs.declared.tag.Kind.{Kind}
+use Rattle.execheap.specs.{declared.tag.Kind.Kind, Table.Tabled, Table.IsSound, Table.slots_of, Numbered.Numbered, Numbered.address_in, Numbered.message_of_request, Numbered.message_places, Numbered.places}
 use Rattle.execheap.specs.declared.tag.Kind.TheVariants as variant
-use Rattle.execheap.specs.Table.{Tabled, IsSound, slots_of}
 use Rattle.execheap.specs.Numbered as numbered
-use Rattle.execheap.specs.Numbered.{Numbered, address_in, message_of_request, message_places, places}
-use Rattle.execheap.proofs.Beside.{addresses_kept}
-use Rattle.execheap.proofs.Entries.{some_same}
-use Rattle.execheap.proofs.Front.{message_has}
-use Rattle.execheap.proofs.Linked.{some_is}
-use Rattle.execheap.proofs.Mapped.{Alike, alike_apart, stands_by_times}
-use Rattle.execheap.proofs.Made.{IsFreed, IsMade, sound_left, sound_new, stays_left, stays_new}
-use Rattle.execheap.proofs.Matching.{number_same}
-use Rattle.execheap.proofs.Tagging.{tag_same}
+use Rattle.execheap.proofs.{Beside.addresses_kept, Entries.some_same, Front.message_has, Linked.some_is, Mapped.Alike, Mapped.alike_apart, Mapped.stands_by_times, Made.IsFreed, Made.IsMade, Made.sound_left, Made.sound_new, Made.stays_left, Made.stays_new, Matching.number_same, Tagging.tag_same}
 
 -- the addresses of what may be in a port
 abbrev pub queue_places : Tabled → List (Option ℕ)

@@ -1,25 +1,15 @@
 -- Messages made and freed.
-use Rattle.std.proofs.Common.{◌≡◌, ◌≢◌, ℕ, ◌<◌, map, refl, ap, sym, ◌∙◌, subst, arith}
-use Rattle.std.specs.Prelude.{Some, None, is_some, unwrap_or, slice_set, IsTrue}
-use Rattle.execlist.specs.Lists.{home, sequence}
-use Rattle.execlist.specs.Pool.{given_at, next_number, slot}
+use Rattle.std.proofs.Common.{◌≡◌, ◌≢◌, ℕ, ◌<◌, map, refl, ap, sym, ◌∙◌, subst, arith, Some, None, is_some, unwrap_or, slice_set, IsTrue}
+use Rattle.execlist.specs.{Lists.home, Lists.sequence, Pool.given_at, Pool.next_number, Pool.slot}
 use Rattle.execlist.proofs.Pools.{slot_other, slot_same}
 use Rattle.msgport.specs.Ports as ports
 use Rattle.msgport.specs.Ports.{MessagePorts, message_freed, message_made, messages_of, new_message, port_at}
-use Rattle.execmodel.specs.State.{ListHead, Message, MsgPort}
-use Rattle.execmodel.specs.Memory.{freed, placed}
-use Rattle.execheap.specs.declared.tag.Kind.{Kind}
-use Rattle.execheap.specs.declared.tag.Kind.TheVariants as variant
-use Rattle.execheap.specs.Tags.{kind_code}
-use Rattle.execheap.specs.Table.{Tabled}
-use Rattle.execheap.specs.Numbered as numbered
+use Rattle.execmodel.specs.{State.ListHead, State.Message, State.MsgPort, Memory.freed, Memory.placed}
 use Rattle.execheap.specs.Numbered.{Numbered, IsKept, address_in, object_of, own_shape, places, shape, shown_memory}
-use Rattle.execheap.proofs.Beside.{public_kept, timer_kept}
-use Rattle.execheap.proofs.Front.{front, front_given, front_released, message_live, message_next_number, message_small, message_step, own_messages}
-use Rattle.execheap.proofs.InTime.{along_message}
-use Rattle.execheap.proofs.Loose.{unheld_loose}
-use Rattle.execheap.proofs.MessagePlaces.{place_message, queue_places, standing_new, standing_left}
-use Rattle.execheap.proofs.Made.{IsMade, IsFreed, within, not_new, apart, kept_new, shown_new, own_given, apart_left, kept_left, shown_left, own_released}
+use Rattle.execheap.specs.{declared.tag.Kind.Kind, Tags.kind_code, Table.Tabled}
+use Rattle.execheap.specs.declared.tag.Kind.TheVariants as variant
+use Rattle.execheap.specs.Numbered as numbered
+use Rattle.execheap.proofs.{Beside.public_kept, Beside.timer_kept, Front.front, Front.front_given, Front.front_released, Front.message_live, Front.message_next_number, Front.message_small, Front.message_step, Front.own_messages, InTime.along_message, Loose.unheld_loose, MessagePlaces.place_message, MessagePlaces.queue_places, MessagePlaces.standing_new, MessagePlaces.standing_left, Made.IsMade, Made.IsFreed, Made.within, Made.not_new, Made.apart, Made.kept_new, Made.shown_new, Made.own_given, Made.apart_left, Made.kept_left, Made.shown_left, Made.own_released}
 
 abbrev changed : Numbered → Tabled → MessagePorts → Numbered
 changed s t q = record s { table = t; ports = q }

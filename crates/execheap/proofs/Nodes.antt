@@ -1,20 +1,11 @@
 -- Nodes made and freed.
-use Rattle.std.proofs.Common.{◌≡◌, ◌≢◌, ℕ, ◌<◌, List, true, false, length, map, refl, ap, sym, ◌∙◌, arith}
-use Rattle.std.specs.Prelude.{Some, None, Option, is_some, slice_set, ◌++◌}
-use Rattle.std.proofs.lemmas.List.{get_or-set_other, get_or-set_same}
-use Rattle.execlist.specs.Lists.{Key, blank, home}
-use Rattle.execlist.specs.Pool.{slot}
-use Rattle.execmodel.specs.State.{ListHead, MsgPort, Node}
+use Rattle.std.proofs.Common.{◌≡◌, ◌≢◌, ℕ, ◌<◌, List, true, false, length, map, refl, ap, sym, ◌∙◌, arith, Some, None, Option, is_some, slice_set, ◌++◌, get_or-set_other, get_or-set_same}
+use Rattle.execlist.specs.{Lists.Key, Lists.blank, Lists.home, Pool.slot}
+use Rattle.execmodel.specs.{State.ListHead, State.MsgPort, State.Node, Memory.freed, Memory.placed}
 use Rattle.msgport.specs.Ports.{messages_of, port_at}
-use Rattle.execmodel.specs.Memory.{freed, placed}
-use Rattle.execheap.specs.declared.tag.Kind.{Kind}
+use Rattle.execheap.specs.{declared.tag.Kind.Kind, Table.Tabled, Numbered.Numbered, Numbered.IsKept, Numbered.address_in, Numbered.object_of, Numbered.places, Numbered.shown_memory}
 use Rattle.execheap.specs.declared.tag.Kind.TheVariants as variant
-use Rattle.execheap.specs.Table.{Tabled}
-use Rattle.execheap.specs.Numbered.{Numbered, IsKept, address_in, object_of, places, shown_memory}
-use Rattle.execheap.proofs.Beside.{nodes_beside, public_kept, timer_kept}
-use Rattle.execheap.proofs.InTime.{along_same}
-use Rattle.execheap.proofs.Lists.{Stands}
-use Rattle.execheap.proofs.Made.{IsMade, IsFreed, IsLoose, own_kept, within, not_new, apart, beside, kept_new, shown_new, apart_left, beside_left, kept_left, shown_left}
+use Rattle.execheap.proofs.{Beside.nodes_beside, Beside.public_kept, Beside.timer_kept, InTime.along_same, Lists.Stands, Made.IsMade, Made.IsFreed, Made.IsLoose, Made.own_kept, Made.within, Made.not_new, Made.apart, Made.beside, Made.kept_new, Made.shown_new, Made.apart_left, Made.beside_left, Made.kept_left, Made.shown_left}
 
 -- a node is in no list
 node_loose : (s : Numbered) (n : ℕ) → home s.homes n ≡ None → IsLoose variant.Node n s

@@ -1,21 +1,13 @@
 -- A semaphore that changes: by number and by address it is the same one.
-use Rattle.std.proofs.Common.{◌≡◌, ℕ, ◌<◌, List, Bool, true, false, drop, length, slice_set, refl, ap, sym, ◌∙◌}
-use Rattle.std.specs.Prelude.{Option, Some, None, if◌then◌else◌, nat_eq, ◌&&◌, IsTrue}
+use Rattle.std.proofs.Common.{◌≡◌, ℕ, ◌<◌, List, Bool, true, false, drop, length, slice_set, refl, ap, sym, ◌∙◌, Option, Some, None, if◌then◌else◌, nat_eq, ◌&&◌, IsTrue}
 use Rattle.execlist.specs.Order.{first}
-use Rattle.sigsem.specs.declared.semaphore.Sem.{Sem}
+use Rattle.sigsem.specs.{declared.semaphore.Sem.Sem, Semaphores.Semaphores, Semaphores.free_sem, Semaphores.owned_by, Semaphores.sem_at, Semaphores.waiters_of, Semaphores.with_sem}
 use Rattle.sigsem.specs.Semaphores as sems
-use Rattle.sigsem.specs.Semaphores.{Semaphores, free_sem, owned_by, sem_at, waiters_of, with_sem}
 use Rattle.execmodel.specs.State.{Semaphore, Heap, on_heap}
 use Rattle.execmodel.specs.Semaphores as model
-use Rattle.execheap.specs.declared.tag.Kind.{Kind}
+use Rattle.execheap.specs.{declared.tag.Kind.Kind, Tags.is_same, Numbered.Numbered, Numbered.object_of, Numbered.places, Numbered.shown_heap, Numbered.shown_memory, Table.number_at, Changes.on_semaphores}
 use Rattle.execheap.specs.declared.tag.Kind.TheVariants as variant
-use Rattle.execheap.specs.Tags.{is_same}
-use Rattle.execheap.specs.Numbered.{Numbered, object_of, places, shown_heap, shown_memory}
-use Rattle.execheap.specs.Table.{number_at}
-use Rattle.execheap.specs.Changes.{on_semaphores}
-use Rattle.execheap.proofs.Posted.{item_known, none_left, same_at, written_at}
-use Rattle.execheap.proofs.Relisted.{Tells, object_replaced, sequence_set}
-use Rattle.execheap.proofs.Shown.{sem_shown, waiters_shown}
+use Rattle.execheap.proofs.{Posted.item_known, Posted.none_left, Posted.same_at, Posted.written_at, Relisted.Tells, Relisted.object_replaced, Relisted.sequence_set, Shown.sem_shown, Shown.waiters_shown}
 
 -- ---- other semaphores, and the same blocks
 

@@ -1,10 +1,7 @@
 -- A refusal that is passed on has the alert of what was refused.
-use Rattle.std.proofs.Common.{ap, ◌≡◌, ◌∙◌}
-use Rattle.std.specs.Prelude.{Some, Result}
-use Rattle.std.specs.Result.{IsErrAnd}
+use Rattle.std.proofs.Common.{ap, ◌≡◌, ◌∙◌, Some, Result, IsErrAnd}
 use Rattle.std.proofs.lemmas.Result.{err_from_is_err_and}
-use Rattle.execheap.specs.declared.refusal.Refusal.{Refusal}
-use Rattle.execheap.specs.Refusals.{alert_of, code_of}
+use Rattle.execheap.specs.{declared.refusal.Refusal.Refusal, Refusals.alert_of, Refusals.code_of}
 
 pub passed_on : {T : Type 0} → (r : Result T Refusal) (why : Refusal) → IsErrAnd r (λ y. y ≡ why) → alert_of r ≡ Some (code_of why)
 passed_on r why is =

@@ -1,20 +1,12 @@
 -- A block that is no object is put at a fresh address, or freed: a table stays sound.
-use Rattle.std.proofs.Common.{◌≡◌, ◌≢◌, ℕ, ◌<◌, true, false, length, refl, ap, sym, ◌∙◌, arith}
-use Rattle.std.specs.Prelude.{Some, None, Option, is_some, nat_eq}
-use Rattle.memlist.specs.Blocks.{block_at}
-use Rattle.memlist.specs.Fit.{round}
-use Rattle.memlist.specs.Memory.{IsWellFormed, allocated, without_block}
+use Rattle.std.proofs.Common.{◌≡◌, ◌≢◌, ℕ, ◌<◌, true, false, length, refl, ap, sym, ◌∙◌, arith, Some, None, Option, is_some, nat_eq}
+use Rattle.memlist.specs.{Blocks.block_at, Fit.round, Memory.IsWellFormed, Memory.allocated, Memory.without_block}
 use Rattle.memlist.proofs.Keeping.{rising_sorted}
 use Rattle.execlib.specs.Libraries.{Libraries, library_tag}
 use Rattle.execlist.specs.Pool.{slot}
-use Rattle.execheap.specs.declared.tag.Kind.{Kind}
-use Rattle.execheap.specs.declared.tag.Tagged.{Tagged}
 use Rattle.execheap.specs.declared.tag.Tagged.TheVariants.{Plain, Object, Library}
-use Rattle.execheap.specs.Tags.{is_plain, tag_of, tagged}
-use Rattle.execheap.specs.Table.{Tabled, IsSound, IsTagged, base_at, place_of, slots_of, tag_at}
-use Rattle.execheap.proofs.Counting.{all_freed, all_placed, passing_freed, passing_put, tally}
-use Rattle.execheap.proofs.Entries.{all_then, some_same}
-use Rattle.execheap.proofs.Matching.{counts, number_small, tag_in, tag_left, tag_placed}
+use Rattle.execheap.specs.{declared.tag.Kind.Kind, declared.tag.Tagged.Tagged, Tags.is_plain, Tags.tag_of, Tags.tagged, Table.Tabled, Table.IsSound, Table.IsTagged, Table.base_at, Table.place_of, Table.slots_of, Table.tag_at}
+use Rattle.execheap.proofs.{Counting.all_freed, Counting.all_placed, Counting.passing_freed, Counting.passing_put, Counting.tally, Entries.all_then, Entries.some_same, Matching.counts, Matching.number_small, Matching.tag_in, Matching.tag_left, Matching.tag_placed}
 
 -- the same objects with other blocks, if libraries that lie at an address still do
 pub place_same : (t u : Tabled) → u.pools ≡ t.pools → (x : Tagged) (a : ℕ) → ((i : ℕ) → base_at i t.libs ≡ Some a → base_at i u.libs ≡ Some a)

@@ -1,32 +1,16 @@
 -- Plain blocks allocated and freed: a table stays sound, and by number and by address it is the same.
-use Rattle.std.proofs.Common.{◌≡◌, ℕ, [], ◌∷◌, true, false, cond, map, refl, ap, sym, ◌∙◌, subst, arith}
-use Rattle.std.specs.Prelude.{Some, None, Option, nat_eq, nat_lt, not, ◌&&◌, Result, Ok, Err, is_ok, OnOk, OnErr}
-use Rattle.std.specs.Option.{option_map}
+use Rattle.std.proofs.Common.{◌≡◌, ℕ, [], ◌∷◌, true, false, cond, map, refl, ap, sym, ◌∙◌, subst, arith, Some, None, Option, nat_eq, nat_lt, not, ◌&&◌, Result, Ok, Err, is_ok, OnOk, OnErr, option_map, nat_cmp}
 use Rattle.std.specs.FinMap.{put}
-use Rattle.std.specs.Ordering.{nat_cmp}
-use Rattle.memlist.specs.Blocks.{Blocks, block_at}
-use Rattle.memlist.specs.Fit.{fit, round}
-use Rattle.memlist.specs.Memory.{Memory, IsWellFormed, allocated, can_free, names, without_block}
-use Rattle.memlist.proofs.Fitting.{fitted_fresh}
-use Rattle.memlist.proofs.Headers.{from_eq}
+use Rattle.memlist.specs.{Blocks.Blocks, Blocks.block_at, Fit.fit, Fit.round, Memory.Memory, Memory.IsWellFormed, Memory.allocated, Memory.can_free, Memory.names, Memory.without_block}
+use Rattle.memlist.proofs.{Fitting.fitted_fresh, Headers.from_eq}
 use Rattle.execlib.specs.Libraries.{library_tag}
 use Rattle.execmodel.specs.State as state
 use Rattle.execmodel.specs.Memory as model
 use Rattle.execmodel.specs.Memory.{freed, is_named, placed}
-use Rattle.execheap.proofs.Entries.{at_found, put_shown, some_same, where_key_shown}
-use Rattle.execheap.specs.declared.tag.Kind.{Kind}
-use Rattle.execheap.specs.declared.tag.Kind.TheVariants as variant
-use Rattle.execheap.specs.declared.tag.Tagged.{Tagged}
+use Rattle.execheap.proofs.{Entries.at_found, Entries.put_shown, Entries.some_same, Entries.where_key_shown, Counting.tally, Beside.objects_kept, Showing.block_shown, Matching.counts, Matching.tag_in, Matching.tag_left, Matching.tag_placed, Placing.sound_left, Placing.sound_put, Tagging.read_plain}
 use Rattle.execheap.specs.declared.tag.Tagged.TheVariants.{Plain, Object, Library}
-use Rattle.execheap.specs.Tags.{is_of, is_plain, tagged}
-use Rattle.execheap.specs.Table.{Tabled, IsSound, IsTagged, place_of, tag_at}
-use Rattle.execheap.specs.Numbered.{Numbered, shown_block, shown_entry, shown_heap, shown_memory, shown_tagged}
-use Rattle.execheap.proofs.Counting.{tally}
-use Rattle.execheap.proofs.Beside.{objects_kept}
-use Rattle.execheap.proofs.Showing.{block_shown}
-use Rattle.execheap.proofs.Matching.{counts, tag_in, tag_left, tag_placed}
-use Rattle.execheap.proofs.Placing.{sound_left, sound_put}
-use Rattle.execheap.proofs.Tagging.{read_plain}
+use Rattle.execheap.specs.{declared.tag.Kind.Kind, declared.tag.Tagged.Tagged, Tags.is_of, Tags.is_plain, Tags.tagged, Table.Tabled, Table.IsSound, Table.IsTagged, Table.place_of, Table.tag_at, Numbered.Numbered, Numbered.shown_block, Numbered.shown_entry, Numbered.shown_heap, Numbered.shown_memory, Numbered.shown_tagged}
+use Rattle.execheap.specs.declared.tag.Kind.TheVariants as variant
 
 -- a plain block counts for no kind
 tally_plain : (kind : Kind) → tally (counts kind) 0 ≡ 0

@@ -1,23 +1,14 @@
 -- The alerts of the calls on ports and messages by address, reported by number.
-use Rattle.std.proofs.Common.{◌≡◌, ℕ, zero, suc, List, Bool, true, false, refl, ap, sym, ◌∙◌, arith}
-use Rattle.std.specs.Prelude.{Option, None, Some, codes, is_some, nat_eq, if◌then◌else◌, ◌||◌}
+use Rattle.std.proofs.Common.{◌≡◌, ℕ, zero, suc, List, Bool, true, false, refl, ap, sym, ◌∙◌, arith, Option, None, Some, codes, is_some, nat_eq, if◌then◌else◌, ◌||◌}
 use Rattle.memlist.proofs.Answered.{nat_eq-other}
-use Rattle.execmodel.specs.State.{Heap}
-use Rattle.execmodel.specs.Ports.{content_of, is_message_at, is_port_at, loose_alert, message_alert, port_alert, port_of, put_alert, reply_alert, reply_port_alert, wait_alert}
+use Rattle.execmodel.specs.{State.Heap, Ports.content_of, Ports.is_message_at, Ports.is_port_at, Ports.loose_alert, Ports.message_alert, Ports.port_alert, Ports.port_of, Ports.put_alert, Ports.reply_alert, Ports.reply_port_alert, Ports.wait_alert}
 use Rattle.execmodel.specs.Ports as model
-use Rattle.msgport.specs.Port.{wait_bit}
+use Rattle.msgport.specs.{Port.wait_bit, Ports.is_linked, Ports.is_queued, Ports.message_at, Ports.port_at}
 use Rattle.msgport.specs.Ports as ports
-use Rattle.msgport.specs.Ports.{is_linked, is_queued, message_at, port_at}
 use Rattle.execlist.specs.Pool.{slot}
 use Rattle.execheap.specs.declared.tag.Kind.TheVariants as variant
-use Rattle.execheap.specs.Numbered.{Numbered, IsSound, shown_heap, places}
-use Rattle.execheap.specs.Table.{number_at}
-use Rattle.execheap.proofs.Alerts.{handle_unless, is_there, link_if, refused_first}
-use Rattle.execheap.proofs.Front.{message_small}
-use Rattle.execheap.proofs.MessagePlaces.{place_message}
-use Rattle.execheap.proofs.Queued.{is_queued_shown}
-use Rattle.execheap.proofs.Matching.{number_live}
-use Rattle.execheap.proofs.Shown.{content_shown, message_at_shown, port_at_shown, port_shown}
+use Rattle.execheap.specs.{Numbered.Numbered, Numbered.IsSound, Numbered.shown_heap, Numbered.places, Table.number_at}
+use Rattle.execheap.proofs.{Alerts.handle_unless, Alerts.is_there, Alerts.link_if, Alerts.refused_first, Front.message_small, MessagePlaces.place_message, Queued.is_queued_shown, Matching.number_live, Shown.content_shown, Shown.message_at_shown, Shown.port_at_shown, Shown.port_shown}
 
 -- ---- the alert of a port, and of a message
 

@@ -1,32 +1,19 @@
 -- Ports made and freed.
-use Rattle.std.proofs.Common.{◌≡◌, ◌≢◌, ℕ, ◌≤◌, [], Bool, true, false, map, refl, ap, sym, ◌∙◌, subst, arith}
-use Rattle.std.specs.Prelude.{Some, None, Option, is_some, if◌then◌else◌, unwrap_or, not, slice_set, IsTrue, ◌==◌, ◌++◌}
+use Rattle.std.proofs.Common.{◌≡◌, ◌≢◌, ℕ, ◌≤◌, [], Bool, true, false, map, refl, ap, sym, ◌∙◌, subst, arith, Some, None, Option, is_some, if◌then◌else◌, unwrap_or, not, slice_set, IsTrue, ◌==◌, ◌++◌}
 use Rattle.std.specs.List.{list_any}
 use Rattle.memlist.proofs.Headers.{from_eq}
-use Rattle.execlist.specs.Lists.{home, is_at, sequence, key_at}
-use Rattle.execlist.specs.Pool.{next_number, slot}
+use Rattle.execlist.specs.{Lists.home, Lists.is_at, Lists.sequence, Lists.key_at, Pool.next_number, Pool.slot}
 use Rattle.execlist.proofs.Pools.{slot_other, slot_same}
 use Rattle.msgport.proofs.Linking.{nobody_at}
-use Rattle.msgport.specs.Port.{new_port}
 use Rattle.msgport.specs.declared.fault.PortFault.TheVariants.{Link, NotEmpty, Unknown}
+use Rattle.msgport.specs.{Port.new_port, Ports.MessagePorts, Ports.messages_of, Ports.port_at, Ports.port_freed, Ports.port_made}
 use Rattle.msgport.specs.Ports as ports
-use Rattle.msgport.specs.Ports.{MessagePorts, messages_of, port_at, port_freed, port_made}
-use Rattle.execmodel.specs.State.{ListHead, Message, MsgPort}
-use Rattle.execmodel.specs.Memory.{freed, placed}
-use Rattle.execheap.specs.declared.tag.Kind.{Kind}
-use Rattle.execheap.specs.declared.tag.Kind.TheVariants as variant
-use Rattle.execheap.specs.Tags.{kind_code}
-use Rattle.execheap.specs.Table.{Tabled, pool_of}
+use Rattle.execmodel.specs.{State.ListHead, State.Message, State.MsgPort, Memory.freed, Memory.placed}
 use Rattle.execheap.specs.Numbered.{Numbered, IsKept, address_in, object_of, own_shape, message_places, places, shape, shown_memory, shown_public, message_of_request}
-use Rattle.execheap.proofs.Beside.{timer_kept}
-use Rattle.execheap.proofs.Front.{front}
-use Rattle.execheap.proofs.InTime.{along_messages}
-use Rattle.execheap.proofs.KeptPorts.{IsOwn, own_set}
-use Rattle.execheap.proofs.Lists.{none_there}
-use Rattle.execheap.proofs.Mapped.{map_agree, members}
-use Rattle.execheap.proofs.Public.{no_public, public_lives}
-use Rattle.execheap.proofs.Stepping.{shape_lives}
+use Rattle.execheap.specs.{declared.tag.Kind.Kind, Tags.kind_code, Table.Tabled, Table.pool_of}
+use Rattle.execheap.specs.declared.tag.Kind.TheVariants as variant
 use Rattle.execheap.proofs.Made.{IsMade, IsFreed, not_new, apart, beside, kept_new, shown_new, own_next, own_known, own_vacant, own_slots, own_given, apart_left, beside_left, kept_left, shown_left, own_lives, own_there, own_released}
+use Rattle.execheap.proofs.{Beside.timer_kept, Front.front, InTime.along_messages, KeptPorts.IsOwn, KeptPorts.own_set, Lists.none_there, Mapped.map_agree, Mapped.members, Public.no_public, Public.public_lives, Stepping.shape_lives}
 
 -- the public ports show the same if they keep their addresses
 public_beside : (s u : Numbered) → u.ports.keys ≡ s.ports.keys → u.ports.public ≡ s.ports.public

@@ -1,36 +1,19 @@
 -- A port or a message that changes, put at a port or taken off one: by number and by address it is the same.
-use Rattle.std.proofs.Common.{◌≡◌, ℕ, ◌<◌, List, [], ◌∷◌, ◌++◌, Bool, true, false, drop, map, length, slice_set, refl, ap, sym, ◌∙◌, arith}
-use Rattle.std.specs.Prelude.{Option, Some, None, if◌then◌else◌, is_some, nat_eq, option_map, unwrap_or, ◌&&◌, IsTrue}
+use Rattle.std.proofs.Common.{◌≡◌, ℕ, ◌<◌, List, [], ◌∷◌, ◌++◌, Bool, true, false, drop, map, length, slice_set, refl, ap, sym, ◌∙◌, arith, Option, Some, None, if◌then◌else◌, is_some, nat_eq, option_map, unwrap_or, ◌&&◌, IsTrue}
 use Rattle.std.proofs.lemmas.List.{drop-map, map-append}
 use Rattle.std.proofs.Math.Path.{fun_ext}
-use Rattle.execlist.specs.Order.{first}
-use Rattle.execlist.specs.Lists.{sequence}
-use Rattle.execlist.specs.Pool.{slot}
+use Rattle.execlist.specs.{Order.first, Lists.sequence, Pool.slot}
 use Rattle.execlist.proofs.Pools.{slot_known}
 use Rattle.memlist.specs.Memory.{IsWellFormed}
-use Rattle.msgport.specs.declared.message.Message.{Message as Content}
-use Rattle.msgport.specs.declared.action.PortAction.{PortAction}
-use Rattle.msgport.specs.Port.{Port, new_port}
+use Rattle.msgport.specs.{declared.message.Message.Message as Content, declared.action.PortAction.PortAction, Port.Port, Port.new_port, Ports.MessagePorts, Ports.message_at, Ports.messages_of, Ports.new_message, Ports.port_at, Ports.with_message, Ports.with_port}
 use Rattle.msgport.specs.Ports as ports
-use Rattle.msgport.specs.Ports.{MessagePorts, message_at, messages_of, new_message, port_at, with_message, with_port}
-use Rattle.execmodel.specs.State.{Object, MsgPort, Message, Block, Heap, on_heap}
-use Rattle.execmodel.specs.Objects.{replaced}
+use Rattle.execmodel.specs.{State.Object, State.MsgPort, State.Message, State.Block, State.Heap, State.on_heap, Objects.replaced}
 use Rattle.execmodel.specs.Ports as model
-use Rattle.execheap.specs.declared.tag.Kind.{Kind}
-use Rattle.execheap.specs.declared.tag.Kind.TheVariants as variant
-use Rattle.execheap.specs.declared.tag.Tagged.{Tagged}
-use Rattle.execheap.specs.declared.tag.Tagged.TheVariants as tag
-use Rattle.execheap.specs.Tags.{is_same, tagged}
 use Rattle.execheap.specs.Numbered.{IsSound, Numbered, address_in, message_places, object_of, places, shown_heap, shown_memory, shown_public, shown_tagged}
-use Rattle.execheap.specs.Table.{number_at}
-use Rattle.execheap.specs.Changes.{on_ports}
-use Rattle.execheap.proofs.Linked.{some_is}
-use Rattle.execheap.proofs.Mapped.{first-map}
-use Rattle.execheap.proofs.Relisted.{Tells, item_set, object_replaced}
-use Rattle.execheap.proofs.Matching.{number_live}
-use Rattle.execheap.proofs.MessagePlaces.{place_message}
-use Rattle.execheap.proofs.Shown.{content_shown, message_at_shown, messages_shown, port_shown, tells}
-use Rattle.execheap.proofs.Tagging.{either_number}
+use Rattle.execheap.specs.{declared.tag.Kind.Kind, declared.tag.Tagged.Tagged, Tags.is_same, Tags.tagged, Table.number_at, Changes.on_ports}
+use Rattle.execheap.specs.declared.tag.Kind.TheVariants as variant
+use Rattle.execheap.specs.declared.tag.Tagged.TheVariants as tag
+use Rattle.execheap.proofs.{Linked.some_is, Mapped.first-map, Relisted.Tells, Relisted.item_set, Relisted.object_replaced, Matching.number_live, MessagePlaces.place_message, Shown.content_shown, Shown.message_at_shown, Shown.messages_shown, Shown.port_shown, Shown.tells, Tagging.either_number}
 
 -- ---- other ports, and the same blocks
 

@@ -1,31 +1,17 @@
 -- Public ports: by number and by address they are the same, in one order.
-use Rattle.std.proofs.Common.{◌≡◌, ℕ, ◌<◌, List, [], ◌∷◌, Bool, true, false, cond, map, length, refl, ap, sym, ◌∙◌}
-use Rattle.std.specs.Prelude.{ℤ, Some, None, Option, codes, filter, find, if◌then◌else◌, is_some, not, option_map, unwrap_or, ◌==◌, ◌||◌, ◌≢◌, IsTrue}
+use Rattle.std.proofs.Common.{◌≡◌, ℕ, ◌<◌, List, [], ◌∷◌, Bool, true, false, cond, map, length, refl, ap, sym, ◌∙◌, ℤ, Some, None, Option, codes, filter, find, if◌then◌else◌, is_some, not, option_map, unwrap_or, ◌==◌, ◌||◌, ◌≢◌, IsTrue, get_or-set_other}
 use Rattle.std.specs.List.{AllByRecursion, list_any}
 use Rattle.std.proofs.lemmas.Grind.{get_or-set_at}
-use Rattle.std.proofs.lemmas.List.{get_or-set_other}
-use Rattle.execlist.specs.Order.{enqueue, first}
-use Rattle.execlist.specs.Lists.{Key, blank, is_named, pri_of}
+use Rattle.execlist.specs.{Order.enqueue, Order.first, Lists.Key, Lists.blank, Lists.is_named, Lists.pri_of, Pool.slot}
 use Rattle.msgport.specs.Ports as ports
 use Rattle.msgport.specs.Ports.{MessagePorts, keyed, made_private, made_public}
-use Rattle.execmodel.specs.State.{Memory, PublicPort}
-use Rattle.execmodel.specs.Lists.{or_none}
-use Rattle.execmodel.specs.Ports.{add_port_alert, delete_alert, is_called, is_port_at, is_public, port_alert, port_or_none, priority_of_public, rem_port_alert, under}
+use Rattle.execmodel.specs.{State.Memory, State.PublicPort, Lists.or_none, Ports.add_port_alert, Ports.delete_alert, Ports.is_called, Ports.is_port_at, Ports.is_public, Ports.port_alert, Ports.port_or_none, Ports.priority_of_public, Ports.rem_port_alert, Ports.under, Tasks.is_priority}
 use Rattle.execmodel.specs.Ports as model
-use Rattle.execmodel.specs.Tasks.{is_priority}
-use Rattle.execlist.specs.Pool.{slot}
 use Rattle.execheap.specs.declared.tag.Kind.TheVariants as variant
 use Rattle.execheap.specs.Numbered.{Numbered, IsSound, address_in, message_places, shown_heap, shown_memory, shown_public, places}
-use Rattle.execheap.specs.Changes.{on_ports}
-use Rattle.execheap.specs.Listing.{listed}
+use Rattle.execheap.specs.{Changes.on_ports, Listing.listed}
 use Rattle.iorequest.specs.Requests.{is_under_way_at}
-use Rattle.execheap.proofs.AwaitedPorts.{awaited_shown}
-use Rattle.execheap.proofs.Alerts.{handle_unless, is_some_map, is_there, link_if, refused_first}
-use Rattle.execheap.proofs.Mapped.{Alike, alike_apart, cond-map, enqueue-map, find-map, first-map, map_agree, members, stands_by_times}
-use Rattle.execheap.proofs.Posted.{heap_beside, objects_beside}
-use Rattle.execheap.proofs.Queued.{port_placed}
-use Rattle.execheap.proofs.Matching.{number_live, number_same}
-use Rattle.execheap.proofs.Shown.{messages_shown}
+use Rattle.execheap.proofs.{AwaitedPorts.awaited_shown, Alerts.handle_unless, Alerts.is_some_map, Alerts.is_there, Alerts.link_if, Alerts.refused_first, Mapped.Alike, Mapped.alike_apart, Mapped.cond-map, Mapped.enqueue-map, Mapped.find-map, Mapped.first-map, Mapped.map_agree, Mapped.members, Mapped.stands_by_times, Posted.heap_beside, Posted.objects_beside, Queued.port_placed, Matching.number_live, Matching.number_same, Shown.messages_shown}
 
 -- ---- sequences
 

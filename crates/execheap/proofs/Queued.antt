@@ -1,26 +1,17 @@
 -- What is in a port, a message or a request: by number it has a place, by address one port has it.
-use Rattle.std.proofs.Common.{◌≡◌, ℕ, [], ◌∷◌, Bool, true, false, map, refl, ap, sym, ◌∙◌}
-use Rattle.std.specs.Prelude.{Some, None, is_some, ◌==◌, ◌||◌, unwrap_or, IsTrue}
+use Rattle.std.proofs.Common.{◌≡◌, ℕ, [], ◌∷◌, Bool, true, false, map, refl, ap, sym, ◌∙◌, Some, None, is_some, ◌==◌, ◌||◌, unwrap_or, IsTrue}
 use Rattle.std.specs.List.{list_any}
-use Rattle.execlist.specs.Lists.{home, is_at}
+use Rattle.execlist.specs.{Lists.home, Lists.is_at, Pool.slot}
 use Rattle.memlist.specs.Blocks.{Blocks}
 use Rattle.memlist.proofs.Answered.{nat_eq-same}
 use Rattle.msgport.specs.Ports as ports
 use Rattle.msgport.specs.Ports.{messages_of}
 use Rattle.execmodel.specs.Ports.{has_message, is_queued, messages_in}
-use Rattle.execlist.specs.Pool.{slot}
 use Rattle.execheap.specs.declared.tag.Kind.TheVariants as variant
-use Rattle.execheap.specs.declared.tag.Tagged.{Tagged}
-use Rattle.execheap.specs.declared.tag.Tagged.TheVariants as tag
-use Rattle.execheap.specs.Tags.{tag_of, tagged}
-use Rattle.execheap.specs.Table.{pool_of}
 use Rattle.execheap.specs.Numbered.{Numbered, IsSound, address_in, message_places, shown_entry, shown_heap, shown_tagged, places}
-use Rattle.execheap.proofs.Linked.{any_found, some_is}
-use Rattle.execheap.proofs.Stepping.{shape_lives}
-use Rattle.execheap.proofs.Mapped.{stands-map}
-use Rattle.execheap.proofs.Matching.{number_small}
-use Rattle.execheap.proofs.MessagePlaces.{messages_apart, stands_in_port}
-use Rattle.execheap.proofs.Tagging.{read_tag}
+use Rattle.execheap.specs.{declared.tag.Tagged.Tagged, Tags.tag_of, Tags.tagged, Table.pool_of}
+use Rattle.execheap.specs.declared.tag.Tagged.TheVariants as tag
+use Rattle.execheap.proofs.{Linked.any_found, Linked.some_is, Stepping.shape_lives, Mapped.stands-map, Matching.number_small, MessagePlaces.messages_apart, MessagePlaces.stands_in_port, Tagging.read_tag}
 
 -- ---- the port that has an address, among entries
 

@@ -1,46 +1,23 @@
 -- Queues, read one after another: what is read by number is what is shown by address.
-use Rattle.std.proofs.Common.{◌≡◌, ◌≢◌, ℕ, suc, ◌-◌, ◌≤◌, List, [], ◌∷◌, Bool, true, false, map, length, refl, ap, sym, ◌∙◌, arith}
-use Rattle.std.specs.Prelude.{Some, None, Option, find, is_some, nat_eq, ◌==◌, ◌||◌, if◌then◌else◌, unwrap_or, option_map, IfSome, IsSome}
+use Rattle.std.proofs.Common.{◌≡◌, ◌≢◌, ℕ, suc, ◌-◌, ◌≤◌, List, [], ◌∷◌, Bool, true, false, map, length, refl, ap, sym, ◌∙◌, arith, Some, None, Option, find, is_some, nat_eq, ◌==◌, ◌||◌, if◌then◌else◌, unwrap_or, option_map, IfSome, IsSome, ne_eqb}
 use Rattle.std.specs.List.{AllByRecursion, list_any}
-use Rattle.std.proofs.lemmas.Bool.{ne_eqb}
-use Rattle.execlist.specs.Lists.{home, is_at, is_named, part_after, part_from, sequence, times}
-use Rattle.execlist.specs.Order.{first}
-use Rattle.execlist.specs.Pool.{slot}
-use Rattle.memlist.specs.Blocks.{Blocks}
-use Rattle.memlist.specs.Memory.{IsWellFormed}
+use Rattle.execlist.specs.{Lists.home, Lists.is_at, Lists.is_named, Lists.part_after, Lists.part_from, Lists.sequence, Lists.times, Order.first, Pool.slot}
+use Rattle.memlist.specs.{Blocks.Blocks, Memory.IsWellFormed}
 use Rattle.memlist.proofs.Headers.{from_eq}
 use Rattle.msgport.specs.Ports as ports
 use Rattle.msgport.specs.Ports.{messages_of}
 use Rattle.sigsem.specs.Semaphores as sems
 use Rattle.sigsem.specs.Semaphores.{Semaphores, waiters_of, waits_at}
-use Rattle.timerdev.specs.DueTimes.{due_of}
-use Rattle.timerdev.specs.Timing.{Waiting}
-use Rattle.execmodel.specs.Lists.{is_list, is_list_at, nodes_of, nodes_of_object}
-use Rattle.execmodel.specs.Objects.{is_kind, object_at}
-use Rattle.execmodel.specs.Ports.{has_message, is_called, is_port, is_port_at, is_queued, messages_of_object}
+use Rattle.timerdev.specs.{DueTimes.due_of, Timing.Waiting}
+use Rattle.execmodel.specs.{Lists.is_list, Lists.is_list_at, Lists.nodes_of, Lists.nodes_of_object, Objects.is_kind, Objects.object_at, Ports.has_message, Ports.is_called, Ports.is_port, Ports.is_port_at, Ports.is_queued, Ports.messages_of_object, Semaphores.is_semaphore, Semaphores.is_semaphore_at, Semaphores.waiters_of_object, State.Block, State.ListHead, State.MsgPort, State.Object, State.PublicPort, State.Semaphore}
 use Rattle.execmodel.specs.Ports as model
-use Rattle.execmodel.specs.Semaphores.{is_semaphore, is_semaphore_at, waiters_of_object}
 use Rattle.execmodel.specs.Semaphores as semaphores
-use Rattle.execmodel.specs.State.{Block, ListHead, MsgPort, Object, PublicPort, Semaphore}
 use Rattle.execheap.specs.declared.tag.Kind.TheVariants as variant
-use Rattle.execheap.specs.declared.tag.Tagged.{Tagged}
-use Rattle.execheap.specs.declared.tag.Tagged.TheVariants as tag
-use Rattle.execheap.specs.Tags.{tagged}
-use Rattle.execheap.specs.Table.{number_at}
 use Rattle.execheap.specs.Numbered.{Numbered, IsSound, IsSpace, address_in, message_places, places, shown_entry, shown_heap, shown_public, shown_timer, shown_waiting}
-use Rattle.execheap.specs.Queues.{port_named, port_with}
-use Rattle.execheap.proofs.Entries.{all_then}
-use Rattle.execheap.proofs.BlockViews.{beyond}
-use Rattle.execheap.proofs.Linked.{some_is, standing_lives, told_apart, turned}
-use Rattle.execheap.proofs.Mapped.{find-map, first-map, members, part_after-map}
-use Rattle.execheap.proofs.Matching.{number_live}
+use Rattle.execheap.specs.{declared.tag.Tagged.Tagged, Tags.tagged, Table.number_at, Queues.port_named, Queues.port_with}
+use Rattle.execheap.specs.declared.tag.Tagged.TheVariants as tag
 use Rattle.execheap.proofs.MessagePlaces.{by_number, home_placed, messages_apart, place_below, place_from, standing_placed}
-use Rattle.execheap.proofs.Public.{each}
-use Rattle.execheap.proofs.Queued.{Has, has_shown, is_queued_shown, port_placed}
-use Rattle.execheap.proofs.RequestsShown.{waiting_apart, waiting_placed}
-use Rattle.execheap.proofs.Shown.{list_at_shown, port_at_shown, semaphore_at_shown, tells}
-use Rattle.execheap.proofs.Tagging.{is_object}
-use Rattle.execheap.proofs.Waits.{waiting_members}
+use Rattle.execheap.proofs.{Entries.all_then, BlockViews.beyond, Linked.some_is, Linked.standing_lives, Linked.told_apart, Linked.turned, Mapped.find-map, Mapped.first-map, Mapped.members, Mapped.part_after-map, Matching.number_live, Public.each, Queued.Has, Queued.has_shown, Queued.is_queued_shown, Queued.port_placed, RequestsShown.waiting_apart, RequestsShown.waiting_placed, Shown.list_at_shown, Shown.port_at_shown, Shown.semaphore_at_shown, Shown.tells, Tagging.is_object, Waits.waiting_members}
 
 -- nothing comes after what no member represents
 after_none : (f : ℕ → ℕ) (a : ℕ) (xs : List ℕ) → AllByRecursion (λ x. (f x == a) ≡ false) xs → part_after a (map f xs) ≡ []

@@ -1,24 +1,14 @@
 -- An object that changes: by number what it holds is another, by address one block is another.
-use Rattle.std.proofs.Common.{◌≡◌, ℕ, ◌<◌, List, [], Bool, true, false, cond, map, length, slice_set, refl, ap, sym, ◌∙◌}
-use Rattle.std.specs.Prelude.{Option, nat_eq, slice_index_or, ◌&&◌, if◌then◌else◌}
+use Rattle.std.proofs.Common.{◌≡◌, ℕ, ◌<◌, List, [], Bool, true, false, cond, map, length, slice_set, refl, ap, sym, ◌∙◌, Option, nat_eq, slice_index_or, ◌&&◌, if◌then◌else◌, get_or-set_other}
 use Rattle.std.specs.List.{AllByRecursion}
-use Rattle.std.proofs.lemmas.Simd.{map-map}
-use Rattle.std.proofs.lemmas.List.{get_or-set_other}
-use Rattle.std.proofs.lemmas.Grind.{get_or-set_at}
+use Rattle.std.proofs.lemmas.{Simd.map-map, Grind.get_or-set_at}
 use Rattle.execlist.specs.Lists.{sequence}
 use Rattle.execlib.specs.Libraries.{count_of, is_delayed}
-use Rattle.execmodel.specs.State.{Object, ListHead, Library, Block}
-use Rattle.execmodel.specs.Lists.{with_nodes}
-use Rattle.execmodel.specs.Objects.{replaced}
-use Rattle.execheap.specs.declared.tag.Kind.{Kind}
+use Rattle.execmodel.specs.{State.Object, State.ListHead, State.Library, State.Block, Lists.with_nodes, Objects.replaced}
+use Rattle.execheap.specs.{declared.tag.Kind.Kind, declared.tag.Tagged.Tagged, Tags.is_same, Tags.tagged, Table.Tabled, Numbered.Numbered, Numbered.address_in, Numbered.object_of, Numbered.places, Numbered.shown_entry, Numbered.shown_heap, Numbered.shown_tagged}
 use Rattle.execheap.specs.declared.tag.Kind.TheVariants as variant
-use Rattle.execheap.specs.declared.tag.Tagged.{Tagged}
 use Rattle.execheap.specs.declared.tag.Tagged.TheVariants as tag
-use Rattle.execheap.specs.Tags.{is_same, tagged}
-use Rattle.execheap.specs.Table.{Tabled}
-use Rattle.execheap.specs.Numbered.{Numbered, address_in, object_of, places, shown_entry, shown_heap, shown_tagged}
-use Rattle.execheap.proofs.Entries.{all_then, map_same}
-use Rattle.execheap.proofs.Tagging.{either_number, is_object}
+use Rattle.execheap.proofs.{Entries.all_then, Entries.map_same, Tagging.either_number, Tagging.is_object}
 
 -- exactly the block at an address is the object of a kind and a number
 abbrev pub Tells : Numbered → ℕ → Kind → ℕ → Type 0

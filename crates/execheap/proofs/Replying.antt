@@ -1,12 +1,9 @@
 -- What a reply makes of the objects that are shown: a message without a reply port changes its type, and another one is put at its port.
-use Rattle.std.proofs.Common.{◌≡◌, ℕ, ap}
-use Rattle.std.specs.Prelude.{◌≢◌, if◌then◌else◌, nat_eq}
+use Rattle.std.proofs.Common.{◌≡◌, ℕ, ap, ◌≢◌, if◌then◌else◌, nat_eq}
 use Rattle.memlist.proofs.Answered.{nat_eq-other}
 use Rattle.msgport.specs.declared.action.Action.TheVariants as action
-use Rattle.msgport.specs.Port.{acting}
-use Rattle.msgport.specs.Ports.{nt_freemsg, nt_replymsg}
-use Rattle.execmodel.specs.State.{Heap}
-use Rattle.execmodel.specs.Ports.{content_of, port_of, posted, typed}
+use Rattle.msgport.specs.{Port.acting, Ports.nt_freemsg, Ports.nt_replymsg}
+use Rattle.execmodel.specs.{State.Heap, Ports.content_of, Ports.port_of, Ports.posted, Ports.typed}
 use Rattle.execheap.specs.Listing.{replied_by, replying}
 
 module _ (message : ℕ) (heap : Heap) where

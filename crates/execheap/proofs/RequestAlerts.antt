@@ -1,22 +1,13 @@
 -- The alerts of the calls on requests by address, reported by number.
-use Rattle.std.proofs.Common.{◌≡◌, ℕ, List, Bool, true, false, refl, ap, sym, ◌∙◌}
-use Rattle.std.specs.Prelude.{Option, None, Some, codes, is_some, not, ◌&&◌, if◌then◌else◌}
+use Rattle.std.proofs.Common.{◌≡◌, ℕ, List, Bool, true, false, refl, ap, sym, ◌∙◌, Option, None, Some, codes, is_some, not, ◌&&◌, if◌then◌else◌}
 use Rattle.execlist.specs.Pool.{slot}
-use Rattle.iorequest.specs.declared.request.ReqState.{ReqState}
-use Rattle.iorequest.specs.declared.request.Request.{Request as TimerRequest}
-use Rattle.iorequest.specs.Request.{is_open, is_under_way}
-use Rattle.iorequest.specs.Requests.{request_at}
+use Rattle.iorequest.specs.{declared.request.ReqState.ReqState, declared.request.Request.Request as TimerRequest, Request.is_open, Request.is_under_way, Requests.request_at}
 use Rattle.msgport.specs.Ports as ports
-use Rattle.execmodel.specs.State.{Heap}
-use Rattle.execmodel.specs.Ports.{is_queued, port_alert, wait_alert}
 use Rattle.execmodel.specs.Requests.{begin_alert, can_begin, delete_request_alert, do_alert, is_request_at, request_alert, request_of, request_of_object, resting_alert, send_alert, state_alert, wait_io_alert}
+use Rattle.execmodel.specs.{State.Heap, Ports.is_queued, Ports.port_alert, Ports.wait_alert}
 use Rattle.execheap.specs.declared.tag.Kind.TheVariants as variant
-use Rattle.execheap.specs.Numbered.{IsSound, Numbered, message_of_request, places, shown_heap}
-use Rattle.execheap.specs.Table.{number_at}
-use Rattle.execheap.proofs.Alerts.{handle_unless, is_there, link_if, refused_first}
-use Rattle.execheap.proofs.MessagePlaces.{request_standing}
-use Rattle.execheap.proofs.Queued.{is_queued_shown}
-use Rattle.execheap.proofs.Showing.{kind_shown, object_numbered}
+use Rattle.execheap.specs.{Numbered.IsSound, Numbered.Numbered, Numbered.message_of_request, Numbered.places, Numbered.shown_heap, Table.number_at}
+use Rattle.execheap.proofs.{Alerts.handle_unless, Alerts.is_there, Alerts.link_if, Alerts.refused_first, MessagePlaces.request_standing, Queued.is_queued_shown, Showing.kind_shown, Showing.object_numbered}
 
 -- ---- what begins at an address
 

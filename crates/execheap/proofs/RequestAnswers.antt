@@ -1,44 +1,24 @@
 -- What the calls on requests answer by number and by address.
-use Rattle.std.proofs.Common.{◌≡◌, ℕ, Bool, true, false, refl, ap, sym, ◌∙◌}
-use Rattle.std.specs.Prelude.{ℤ, pos, negsuc, Option, Some, None, is_some, if◌then◌else◌, unwrap_or, option_map, IsSome, IsTrue}
-use Rattle.execlist.specs.Lists.{home}
-use Rattle.execlist.specs.Pool.{Pooled, slot}
-use Rattle.memlist.specs.Blocks.{block_at}
-use Rattle.memlist.specs.Memory.{IsWellFormed}
-use Rattle.iorequest.specs.declared.request.Begun.{Begun}
+use Rattle.std.proofs.Common.{◌≡◌, ℕ, Bool, true, false, refl, ap, sym, ◌∙◌, ℤ, pos, negsuc, Option, Some, None, is_some, if◌then◌else◌, unwrap_or, option_map, IsSome, IsTrue}
+use Rattle.execlist.specs.{Lists.home, Pool.Pooled, Pool.slot}
+use Rattle.memlist.specs.{Blocks.block_at, Memory.IsWellFormed}
 use Rattle.iorequest.specs.declared.request.Begun.TheVariants.{Finish, NewTime, Queue, Until}
-use Rattle.iorequest.specs.declared.request.Request.{Request as TimerRequest}
-use Rattle.iorequest.specs.declared.request.ReqState.{ReqState}
 use Rattle.iorequest.specs.declared.request.ReqState.TheVariants.{Idle, UnderWay, Quick, Replied}
-use Rattle.iorequest.specs.Request.{done_state, finished, idle_request, is_under_way, is_way}
-use Rattle.iorequest.specs.Requests.{is_request, request_at}
-use Rattle.msgport.specs.declared.action.Action.{Action}
-use Rattle.msgport.specs.Port.{Port, new_port}
+use Rattle.iorequest.specs.{declared.request.Begun.Begun, declared.request.Request.Request as TimerRequest, declared.request.ReqState.ReqState, Request.done_state, Request.finished, Request.idle_request, Request.is_under_way, Request.is_way, Requests.is_request, Requests.request_at}
+use Rattle.msgport.specs.{declared.action.Action.Action, Port.Port, Port.new_port}
 use Rattle.msgport.specs.Ports as ports
-use Rattle.timerdev.specs.Held.{Held, on_timer}
-use Rattle.timerdev.specs.Timing.{AtClock, AtSystem, Due, Timer, due_next, is_waiting, system_set, until_next}
-use Rattle.execmodel.specs.State.{Heap, on_heap}
-use Rattle.execmodel.specs.Ports.{port_in, port_of, port_of_object}
+use Rattle.timerdev.specs.{Held.Held, Held.on_timer, Timing.AtClock, Timing.AtSystem, Timing.Due, Timing.Timer, Timing.due_next, Timing.is_waiting, Timing.system_set, Timing.until_next}
+use Rattle.execmodel.specs.{State.Heap, State.on_heap, Ports.port_in, Ports.port_of, Ports.port_of_object, Requests.request_of}
 use Rattle.execmodel.specs.Requests as model
-use Rattle.execmodel.specs.Requests.{request_of}
 use Rattle.execheap.specs.declared.awaited.Awaited.TheVariants as awaited
 use Rattle.execheap.specs.declared.tag.Kind.TheVariants as variant
-use Rattle.execheap.specs.declared.tag.Tagged.{Tagged}
-use Rattle.execheap.specs.declared.tag.Tagged.TheVariants as tag
-use Rattle.execheap.specs.Tags.{tagged}
-use Rattle.execheap.specs.Table.{Tabled, number_at}
-use Rattle.execheap.specs.Listing.{aborted, aborting, acting_finished, awaited_for, ended_if, finishing, taken_by_state, taken_if_replied}
 use Rattle.execheap.specs.Numbered.{Numbered, IsSound, address_in, message_of_request, places, shown_heap, shown_memory, shown_tagged, shown_timer}
-use Rattle.execheap.specs.Requesting as numbers
 use Rattle.execheap.specs.Requesting.{begun_as, begun_now, begun_so, begun_until, done_with, goes_on, reply_out}
-use Rattle.execheap.proofs.Entries.{some_same}
-use Rattle.execheap.proofs.KeptRequests.{begun_port, request_live, written_here}
-use Rattle.execheap.proofs.Linked.{some_is}
-use Rattle.execheap.proofs.Matching.{number_live}
-use Rattle.execheap.proofs.RequestAlerts.{request_shown}
-use Rattle.execheap.proofs.RequestCalls.{due_waits, until_waits, waiting_under_way}
+use Rattle.execheap.specs.{declared.tag.Tagged.Tagged, Tags.tagged, Table.Tabled, Table.number_at, Listing.aborted, Listing.aborting, Listing.acting_finished, Listing.awaited_for, Listing.ended_if, Listing.finishing, Listing.taken_by_state, Listing.taken_if_replied}
+use Rattle.execheap.specs.declared.tag.Tagged.TheVariants as tag
+use Rattle.execheap.specs.Requesting as numbers
 use Rattle.execheap.proofs.RequestsShown.{acting_ended_shown, due_shown, ended_shown, taken_shown, until_shown}
-use Rattle.execheap.proofs.Showing.{object_at_shown}
+use Rattle.execheap.proofs.{Entries.some_same, KeptRequests.begun_port, KeptRequests.request_live, KeptRequests.written_here, Linked.some_is, Matching.number_live, RequestAlerts.request_shown, RequestCalls.due_waits, RequestCalls.until_waits, RequestCalls.waiting_under_way, Showing.object_at_shown}
 
 -- ---- what a task gets that looks for a request
 

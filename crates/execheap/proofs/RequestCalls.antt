@@ -1,25 +1,16 @@
 -- What a call on a request by number makes of the objects, as it is reported step by step.
-use Rattle.std.proofs.Common.{◌≡◌, ℕ, zero, suc, List, [], ◌∷◌, Bool, true, false, cond, slice_set, w8, to_z, of_z, refl, ap, sym, ◌∙◌}
-use Rattle.std.specs.Prelude.{ℤ, pos, negsuc, if◌then◌else◌, Some, None, Option, Ok, Err, Result, filter, is_ok, is_some, option_map, ◌&&◌, ◌||◌, ◌==◌, IsTrue}
+use Rattle.std.proofs.Common.{◌≡◌, ℕ, zero, suc, List, [], ◌∷◌, Bool, true, false, cond, slice_set, w8, to_z, of_z, refl, ap, sym, ◌∙◌, ℤ, pos, negsuc, if◌then◌else◌, Some, None, Option, Ok, Err, Result, filter, is_ok, is_some, option_map, ◌&&◌, ◌||◌, ◌==◌, IsTrue, eq-eqb}
 use Rattle.std.specs.List.{list_any}
-use Rattle.std.proofs.lemmas.Bool.{eq-eqb, or_left, or_right}
-use Rattle.execlist.specs.Order.{chosen, chosen_or, is_lower}
-use Rattle.execlist.specs.Pool.{Pooled}
-use Rattle.iorequest.specs.declared.fault.ReqFault.{ReqFault}
-use Rattle.iorequest.specs.declared.request.Begun.{Begun}
+use Rattle.std.proofs.lemmas.Bool.{or_left, or_right}
+use Rattle.execlist.specs.{Order.chosen, Order.chosen_or, Order.is_lower, Pool.Pooled, Answers.fault_or, Answers.kept_or}
 use Rattle.iorequest.specs.declared.request.Begun.TheVariants.{Finish, NewTime, Queue, Until}
-use Rattle.iorequest.specs.declared.request.Request.{Request as TimerRequest}
-use Rattle.execlist.specs.Answers.{fault_or, kept_or}
 use Rattle.iorequest.specs.Request.{adds, asks_time, begun, due_of, finished, is_to_wait, is_under_way, is_until, outcome, reply_port, sets_time, time_of}
-use Rattle.iorequest.specs.Requests.{is_request, request_at, with_request}
+use Rattle.iorequest.specs.{declared.fault.ReqFault.ReqFault, declared.request.Begun.Begun, declared.request.Request.Request as TimerRequest, Requests.is_request, Requests.request_at, Requests.with_request}
 use Rattle.msgport.specs.Ports.{MessagePorts}
-use Rattle.timerdev.specs.Held.{Held, on_timer}
-use Rattle.timerdev.specs.Timing.{Timer, Waiting, due_next, has_come, is_system, is_waiting, next_of, sooner, system_set, until_next}
-use Rattle.execheap.specs.Numbered.{IsKept, IsSound, Numbered, message_of_request}
+use Rattle.timerdev.specs.{Held.Held, Held.on_timer, Timing.Timer, Timing.Waiting, Timing.due_next, Timing.has_come, Timing.is_system, Timing.is_waiting, Timing.next_of, Timing.sooner, Timing.system_set, Timing.until_next}
 use Rattle.execheap.specs.Requesting.{acting_at, acting_so, answering, begun_as, begun_now, begun_so, done_with, goes_on, on_timing, port_number, put_at}
-use Rattle.execheap.proofs.Entries.{some_same}
-use Rattle.execheap.proofs.KeptRequests.{begun_here, begun_port, kept_done}
-use Rattle.execheap.proofs.Waits.{IsTimed}
+use Rattle.execheap.specs.Numbered.{IsKept, IsSound, Numbered, message_of_request}
+use Rattle.execheap.proofs.{Entries.some_same, KeptRequests.begun_here, KeptRequests.begun_port, KeptRequests.kept_done, Waits.IsTimed}
 
 -- ---- what an answer reports
 

@@ -1,30 +1,18 @@
 -- Requests made and freed.
-use Rattle.std.proofs.Common.{◌≡◌, ◌≢◌, ℕ, true, false, inl, inr, ◌⊎◌, map, refl, ap, sym, ◌∙◌, arith}
-use Rattle.std.specs.Prelude.{Some, None, Option, is_some, unwrap_or, slice_set, IsSome}
+use Rattle.std.proofs.Common.{◌≡◌, ◌≢◌, ℕ, true, false, inl, inr, ◌⊎◌, map, refl, ap, sym, ◌∙◌, arith, Some, None, Option, is_some, unwrap_or, slice_set, IsSome}
 use Rattle.std.proofs.lemmas.Bool.{cases_eq}
-use Rattle.execlist.specs.Lists.{home, sequence}
-use Rattle.execlist.specs.Pool.{Pooled, next_number, slot}
+use Rattle.execlist.specs.{Lists.home, Lists.sequence, Pool.Pooled, Pool.next_number, Pool.slot}
 use Rattle.execlist.proofs.Pools.{slot_other, slot_same}
-use Rattle.iorequest.specs.declared.request.Request.{Request as TimerRequest}
-use Rattle.iorequest.specs.Request.{idle_request, is_under_way}
-use Rattle.iorequest.specs.Requests.{is_request, request_at, request_freed, request_made}
+use Rattle.iorequest.specs.{declared.request.Request.Request as TimerRequest, Request.idle_request, Request.is_under_way, Requests.is_request, Requests.request_at, Requests.request_freed, Requests.request_made}
 use Rattle.msgport.specs.Ports as ports
 use Rattle.msgport.specs.Ports.{port_at}
 use Rattle.timerdev.specs.Timing.{is_waiting}
-use Rattle.execmodel.specs.State.{ListHead, MsgPort, Request}
-use Rattle.execmodel.specs.Memory.{freed, placed}
-use Rattle.execheap.specs.declared.tag.Kind.{Kind}
-use Rattle.execheap.specs.declared.tag.Kind.TheVariants as variant
-use Rattle.execheap.specs.Tags.{kind_code}
-use Rattle.execheap.specs.Table.{Tabled}
+use Rattle.execmodel.specs.{State.ListHead, State.MsgPort, State.Request, Memory.freed, Memory.placed}
 use Rattle.execheap.specs.Numbered.{Numbered, IsKept, address_in, is_way_at, message_of_request, object_of, own_shape, places, shape, shown_memory}
-use Rattle.execheap.proofs.Beside.{public_kept, timer_beside}
-use Rattle.execheap.proofs.Front.{front}
-use Rattle.execheap.proofs.InTime.{IsAlong}
-use Rattle.execheap.proofs.KeptRequests.{not_way, request_live, way_of}
-use Rattle.execheap.proofs.MessagePlaces.{request_standing, standing_new, standing_left}
-use Rattle.execheap.proofs.RequestCalls.{both_true}
+use Rattle.execheap.specs.{declared.tag.Kind.Kind, Tags.kind_code, Table.Tabled}
+use Rattle.execheap.specs.declared.tag.Kind.TheVariants as variant
 use Rattle.execheap.proofs.Made.{IsMade, IsFreed, not_new, apart, beside, kept_new, shown_new, own_next, own_known, own_vacant, own_slots, own_given, apart_left, beside_left, kept_left, shown_left, own_there, own_released}
+use Rattle.execheap.proofs.{Beside.public_kept, Beside.timer_beside, Front.front, InTime.IsAlong, KeptRequests.not_way, KeptRequests.request_live, KeptRequests.way_of, MessagePlaces.request_standing, MessagePlaces.standing_new, MessagePlaces.standing_left, RequestCalls.both_true}
 
 module _ {s : Numbered} (kept : IsKept s) where
   -- one that waits lives, and is under way

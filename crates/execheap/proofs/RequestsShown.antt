@@ -1,58 +1,29 @@
 -- What the calls on requests by number show by address.
-use Rattle.std.proofs.Common.{◌≡◌, ◌≢◌, ℕ, ◌<◌, ◌≤◌, List, [], ◌∷◌, ◌++◌, Bool, true, false, not, inl, inr, ◌⊎◌, map, length, refl, ap, sym, ◌∙◌, arith}
-use Rattle.std.specs.Prelude.{ℤ, pos, neg_ℤ, Option, Some, None, is_some, nat_eq, if◌then◌else◌, filter, unwrap_or, option_map, IsSome, IsTrue, ◌&&◌, ◌==◌}
+use Rattle.std.proofs.Common.{◌≡◌, ◌≢◌, ℕ, ◌<◌, ◌≤◌, List, [], ◌∷◌, ◌++◌, Bool, true, false, not, inl, inr, ◌⊎◌, map, length, refl, ap, sym, ◌∙◌, arith, ℤ, pos, neg_ℤ, Option, Some, None, is_some, nat_eq, if◌then◌else◌, filter, unwrap_or, option_map, IsSome, IsTrue, ◌&&◌, ◌==◌, eq-eqb, ne_eqb}
 use Rattle.std.specs.List.{AllByRecursion}
-use Rattle.std.proofs.lemmas.Bool.{cases_eq, eq-eqb, ne_eqb}
-use Rattle.std.proofs.lemmas.List.{map-append}
-use Rattle.execlist.specs.Order.{chosen, without}
-use Rattle.execlist.specs.Lists.{home, sequence}
-use Rattle.execlist.specs.Pool.{Pooled, slot}
+use Rattle.std.proofs.lemmas.{Bool.cases_eq, List.map-append}
+use Rattle.execlist.specs.{Order.chosen, Order.without, Lists.home, Lists.sequence, Pool.Pooled, Pool.slot}
 use Rattle.execlist.proofs.Pools.{slot_known, slot_other}
 use Rattle.memlist.specs.Memory.{IsWellFormed}
-use Rattle.iorequest.specs.declared.request.Request.{Request as TimerRequest}
-use Rattle.iorequest.specs.declared.request.Begun.{Begun}
 use Rattle.iorequest.specs.declared.request.Begun.TheVariants.{Finish, NewTime, Queue, Until}
-use Rattle.iorequest.specs.Request.{begun, finished, idle_request, outcome, reply_port}
 use Rattle.iorequest.specs.Requests.{closed, is_request, is_unit, opened, request_at, unit_error, with_request, written_with}
-use Rattle.msgport.specs.Port.{acting, new_port}
-use Rattle.msgport.specs.Ports as ports
-use Rattle.msgport.specs.Ports.{MessagePorts, appended, left_port, let_go, message_at, messages_of, new_message, nt_replymsg, port_at, taken_out, typed}
-use Rattle.iorequest.specs.declared.request.ReqState.{ReqState}
 use Rattle.iorequest.specs.declared.request.ReqState.TheVariants.{Idle, UnderWay, Quick, Replied}
-use Rattle.timerdev.specs.Held.{on_timer}
+use Rattle.iorequest.specs.{declared.request.Request.Request as TimerRequest, declared.request.Begun.Begun, Request.begun, Request.finished, Request.idle_request, Request.outcome, Request.reply_port, declared.request.ReqState.ReqState}
+use Rattle.msgport.specs.{Port.acting, Port.new_port, Ports.MessagePorts, Ports.appended, Ports.left_port, Ports.let_go, Ports.message_at, Ports.messages_of, Ports.new_message, Ports.nt_replymsg, Ports.port_at, Ports.taken_out, Ports.typed}
+use Rattle.msgport.specs.Ports as ports
 use Rattle.timerdev.specs.Timing.{AtClock, AtSystem, Due, Timer, Waiting, begins_to_wait, due_next, has_come, is_system, is_waiting, moment, next_of, sooner, system_set, until_next, waits_no_more}
-use Rattle.execmodel.specs.State.{Message, MsgPort, Request, Heap, PublicPort, on_heap}
-use Rattle.execmodel.specs.Objects.{replaced}
+use Rattle.timerdev.specs.Held.{on_timer}
+use Rattle.execmodel.specs.{State.Message, State.MsgPort, State.Request, State.Heap, State.PublicPort, State.on_heap, Objects.replaced}
 use Rattle.execmodel.specs.Ports as port_model
 use Rattle.execmodel.specs.Requests as model
-use Rattle.execheap.specs.declared.tag.Kind.{Kind}
-use Rattle.execheap.specs.declared.tag.Kind.TheVariants as variant
-use Rattle.execheap.specs.declared.tag.Tagged.{Tagged}
-use Rattle.execheap.specs.declared.tag.Tagged.TheVariants as tag
-use Rattle.execheap.specs.Tags.{is_same, tagged}
-use Rattle.execheap.specs.Table as table
-use Rattle.execheap.specs.Table.{number_at, place_of}
-use Rattle.execheap.specs.Changes.{on_ports}
-use Rattle.execheap.specs.Listing.{acting_begun, taken_by_state}
 use Rattle.execheap.specs.Numbered.{Numbered, IsSound, address_in, message_of_request, message_places, object_of, places, shown_entry, shown_heap, shown_library, shown_memory, shown_public, shown_tagged, shown_timer, shown_waiting}
-use Rattle.execheap.specs.Requesting as numbers
 use Rattle.execheap.specs.Requesting.{acting_so, begun_as, begun_now, begun_so, begun_until, done_with, goes_on, on_requests, on_timing, port_number, put_at, reply_out}
-use Rattle.execheap.proofs.Entries.{all_then, map_same}
-use Rattle.execheap.proofs.KeptRequests.{request_live, written_here}
-use Rattle.execheap.proofs.Beside.{public_kept}
-use Rattle.execheap.proofs.Linked.{some_is}
-use Rattle.execheap.proofs.Mapped.{chosen-map, without-map}
-use Rattle.execheap.proofs.Matching.{number_live, number_placed, number_same}
-use Rattle.execheap.proofs.MessagePlaces.{messages_apart, request_standing}
-use Rattle.execheap.proofs.Posted.{appended_heap, item_known, objects_beside, same_at, with_port_shown, written_at}
-use Rattle.execheap.proofs.Public.{each, filter-map}
-use Rattle.execheap.proofs.Relisted.{Tells, item_set, object_replaced}
-use Rattle.execheap.proofs.RequestAlerts.{request_at_shown, request_shown}
-use Rattle.execheap.proofs.RequestCalls.{set_twice, waiting_under_way}
-use Rattle.execheap.proofs.Shown.{messages_shown, port_at_shown, port_shown, tells}
-use Rattle.execheap.proofs.Stepping.{shape_lives}
-use Rattle.execheap.proofs.Waits.{waiting_members}
-use Rattle.execheap.proofs.Ticked.{timing_beside}
+use Rattle.execheap.specs.{declared.tag.Kind.Kind, declared.tag.Tagged.Tagged, Tags.is_same, Tags.tagged, Table.number_at, Table.place_of, Changes.on_ports, Listing.acting_begun, Listing.taken_by_state}
+use Rattle.execheap.specs.declared.tag.Kind.TheVariants as variant
+use Rattle.execheap.specs.declared.tag.Tagged.TheVariants as tag
+use Rattle.execheap.specs.Table as table
+use Rattle.execheap.specs.Requesting as numbers
+use Rattle.execheap.proofs.{Entries.all_then, Entries.map_same, KeptRequests.request_live, KeptRequests.written_here, Beside.public_kept, Linked.some_is, Mapped.chosen-map, Mapped.without-map, Matching.number_live, Matching.number_placed, Matching.number_same, MessagePlaces.messages_apart, MessagePlaces.request_standing, Posted.appended_heap, Posted.item_known, Posted.objects_beside, Posted.same_at, Posted.with_port_shown, Posted.written_at, Public.each, Public.filter-map, Relisted.Tells, Relisted.item_set, Relisted.object_replaced, RequestAlerts.request_at_shown, RequestAlerts.request_shown, RequestCalls.set_twice, RequestCalls.waiting_under_way, Shown.messages_shown, Shown.port_at_shown, Shown.port_shown, Shown.tells, Stepping.shape_lives, Waits.waiting_members, Ticked.timing_beside}
 
 -- ---- parts of the memory that is shown
 

@@ -1,22 +1,14 @@
 -- The messages of the requests, which are made first: they have the numbers after those of the other messages.
-use Rattle.std.proofs.Common.{◌≡◌, ℕ, zero, suc, ◌+◌, ◌-◌, ◌<◌, ◌≤◌, List, [], ◌∷◌, ◌++◌, true, false, length, replicate, slice_set, refl, ap, ◌∙◌, subst, arith}
-use Rattle.std.specs.Prelude.{Some, None, Option, is_some, is_ok, take, IsTrue}
+use Rattle.std.proofs.Common.{◌≡◌, ℕ, zero, suc, ◌+◌, ◌-◌, ◌<◌, ◌≤◌, List, [], ◌∷◌, ◌++◌, true, false, length, replicate, slice_set, refl, ap, ◌∙◌, subst, arith, Some, None, Option, is_some, is_ok, take, IsTrue, ok_or, length-append, length-set, length-take-le}
 use Rattle.std.specs.List.{range_with_len}
-use Rattle.std.specs.Option.{ok_or}
 use Rattle.std.proofs.Math.Seq.{take-append_seam}
-use Rattle.std.proofs.lemmas.List.{length-append, length-replicate, length-set, length-take-le}
-use Rattle.execlist.specs.Lists.{last}
-use Rattle.execlist.specs.Pool.{Pooled, all_free, given, given_at, next_number, slot}
-use Rattle.execlist.proofs.PlainLemmas.{last-push}
-use Rattle.execlist.proofs.Pools.{slot_new, slot_other, slot_same}
+use Rattle.std.proofs.lemmas.List.{length-replicate}
+use Rattle.execlist.specs.{Lists.last, Pool.Pooled, Pool.all_free, Pool.given, Pool.given_at, Pool.next_number, Pool.slot}
+use Rattle.execlist.proofs.{PlainLemmas.last-push, Pools.slot_new, Pools.slot_other, Pools.slot_same}
 use Rattle.memlist.proofs.Answered.{cases_eq}
-use Rattle.msgport.specs.declared.message.Message.{Message}
-use Rattle.msgport.specs.declared.fault.PortFault.TheVariants.{PoolFull}
-use Rattle.msgport.specs.Ports.{MessagePorts, new_message, no_ports}
-use Rattle.execheap.specs.Changes.{reserved}
-use Rattle.execheap.specs.Numbered.{shape}
-use Rattle.execheap.proofs.Front.{front}
-use Rattle.execheap.proofs.Stepping.{shape_new}
+use Rattle.msgport.specs.{declared.message.Message.Message, declared.fault.PortFault.TheVariants.PoolFull, Ports.MessagePorts, Ports.new_message, Ports.no_ports}
+use Rattle.execheap.specs.{Changes.reserved, Numbered.shape}
+use Rattle.execheap.proofs.{Front.front, Stepping.shape_new}
 
 -- ---- there is a number for each
 

@@ -1,22 +1,14 @@
 -- The alerts and the answers of the calls on semaphores by address, reported by number.
-use Rattle.std.proofs.Common.{◌≡◌, ℕ, List, Bool, true, false, refl, ap, sym, ◌∙◌}
-use Rattle.std.specs.Prelude.{Option, None, Some, IfOk, OnOk, codes, is_some, if◌then◌else◌}
-use Rattle.execlist.specs.Order.{first}
-use Rattle.execlist.specs.Pool.{slot}
-use Rattle.sigsem.specs.declared.fault.SemFault.{SemFault}
+use Rattle.std.proofs.Common.{◌≡◌, ℕ, List, Bool, true, false, refl, ap, sym, ◌∙◌, Option, None, Some, IfOk, OnOk, codes, is_some, if◌then◌else◌}
+use Rattle.execlist.specs.{Order.first, Pool.slot, Answers.fault_or, Answers.kept_or}
 use Rattle.sigsem.specs.declared.fault.SemFault.TheVariants.{NotOwner, TooDeep}
-use Rattle.execlist.specs.Answers.{fault_or, kept_or}
+use Rattle.sigsem.specs.{declared.fault.SemFault.SemFault, Semaphores.deep_fault, Semaphores.release_fault, Semaphores.is_last, Semaphores.is_owned, Semaphores.is_owner, Semaphores.is_too_deep}
 use Rattle.sigsem.specs.Semaphores as sems
-use Rattle.sigsem.specs.Semaphores.{deep_fault, release_fault, is_last, is_owned, is_owner, is_too_deep}
-use Rattle.execmodel.specs.State.{Heap}
 use Rattle.execmodel.specs.Semaphores.{free_sem_alert, heir, is_semaphore_at, obtain_alert, release_alert, sem_of, semaphore_alert}
+use Rattle.execmodel.specs.State.{Heap}
 use Rattle.execheap.specs.declared.tag.Kind.TheVariants as variant
-use Rattle.execheap.specs.Refusals.{alert_of, told}
-use Rattle.execheap.specs.Numbered.{Numbered, IsSound, shown_heap, places}
-use Rattle.execheap.specs.Table.{number_at}
-use Rattle.execheap.proofs.Alerts.{handle_unless, refused_first}
-use Rattle.execheap.proofs.Matching.{number_live}
-use Rattle.execheap.proofs.Shown.{semaphore_at_shown, sem_shown, waiters_shown}
+use Rattle.execheap.specs.{Refusals.alert_of, Refusals.told, Numbered.Numbered, Numbered.IsSound, Numbered.shown_heap, Numbered.places, Table.number_at}
+use Rattle.execheap.proofs.{Alerts.handle_unless, Alerts.refused_first, Matching.number_live, Shown.semaphore_at_shown, Shown.sem_shown, Shown.waiters_shown}
 
 -- ---- the alert of a semaphore
 

@@ -1,21 +1,14 @@
 -- Semaphores made and freed.
-use Rattle.std.proofs.Common.{◌≡◌, ◌≢◌, ℕ, [], refl, ap, ◌∙◌, arith}
-use Rattle.std.specs.Prelude.{Some, None, is_some, unwrap_or, not, length, slice_set, IsTrue}
+use Rattle.std.proofs.Common.{◌≡◌, ◌≢◌, ℕ, [], refl, ap, ◌∙◌, arith, Some, None, is_some, unwrap_or, not, length, slice_set, IsTrue}
 use Rattle.execlist.specs.Pool.{next_number, slot}
 use Rattle.execlist.proofs.Pools.{slot_other, slot_same}
 use Rattle.sigsem.specs.Semaphores as sems
 use Rattle.sigsem.specs.Semaphores.{free_sem, sem_at, sem_freed, sem_made, waiters_of}
-use Rattle.execmodel.specs.State.{Semaphore}
-use Rattle.execmodel.specs.Memory.{freed, placed}
-use Rattle.execheap.specs.declared.tag.Kind.{Kind}
+use Rattle.execmodel.specs.{State.Semaphore, Memory.freed, Memory.placed}
+use Rattle.execheap.specs.{declared.tag.Kind.Kind, Tags.kind_code, Table.Tabled, Numbered.Numbered, Numbered.IsKept, Numbered.object_of, Numbered.own_shape, Numbered.places, Numbered.shape, Numbered.shown_memory}
 use Rattle.execheap.specs.declared.tag.Kind.TheVariants as variant
-use Rattle.execheap.specs.Tags.{kind_code}
-use Rattle.execheap.specs.Table.{Tabled}
-use Rattle.execheap.specs.Numbered.{Numbered, IsKept, object_of, own_shape, places, shape, shown_memory}
-use Rattle.execheap.proofs.Beside.{objects_kept, public_kept, timer_kept}
-use Rattle.execheap.proofs.Front.{front}
-use Rattle.execheap.proofs.InTime.{along_same}
 use Rattle.execheap.proofs.Made.{IsMade, IsFreed, not_new, apart, kept_new, shown_new, own_next, own_known, own_vacant, own_slots, own_given, apart_left, kept_left, shown_left, own_lives, own_released}
+use Rattle.execheap.proofs.{Beside.objects_kept, Beside.public_kept, Beside.timer_kept, Front.front, InTime.along_same}
 
 abbrev changed : Numbered → Tabled → sems.Semaphores → Numbered
 changed s t q = record s { table = t; sems = q }

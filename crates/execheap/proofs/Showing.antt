@@ -1,34 +1,17 @@
 -- What objects by number show by address, for every kind alike.
-use Rattle.std.proofs.Common.{◌≡◌, ◌≢◌, ℕ, suc, ◌<◌, List, [], ◌∷◌, Bool, true, false, cond, map, length, refl, ap, sym, ◌∙◌, subst, arith}
-use Rattle.std.specs.Prelude.{Option, None, Some, is_some, not, nat_eq, if◌then◌else◌, filter, IfSome}
-use Rattle.std.specs.Option.{option_map, option_and_then}
-use Rattle.std.specs.List.{AllByRecursion}
-use Rattle.std.specs.Ordering.{nat_cmp}
-use Rattle.std.specs.FinMap.{put}
-use Rattle.std.specs.FinMap.Entries.{where_key}
-use Rattle.std.proofs.lemmas.Bool.{le-ltb, lt-ltb}
-use Rattle.memlist.specs.Blocks.{Blocks, block_at}
-use Rattle.memlist.specs.Fit.{fit, round}
-use Rattle.memlist.specs.Memory.{IsWellFormed, without_block}
+use Rattle.std.proofs.Common.{◌≡◌, ◌≢◌, ℕ, suc, ◌<◌, List, [], ◌∷◌, Bool, true, false, cond, map, length, refl, ap, sym, ◌∙◌, subst, arith, Option, None, Some, is_some, not, nat_eq, if◌then◌else◌, filter, IfSome, option_map, option_and_then, nat_cmp, le-ltb, lt-ltb}
+use Rattle.std.specs.{List.AllByRecursion, FinMap.put, FinMap.Entries.where_key}
+use Rattle.memlist.specs.{Blocks.Blocks, Blocks.block_at, Fit.fit, Fit.round, Memory.IsWellFormed, Memory.without_block}
 use Rattle.execlist.specs.Pool.{IsStocked, next_number, slot}
 use Rattle.execlist.proofs.Pools.{taken_below}
 use Rattle.execlib.specs.Libraries.{count_of, is_delayed}
-use Rattle.execmodel.specs.State.{Object, Plain, Library, Block}
+use Rattle.execmodel.specs.{State.Object, State.Plain, State.Library, State.Block, Memory.freed, Memory.place_for, Memory.placed, Objects.is_allowed, Objects.object_at, Objects.is_kind, Objects.live, Objects.place_for_object}
 use Rattle.execmodel.specs.Memory as model
-use Rattle.execmodel.specs.Memory.{freed, place_for, placed}
-use Rattle.execmodel.specs.Objects.{is_allowed, object_at, is_kind, live, place_for_object}
-use Rattle.execheap.proofs.Entries.{all_then, find_shown, map_same, put_shown, some_same, where_key_shown}
-use Rattle.execheap.specs.declared.tag.Kind.{Kind}
-use Rattle.execheap.specs.declared.tag.Kind.TheVariants as kind
-use Rattle.execheap.specs.declared.tag.Tagged.{Tagged}
-use Rattle.execheap.specs.declared.tag.Tagged.TheVariants as tag
-use Rattle.execheap.specs.Tags.{is_of, is_same, number_in, size_of, tag_of, tagged}
-use Rattle.execheap.specs.Table.{Tabled, IsSound, IsTagged, counted, next_object, number_at, object_at_next, place_of, pool_of, slots_of, with_object, without_object}
+use Rattle.execheap.proofs.{Entries.all_then, Entries.find_shown, Entries.map_same, Entries.put_shown, Entries.some_same, Entries.where_key_shown, Counting.all_freed, Matching.other_object, Tagging.cases_kind, Tagging.read_tag, Tagging.same_other, Tagging.same_self, Blocks.fit_shown}
 use Rattle.execheap.specs.Numbered.{Numbered, object_of, shown_block, shown_entry, shown_heap, shown_library, shown_memory, shown_public, shown_tagged, shown_timer, test_of}
-use Rattle.execheap.proofs.Counting.{all_freed}
-use Rattle.execheap.proofs.Matching.{other_object}
-use Rattle.execheap.proofs.Tagging.{cases_kind, read_tag, same_other, same_self}
-use Rattle.execheap.proofs.Blocks.{fit_shown}
+use Rattle.execheap.specs.{declared.tag.Kind.Kind, declared.tag.Tagged.Tagged, Tags.is_of, Tags.is_same, Tags.number_in, Tags.size_of, Tags.tag_of, Tags.tagged, Table.Tabled, Table.IsSound, Table.IsTagged, Table.counted, Table.next_object, Table.number_at, Table.object_at_next, Table.place_of, Table.pool_of, Table.slots_of, Table.with_object, Table.without_object}
+use Rattle.execheap.specs.declared.tag.Kind.TheVariants as kind
+use Rattle.execheap.specs.declared.tag.Tagged.TheVariants as tag
 
 -- ---- of which kind an object is: one row for each kind, and one for the rest
 

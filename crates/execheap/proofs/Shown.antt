@@ -1,30 +1,17 @@
 -- What objects by number show by address, kind by kind.
-use Rattle.std.proofs.Common.{◌≡◌, ◌≢◌, ℕ, false, map, refl, ap, sym, ◌∙◌}
-use Rattle.std.specs.Prelude.{Some, is_some, nat_eq}
-use Rattle.std.specs.Option.{option_map}
+use Rattle.std.proofs.Common.{◌≡◌, ◌≢◌, ℕ, false, map, refl, ap, sym, ◌∙◌, Some, is_some, nat_eq, option_map}
 use Rattle.std.specs.List.{AllByRecursion}
-use Rattle.execlist.specs.Lists.{sequence, key_at}
-use Rattle.execlist.specs.Pool.{slot}
-use Rattle.memlist.specs.Blocks.{block_at}
-use Rattle.memlist.specs.Memory.{IsWellFormed}
-use Rattle.execmodel.specs.Lists.{is_list_at, is_node_at, nodes_of, nodes_of_object, key_of, key_of_object}
-use Rattle.execmodel.specs.Ports.{content_of, content_of_object, is_message_at, is_port_at, messages_of, messages_of_object, port_of, port_of_object}
-use Rattle.execmodel.specs.Semaphores.{is_semaphore_at, sem_of, sem_of_object, waiters_of, waiters_of_object}
+use Rattle.execlist.specs.{Lists.sequence, Lists.key_at, Pool.slot}
+use Rattle.memlist.specs.{Blocks.block_at, Memory.IsWellFormed}
+use Rattle.execmodel.specs.{Lists.is_list_at, Lists.is_node_at, Lists.nodes_of, Lists.nodes_of_object, Lists.key_of, Lists.key_of_object, Ports.content_of, Ports.content_of_object, Ports.is_message_at, Ports.is_port_at, Ports.messages_of, Ports.messages_of_object, Ports.port_of, Ports.port_of_object, Semaphores.is_semaphore_at, Semaphores.sem_of, Semaphores.sem_of_object, Semaphores.waiters_of, Semaphores.waiters_of_object}
 use Rattle.msgport.specs.Ports as queue
 use Rattle.msgport.specs.Ports.{message_at, port_at}
 use Rattle.sigsem.specs.Semaphores as waiting
 use Rattle.sigsem.specs.Semaphores.{sem_at}
-use Rattle.execheap.specs.declared.tag.Kind.{Kind}
+use Rattle.execheap.specs.{declared.tag.Kind.Kind, declared.tag.Tagged.Tagged, Tags.tag_of, Tags.tagged, Table.Tabled, Table.IsSound, Table.IsTagged, Table.number_at, Table.place_of, Table.slots_of, Numbered.Numbered, Numbered.address_in, Numbered.message_places, Numbered.places, Numbered.shown_heap}
 use Rattle.execheap.specs.declared.tag.Kind.TheVariants as variant
-use Rattle.execheap.specs.declared.tag.Tagged.{Tagged}
 use Rattle.execheap.specs.declared.tag.Tagged.TheVariants as tag
-use Rattle.execheap.specs.Tags.{tag_of, tagged}
-use Rattle.execheap.specs.Table.{Tabled, IsSound, IsTagged, number_at, place_of, slots_of}
-use Rattle.execheap.specs.Numbered.{Numbered, address_in, message_places, places, shown_heap}
-use Rattle.execheap.proofs.Entries.{IsFound, all_found, all_with, some_same}
-use Rattle.execheap.proofs.Matching.{number_small}
-use Rattle.execheap.proofs.Showing.{kind_shown, object_numbered}
-use Rattle.execheap.proofs.Tagging.{either_number, is_object, object_other, object_self, read_tag}
+use Rattle.execheap.proofs.{Entries.IsFound, Entries.all_found, Entries.all_with, Entries.some_same, Matching.number_small, Showing.kind_shown, Showing.object_numbered, Tagging.either_number, Tagging.is_object, Tagging.object_other, Tagging.object_self, Tagging.read_tag}
 
 module _ (s : Numbered) (a : ℕ) where
   -- ---- of which kind it is

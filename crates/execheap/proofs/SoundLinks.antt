@@ -1,18 +1,10 @@
 -- Objects stay sound if nodes are linked and unlinked: no block and no number changes, and a linked node and its list still live.
-use Rattle.std.proofs.Common.{◌≡◌, ℕ, zero, suc, ◌<◌, List, [], ◌∷◌, true, false, length, slice_set, refl, ap, sym, ◌∙◌, subst, arith}
-use Rattle.std.specs.Prelude.{Some, None, Option, is_some, IsSome, MatchOption}
-use Rattle.std.proofs.lemmas.List.{get_or-set_same, get_or-set_other, length-set}
-use Rattle.execlist.specs.Lists.{Key, home}
-use Rattle.execlist.specs.Pool.{slot}
-use Rattle.execheap.specs.declared.tag.Kind.{Kind}
+use Rattle.std.proofs.Common.{◌≡◌, ℕ, zero, suc, ◌<◌, List, [], ◌∷◌, true, false, length, slice_set, refl, ap, sym, ◌∙◌, subst, arith, Some, None, Option, is_some, IsSome, MatchOption, get_or-set_same, get_or-set_other, length-set}
+use Rattle.execlist.specs.{Lists.Key, Lists.home, Pool.slot}
+use Rattle.execheap.specs.{declared.tag.Kind.Kind, Table.pool_of, Numbered.Numbered, Numbered.Fits, Numbered.IsKept, Numbered.own_shape, Numbered.places}
 use Rattle.execheap.specs.declared.tag.Kind.TheVariants as variant
-use Rattle.execheap.specs.Table.{pool_of}
-use Rattle.execheap.specs.Numbered.{Numbered, Fits, IsKept, own_shape, places}
-use Rattle.execheap.proofs.Entries.{some_same}
-use Rattle.execheap.proofs.InTime.{in_time_beside}
-use Rattle.execheap.proofs.Linked.{some_is}
+use Rattle.execheap.proofs.{Entries.some_same, InTime.in_time_beside, Linked.some_is, Tagging.either_number}
 use Rattle.execlist.proofs.Pools.{slot_known}
-use Rattle.execheap.proofs.Tagging.{either_number}
 
 -- what lists and nodes hold is other, and their blocks and numbers are the same
 abbrev relinked : Numbered → List (List ℕ) → List (Option ℕ) → List Key → Numbered

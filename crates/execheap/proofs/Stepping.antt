@@ -1,9 +1,7 @@
 -- Pools in step stay in step if both give, release or write.
-use Rattle.std.proofs.Common.{◌≡◌, true, ℕ, zero, suc, List, [], ◌∷◌, false, length, map, replicate, slice_set, refl, ap, sym, ◌∙◌}
-use Rattle.std.specs.Prelude.{Some, None, Option, is_some, slice_index_or, take, ◌-◌, ◌++◌}
+use Rattle.std.proofs.Common.{◌≡◌, true, ℕ, zero, suc, List, [], ◌∷◌, false, length, map, replicate, slice_set, refl, ap, sym, ◌∙◌, Some, None, Option, is_some, slice_index_or, take, ◌-◌, ◌++◌}
 use Rattle.std.proofs.lemmas.List.{length-map}
-use Rattle.execlist.specs.Lists.{last}
-use Rattle.execlist.specs.Pool.{Pooled, all_free, given, given_at, next_number, released, slot, written}
+use Rattle.execlist.specs.{Lists.last, Pool.Pooled, Pool.all_free, Pool.given, Pool.given_at, Pool.next_number, Pool.released, Pool.slot, Pool.written}
 use Rattle.execheap.specs.Numbered.{Shape, shape}
 
 module _ {A : Type 0} where

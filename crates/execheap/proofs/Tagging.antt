@@ -1,15 +1,10 @@
 -- Kinds and tags: what is written is read.
-use Rattle.std.proofs.Common.{◌≡◌, ◌≢◌, ℕ, ◌+◌, ◌*◌, ◌/◌, ◌%◌, ◌<◌, length, Bool, true, false, refl, ap, sym, ◌∙◌, arith}
-use Rattle.std.specs.Prelude.{Some, nat_eq, ◌&&◌, ◌-◌, if◌then◌else◌, slice_get}
-use Rattle.std.proofs.lemmas.Bool.{lt-ltb}
-use Rattle.memlist.proofs.Answered.{cases_eq, nat_eq-other, nat_eq-same}
-use Rattle.memlist.proofs.Headers.{from_eq}
+use Rattle.std.proofs.Common.{◌≡◌, ◌≢◌, ℕ, ◌+◌, ◌*◌, ◌/◌, ◌%◌, ◌<◌, length, Bool, true, false, refl, ap, sym, ◌∙◌, arith, Some, nat_eq, ◌&&◌, ◌-◌, if◌then◌else◌, slice_get, lt-ltb}
+use Rattle.memlist.proofs.{Answered.cases_eq, Answered.nat_eq-other, Answered.nat_eq-same, Headers.from_eq}
 use Rattle.execheap.proofs.Entries.{some_same}
-use Rattle.execheap.specs.declared.tag.Kind.{Kind}
 use Rattle.execheap.specs.declared.tag.Kind.TheVariants.{List, Node, Port, Message, Semaphore, Request}
-use Rattle.execheap.specs.declared.tag.Tagged.{Tagged}
 use Rattle.execheap.specs.declared.tag.Tagged.TheVariants.{Plain, Object, Library}
-use Rattle.execheap.specs.Tags.{is_same, kind_code, kinds, libraries, object_or_plain, object_tagged, tag_of, tagged}
+use Rattle.execheap.specs.{declared.tag.Kind.Kind, declared.tag.Tagged.Tagged, Tags.is_same, Tags.kind_code, Tags.kinds, Tags.libraries, Tags.object_or_plain, Tags.object_tagged, Tags.tag_of, Tags.tagged}
 
 -- ---- kinds
 

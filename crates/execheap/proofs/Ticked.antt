@@ -1,16 +1,11 @@
 -- Clock and system time change: all objects are shown as they were.
 use Rattle.std.proofs.Common.{◌≡◌, ℕ, map, refl, ap}
 use Rattle.std.proofs.Math.Path.{fun_ext}
-use Rattle.timerdev.specs.Held.{Held, on_timer as on_held}
-use Rattle.timerdev.specs.Timing.{Timer}
+use Rattle.timerdev.specs.{Held.Held, Held.on_timer as on_held, Timing.Timer}
 use Rattle.execmodel.specs.State.{Block, on_timer}
-use Rattle.execheap.specs.declared.tag.Kind.{Kind}
+use Rattle.execheap.specs.{declared.tag.Kind.Kind, declared.tag.Tagged.Tagged, Tags.tagged, Numbered.Numbered, Numbered.object_of, Numbered.shown_heap, Numbered.shown_memory, Numbered.shown_tagged, Numbered.shown_timer, Requesting.on_timing}
 use Rattle.execheap.specs.declared.tag.Kind.TheVariants as variant
-use Rattle.execheap.specs.declared.tag.Tagged.{Tagged}
 use Rattle.execheap.specs.declared.tag.Tagged.TheVariants as tag
-use Rattle.execheap.specs.Tags.{tagged}
-use Rattle.execheap.specs.Numbered.{Numbered, object_of, shown_heap, shown_memory, shown_tagged, shown_timer}
-use Rattle.execheap.specs.Requesting.{on_timing}
 
 module _ (s : Numbered) (t : Held) where
   abbrev beside : Numbered

@@ -1,17 +1,12 @@
 -- A table at first: nothing lives.
-use Rattle.std.proofs.Common.{◌≡◌, ℕ, ◌≤◌, List, [], ◌∷◌, Bool, map, arith, true, false, length, refl, ap, sym, ◌∙◌}
-use Rattle.std.specs.Prelude.{None, Option, is_some, slice_index_or}
-use Rattle.std.specs.Option.{option_map}
+use Rattle.std.proofs.Common.{◌≡◌, ℕ, ◌≤◌, List, [], ◌∷◌, Bool, map, arith, true, false, length, refl, ap, sym, ◌∙◌, None, Option, is_some, slice_index_or, option_map}
 use Rattle.std.proofs.lemmas.List.{length-replicate}
-use Rattle.execlib.specs.declared.library.Loaded.{Loaded}
-use Rattle.execlib.specs.Libraries.{Description}
+use Rattle.execlib.specs.{declared.library.Loaded.Loaded, Libraries.Description}
 use Rattle.memlist.specs.declared.region.Region.{Region}
 use Rattle.execlist.specs.Pool.{Pooled, all_free, slot, taken}
 use Rattle.execlist.proofs.Pools.{slot_new, taken_new}
-use Rattle.execheap.specs.declared.tag.Kind.{Kind}
+use Rattle.execheap.specs.{declared.tag.Kind.Kind, Tags.kind_code, Table.IsSound, Table.emptied, Table.free_pools, Table.pool_of, Table.unused}
 use Rattle.execheap.specs.declared.tag.Kind.TheVariants as kind
-use Rattle.execheap.specs.Tags.{kind_code}
-use Rattle.execheap.specs.Table.{IsSound, emptied, free_pools, pool_of, unused}
 
 pub pool_unused : (kind : Kind) (regions : List Region) (pool : ℕ) (known : List Description) (asks : Bool) → pool_of kind (unused regions pool known asks) ≡ all_free pool
 pool_unused kind.List regions pool known asks = refl

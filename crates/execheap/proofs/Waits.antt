@@ -1,22 +1,16 @@
 -- What is held, and what waits, is the same but for one: from where it comes, and where it goes.
-use Rattle.std.proofs.Common.{◌≡◌, ◌≢◌, ℕ, suc, ◌+◌, ◌<◌, ◌≤◌, ◌^◌, List, [], ◌∷◌, ◌++◌, Bool, true, false, cond, not, inl, inr, ◌⊎◌, length, refl, ap, sym, ◌∙◌, subst, arith}
-use Rattle.std.specs.Prelude.{Some, None, Option, nat_lt, ◌==◌, ◌||◌, IsTrue, filter, slice_set}
+use Rattle.std.proofs.Common.{◌≡◌, ◌≢◌, ℕ, suc, ◌+◌, ◌<◌, ◌≤◌, ◌^◌, List, [], ◌∷◌, ◌++◌, Bool, true, false, cond, not, inl, inr, ◌⊎◌, length, refl, ap, sym, ◌∙◌, subst, arith, Some, None, Option, nat_lt, ◌==◌, ◌||◌, IsTrue, filter, slice_set, eq-eqb, lt-ltb, ne_eqb, length-set}
 use Rattle.std.specs.List.{AllByRecursion, list_any}
-use Rattle.std.proofs.lemmas.Bool.{cases_eq, eq-eqb, lt-ltb, ne_eqb, or_left, or_right}
+use Rattle.std.proofs.lemmas.{Bool.cases_eq, Bool.or_left, Bool.or_right, List.Folds.list_any-append}
 use Rattle.std.proofs.Math.Bool.{or-false, or-true}
-use Rattle.std.proofs.lemmas.List.{length-set}
-use Rattle.std.proofs.lemmas.List.Folds.{list_any-append}
-use Rattle.execlist.specs.Order.{without}
-use Rattle.execlist.specs.Lists.{home, times}
+use Rattle.execlist.specs.{Order.without, Lists.home, Lists.times}
 use Rattle.execlist.proofs.Pools.{slot_known, slot_other, slot_same}
 use Rattle.msgport.specs.Ports as ports
 use Rattle.msgport.specs.Ports.{MessagePorts, is_held, is_message, is_port, let_go, left_port, posted, taken_out}
-use Rattle.timerdev.specs.Held.{Held, on_timer}
-use Rattle.timerdev.specs.Timing.{Due, Waiting, begins_to_wait, is_waiting, system_set, waits_no_more}
+use Rattle.timerdev.specs.{Held.Held, Held.on_timer, Timing.Due, Timing.Waiting, Timing.begins_to_wait, Timing.is_waiting, Timing.system_set, Timing.waits_no_more}
 use Rattle.execheap.specs.Numbered.{shape}
 use Rattle.msgport.proofs.Linking.{left_home}
-use Rattle.execheap.proofs.Entries.{some_same}
-use Rattle.execheap.proofs.Stepping.{shape_written}
+use Rattle.execheap.proofs.{Entries.some_same, Stepping.shape_written}
 
 -- ---- how often a number is
 

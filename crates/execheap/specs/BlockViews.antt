@@ -2,10 +2,8 @@
 use Rattle.msgport.specs.Port.{Port}
 use Rattle.execmodel.specs.State as model
 use Rattle.execmodel.specs.State.{Block, ListHead, MsgPort, Node, Object}
-use Rattle.execheap.specs.declared.view.BlockView.{BlockView}
-use Rattle.execheap.specs.declared.view.ObjectView.{ObjectView}
 use Rattle.execheap.specs.declared.view.ObjectView.TheVariants.{Plain, List, Node as SeenNode, Port as SeenPort, Message, Semaphore, Library, Request}
-use Rattle.execheap.specs.declared.view.PortView.{PortView}
+use Rattle.execheap.specs.{declared.view.BlockView.BlockView, declared.view.ObjectView.ObjectView, declared.view.PortView.PortView}
 
 abbrev pub port_view : Port → PortView
 port_view port = record { task = port.task; signal = port.bit; action = port.action }

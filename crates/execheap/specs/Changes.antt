@@ -1,11 +1,9 @@
 -- What the calls on objects by number make of them.
 use Rattle.std.specs.Prelude.{Bool, ℕ, zero, suc, ℤ, ◌+◌, ◌-◌, List, [], ◌∷◌, ◌++◌, drop, length, replicate, slice_set, take, Option, None, Some}
-use Rattle.execlist.specs.Order.{enqueue, first, without}
-use Rattle.execlist.specs.Lists.{Key, blank, home, last, pri_of, put_after, sequence}
+use Rattle.execlist.specs.{Order.enqueue, Order.first, Order.without, Lists.Key, Lists.blank, Lists.home, Lists.last, Lists.pri_of, Lists.put_after, Lists.sequence, Pool.all_free}
 use Rattle.execlib.specs.Libraries.{Description}
 use Rattle.memlist.specs.declared.region.Region.{Region}
 use Rattle.msgport.specs.Ports.{MessagePorts, message_made, no_ports}
-use Rattle.execlist.specs.Pool.{all_free}
 use Rattle.timerdev.specs.Timing.{new_timer}
 use Rattle.sigsem.specs.Semaphores.{Semaphores, no_sems}
 use Rattle.execheap.specs.Table as table

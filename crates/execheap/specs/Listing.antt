@@ -1,20 +1,14 @@
 -- The public ports in the order in which the machine keeps them; how a message is replied, and what is to be done for the reply of a
 -- request.
-use Rattle.std.specs.Prelude.{ℕ, ℤ, pos, negsuc, ◌<◌, Bool, if◌then◌else◌, nat_eq, List, Option, None, Some}
-use Rattle.std.specs.Option.{option_map}
+use Rattle.std.specs.Prelude.{ℕ, ℤ, pos, negsuc, ◌<◌, Bool, if◌then◌else◌, nat_eq, List, Option, None, Some, option_map}
 use Rattle.execlist.specs.Order.{enqueue}
-use Rattle.iorequest.specs.Request.{is_under_way}
-use Rattle.msgport.specs.declared.action.Action.{Action}
+use Rattle.iorequest.specs.declared.request.ReqState.TheVariants.{Idle, UnderWay, Quick, Replied}
+use Rattle.iorequest.specs.{Request.is_under_way, declared.request.ReqState.ReqState}
+use Rattle.msgport.specs.{declared.action.Action.Action, Port.acting, Ports.nt_freemsg, Ports.nt_replymsg}
 use Rattle.msgport.specs.declared.action.Action.TheVariants as action
-use Rattle.msgport.specs.Port.{acting}
-use Rattle.msgport.specs.Ports.{nt_freemsg, nt_replymsg}
-use Rattle.execmodel.specs.State.{Heap, Memory}
-use Rattle.execmodel.specs.Requests.{acting_at, ended, replying_port, answering_port, reply_taken, request_of}
+use Rattle.execmodel.specs.{State.Heap, State.Memory, Requests.acting_at, Requests.ended, Requests.replying_port, Requests.answering_port, Requests.reply_taken, Requests.request_of, Ports.content_of, Ports.port_of, Ports.posted, Ports.priority_of_public, Ports.typed, Ports.under}
 use Rattle.execheap.specs.declared.awaited.Awaited.{Awaited}
 use Rattle.execheap.specs.declared.awaited.Awaited.TheVariants as awaited
-use Rattle.iorequest.specs.declared.request.ReqState.{ReqState}
-use Rattle.iorequest.specs.declared.request.ReqState.TheVariants.{Idle, UnderWay, Quick, Replied}
-use Rattle.execmodel.specs.Ports.{content_of, port_of, posted, priority_of_public, typed, under}
 
 -- a port is among the public ones before the first of lower priority
 unfoldable pub listed : ℕ → List ℕ → ℤ → Memory → Memory

@@ -1,31 +1,22 @@
 -- Objects by number, and the memory that they are for: the objects by address.
 use Rattle.std.specs.Prelude.{◌≡◌, ℕ, ◌+◌, ◌^◌, ◌<◌, ◌≤◌, ◌&&◌, ◌++◌, false, take, if◌then◌else◌, Bool, IsSome, IsTrue, is_some, List, length, map, Option, None, Some, unwrap_or}
-use Rattle.execlist.specs.Lists.{Key, sequence, home, is_at, times, key_at}
-use Rattle.execlist.specs.Pool.{Pooled, slot}
+use Rattle.execlist.specs.{Lists.Key, Lists.sequence, Lists.home, Lists.is_at, Lists.times, Lists.key_at, Pool.Pooled, Pool.slot}
 use Rattle.execlib.specs.Libraries.{Description, count_of, is_delayed}
 use Rattle.memlist.specs.Memory.{IsWellFormed}
 use Rattle.msgport.specs.Ports as ports
 use Rattle.msgport.specs.Ports.{MessagePorts, is_held, is_message, is_port, port_at, message_at, messages_of}
 use Rattle.sigsem.specs.Semaphores as sems
 use Rattle.sigsem.specs.Semaphores.{Semaphores, sem_at, waiters_of}
-use Rattle.iorequest.specs.declared.request.Request.{Request as TimerRequest}
-use Rattle.iorequest.specs.Request.{is_under_way}
-use Rattle.iorequest.specs.Requests.{is_request, request_at}
-use Rattle.timerdev.specs.Held.{Held}
-use Rattle.timerdev.specs.Timing.{Timer, Waiting, is_waiting}
+use Rattle.iorequest.specs.{declared.request.Request.Request as TimerRequest, Request.is_under_way, Requests.is_request, Requests.request_at}
+use Rattle.timerdev.specs.{Held.Held, Timing.Timer, Timing.Waiting, Timing.is_waiting}
 use Rattle.taskscript.specs.File.{LibraryData}
 use Rattle.execmodel.specs.State.{Object, Plain, ListHead, Node, MsgPort, Message, Semaphore, Library, Request, Block, Heap, PublicPort, Memory}
-use Rattle.execmodel.specs.Lists.{is_list, is_node}
+use Rattle.execmodel.specs.{Lists.is_list, Lists.is_node, Semaphores.is_semaphore, Requests.is_request as is_request_object}
 use Rattle.execmodel.specs.Ports as model
-use Rattle.execmodel.specs.Semaphores.{is_semaphore}
-use Rattle.execmodel.specs.Requests.{is_request as is_request_object}
-use Rattle.execheap.specs.declared.tag.Kind.{Kind}
+use Rattle.execheap.specs.{declared.tag.Kind.Kind, declared.tag.Tagged.Tagged, Tags.tagged, Table.Tabled, Table.pool_of, Table.slots_of}
 use Rattle.execheap.specs.declared.tag.Kind.TheVariants as variant
-use Rattle.execheap.specs.declared.tag.Tagged.{Tagged}
 use Rattle.execheap.specs.declared.tag.Tagged.TheVariants as tag
-use Rattle.execheap.specs.Tags.{tagged}
 use Rattle.execheap.specs.Table as table
-use Rattle.execheap.specs.Table.{Tabled, pool_of, slots_of}
 
 -- which blocks are objects, and what the objects hold, by number
 pub record Numbered : Type 0 where

@@ -1,11 +1,7 @@
 -- What the readers of queues and of free memory answer.
-use Rattle.std.specs.Prelude.{ℕ, find, slice_get, List, Option}
-use Rattle.std.specs.Option.{option_map}
-use Rattle.memlist.specs.declared.gap.Gap.{Gap}
-use Rattle.memlist.specs.Readers.{gap_from as first_from, gaps_in}
-use Rattle.execmodel.specs.State.{Block, Heap, Memory, PublicPort}
-use Rattle.execmodel.specs.Memory.{extents}
-use Rattle.execmodel.specs.Ports.{has_message, is_called}
+use Rattle.std.specs.Prelude.{ℕ, find, slice_get, List, Option, option_map}
+use Rattle.memlist.specs.{declared.gap.Gap.Gap, Readers.gap_from as first_from, Readers.gaps_in}
+use Rattle.execmodel.specs.{State.Block, State.Heap, State.Memory, State.PublicPort, Memory.extents, Ports.has_message, Ports.is_called}
 
 -- the port that has a message, or the reply of a request
 unfoldable pub port_with : ℕ → Heap → Option ℕ

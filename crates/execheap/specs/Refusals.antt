@@ -2,8 +2,8 @@
 use Rattle.std.specs.Prelude.{ℕ, Bool, true, codes, List, Option, None, Some, Result, Ok, Err}
 use Rattle.execlist.specs.Lists.{home, is_at}
 use Rattle.sigsem.specs.declared.fault.SemFault.{SemFault}
-use Rattle.execheap.specs.declared.refusal.Refusal.{Refusal}
 use Rattle.execheap.specs.declared.refusal.Refusal.TheVariants.{Handle, Link, Port, Sem, Lib, Io}
+use Rattle.execheap.specs.declared.refusal.Refusal.{Refusal}
 
 abbrev pub code_of : Refusal → List ℕ
 code_of Handle = codes "HANDLE"

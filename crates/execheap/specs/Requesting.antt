@@ -1,24 +1,15 @@
 -- What the calls on requests by number make of the objects.
 use Rattle.std.specs.Prelude.{ℕ, ℤ, pos, Bool, if◌then◌else◌, Option, None, Some}
 use Rattle.execlist.specs.Pool.{Pooled}
-use Rattle.iorequest.specs.declared.request.Begun.{Begun}
 use Rattle.iorequest.specs.declared.request.Begun.TheVariants.{Finish, NewTime, Queue, Until}
-use Rattle.iorequest.specs.declared.request.Request.{Request}
-use Rattle.iorequest.specs.declared.request.ReqState.{ReqState}
 use Rattle.iorequest.specs.declared.request.ReqState.TheVariants.{Idle, UnderWay, Quick, Replied}
-use Rattle.iorequest.specs.Request.{begun, finished, is_under_way, outcome, reply_port}
-use Rattle.iorequest.specs.Requests.{request_at, with_request}
-use Rattle.msgport.specs.declared.action.Action.{Action}
+use Rattle.iorequest.specs.{declared.request.Begun.Begun, declared.request.Request.Request, declared.request.ReqState.ReqState, Request.begun, Request.finished, Request.is_under_way, Request.outcome, Request.reply_port, Requests.request_at, Requests.with_request}
+use Rattle.msgport.specs.{declared.action.Action.Action, Port.acting, Ports.MessagePorts, Ports.held, Ports.let_go, Ports.nt_replymsg, Ports.port_at, Ports.posted, Ports.taken_out}
 use Rattle.msgport.specs.declared.action.Action.TheVariants as action
-use Rattle.msgport.specs.Port.{acting}
-use Rattle.msgport.specs.Ports.{MessagePorts, held, let_go, nt_replymsg, port_at, posted, taken_out}
-use Rattle.timerdev.specs.Held.{on_timer}
-use Rattle.timerdev.specs.Timing.{AtClock, AtSystem, Due, Timer, begins_to_wait, system_set, waits_no_more}
-use Rattle.execheap.specs.declared.awaited.Awaited.{Awaited}
+use Rattle.timerdev.specs.{Held.on_timer, Timing.AtClock, Timing.AtSystem, Timing.Due, Timing.Timer, Timing.begins_to_wait, Timing.system_set, Timing.waits_no_more}
+use Rattle.execheap.specs.{declared.awaited.Awaited.Awaited, Table.Tabled, Table.number_at, Numbered.Numbered, Numbered.message_of_request}
 use Rattle.execheap.specs.declared.awaited.Awaited.TheVariants as awaited
 use Rattle.execheap.specs.declared.tag.Kind.TheVariants as variant
-use Rattle.execheap.specs.Table.{Tabled, number_at}
-use Rattle.execheap.specs.Numbered.{Numbered, message_of_request}
 
 -- an action on the requests
 abbrev pub on_requests : (Pooled Request → Pooled Request) → Numbered → Numbered

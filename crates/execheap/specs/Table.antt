@@ -1,21 +1,15 @@
 -- Which blocks are objects and which are libraries: for each kind the addresses of its objects by number, and the libraries with their
 -- bases, beside the blocks with their tags.
-use Rattle.std.specs.Prelude.{◌≡◌, ℕ, ◌≤◌, Bool, nat_eq, List, [], ◌∷◌, filter, length, slice_index_or, slice_set, Option, None, Some}
-use Rattle.std.specs.Option.{option_map, option_and_then}
+use Rattle.std.specs.Prelude.{◌≡◌, ℕ, ◌≤◌, Bool, nat_eq, List, [], ◌∷◌, filter, length, slice_index_or, slice_set, Option, None, Some, option_map, option_and_then}
 use Rattle.std.specs.List.{AllByRecursion}
 use Rattle.memlist.specs.Memory as memlist
-use Rattle.memlist.specs.declared.region.Region.{Region}
-use Rattle.memlist.specs.Blocks.{Blocks, block_at}
-use Rattle.memlist.specs.Fit.{fit}
-use Rattle.memlist.specs.Memory.{allocated, untouched, without_block}
+use Rattle.memlist.specs.{declared.region.Region.Region, Blocks.Blocks, Blocks.block_at, Fit.fit, Memory.allocated, Memory.untouched, Memory.without_block}
 use Rattle.execlib.specs.Libraries as library
 use Rattle.execlib.specs.Libraries.{Description, Lent, Libraries, lent, library_tag, no_library_loaded}
 pub use Rattle.execlib.specs.Libraries.{base_at, tag_at}
 use Rattle.execlist.specs.Pool.{Pooled, all_free, given, next_number, released, slot, taken}
-use Rattle.execheap.specs.declared.tag.Kind.{Kind}
-use Rattle.execheap.specs.declared.tag.Tagged.{Tagged}
 use Rattle.execheap.specs.declared.tag.Tagged.TheVariants.{Plain, Object, Library}
-use Rattle.execheap.specs.Tags.{is_of, is_plain, kind_code, kinds, library_in, number_in, size_of, tag_of, tagged}
+use Rattle.execheap.specs.{declared.tag.Kind.Kind, declared.tag.Tagged.Tagged, Tags.is_of, Tags.is_plain, Tags.kind_code, Tags.kinds, Tags.library_in, Tags.number_in, Tags.size_of, Tags.tag_of, Tags.tagged}
 
 -- the blocks with their tags, and by kind the addresses of its objects by number, of each kind that many may live; and the libraries, which
 -- are loaded into blocks

@@ -1,16 +1,11 @@
 //! Objects by number, and the blocks in which they live. What a call by address means is in the file of its kind, below this one.
 ghost use Rattle.std.specs.Prelude.{◌≡◌, ◌≤◌, not, ◌&&◌, true, false, Some, length, map, IfOk, IfSome, IsSome, IsTrue};
 ghost use Rattle.execlib.specs.Libraries.{description_of};
-ghost use Rattle.memlist.specs.Fit.{asks, avail};
-ghost use Rattle.memlist.specs.Memory.{can_free, without_block};
+ghost use Rattle.memlist.specs.{Fit.asks, Fit.avail, Memory.can_free, Memory.without_block};
 ghost use Rattle.execlist.specs.Pool.{slot};
-ghost use Rattle.execmodel.specs.State.{Plain};
-ghost use Rattle.execmodel.specs.Memory.{freed, place_for, placed};
-ghost use Rattle.execmodel.specs.GivingWay.{after_asking};
+ghost use Rattle.execmodel.specs.{State.Plain, Memory.freed, Memory.place_for, Memory.placed, GivingWay.after_asking};
 ghost use Rattle.execheap.specs.declared.tag.Kind.TheVariants as variant;
-ghost use Rattle.execheap.specs.Table.{number_at};
-ghost use Rattle.execheap.specs.Numbered.{IsKnown, places, shown_memory};
-ghost use Rattle.execheap.specs.Changes.{unused};
+ghost use Rattle.execheap.specs.{Table.number_at, Numbered.IsKnown, Numbered.places, Numbered.shown_memory, Changes.unused};
 
 mod libraries;
 mod lists;

@@ -1,14 +1,12 @@
 //! Which blocks are objects of which kind, and where each object is; and the libraries, which are loaded into blocks. Here is nothing of
 //! what objects hold.
 ghost use Rattle.std.specs.Prelude.{◌≡◌, ◌≤◌, ◌↔◌, not, ◌&&◌, true, false, length, map, slice_get, IfOk, IfSome, IsSome, IsTrue, None, Some};
-ghost use Rattle.memlist.specs.Fit.{asks, avail, fit};
-ghost use Rattle.memlist.specs.Memory.{IsWellFormed, allocated, can_free, untouched, without_block};
-ghost use Rattle.memlist.specs.Readers.{gap_from, gaps_in};
+ghost use Rattle.memlist.specs.{Fit.asks, Fit.avail, Fit.fit, Memory.IsWellFormed, Memory.allocated, Memory.can_free, Memory.untouched, Memory.without_block, Readers.gap_from, Readers.gaps_in};
 ghost use Rattle.execlist.specs.Pool.{IsStocked, all_free, slot};
 ghost use Rattle.execlib.specs.Libraries.{close_fault, count_of, description_of, is_loaded, loaded_at, library_to_open, no_library_loaded, opened_base};
 ghost use Rattle.taskscript.specs.Records.{library_view};
-ghost use Rattle.execheap.specs.Numbered.{shown_library};
 ghost use Rattle.execheap.specs.Table.{IsSound, after_asking, base_at, begins_at, emptied, free_pools, library_at, library_closed, library_opened, library_removed, next_object, number_at, pool_of, ready_for, ready_to_open, slots_of, unused, with_object, without_object};
+ghost use Rattle.execheap.specs.Numbered.{shown_library};
 
 use crate::tag::{Kind, Tagged, library_in, number_in, read, tag_of};
 use execlib::library::{LibInit, Loaded};

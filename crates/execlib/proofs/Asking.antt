@@ -1,17 +1,11 @@
 -- What libraries keep while they are expunged under low memory: which there are, which are absent, and that the loaded ones lie in the memory.
-use Rattle.std.proofs.Common.{◌≡◌, ◌≢◌, ℕ, suc, ◌+◌, ◌-◌, ◌<◌, Bool, true, false, cond, List, [], ◌∷◌, length, slice_index_or, refl, sym, ap, subst, ◌∙◌, arith, Option, Some, None, is_some, not, ◌&&◌, nat_eq, unwrap_or, if◌then◌else◌}
-use Rattle.std.specs.List.{range_with_len}
-use Rattle.std.specs.Option.{option_map, option_map_or}
-use Rattle.std.specs.Ordering.{nat_cmp}
-use Rattle.std.specs.FinMap.{nat_cmp-IsAntisymmetric}
-use Rattle.std.specs.FinMap.Entries.{find-where_key}
+use Rattle.std.proofs.Common.{◌≡◌, ◌≢◌, ℕ, suc, ◌+◌, ◌-◌, ◌<◌, Bool, true, false, cond, List, [], ◌∷◌, length, slice_index_or, refl, sym, ap, subst, ◌∙◌, arith, Option, Some, None, is_some, not, ◌&&◌, nat_eq, unwrap_or, if◌then◌else◌, option_map, nat_cmp}
+use Rattle.std.specs.{List.range_with_len, Option.option_map_or, FinMap.nat_cmp-IsAntisymmetric, FinMap.Entries.find-where_key}
 use Rattle.execlist.proofs.Pools.{slot_known, slot_other, slot_same}
-use Rattle.memlist.specs.Blocks.{Blocks, block_at, freed}
-use Rattle.memlist.specs.Fit.{fit}
-use Rattle.memlist.specs.Memory.{Memory, allocated}
+use Rattle.memlist.specs.{Blocks.Blocks, Blocks.block_at, Blocks.freed, Fit.fit, Memory.Memory, Memory.allocated}
 use Rattle.memlist.proofs.Answered.{cases_eq, nat_eq-other}
-use Rattle.execlib.specs.declared.library.Loaded.{Loaded}
 use Rattle.execlib.specs.Libraries.{Lent, Libraries, LieIn, after_asking, asked_each, asked_one, base_at, base_for, base_of, base_or_fit, expunged, fits, gives_way, is_loaded, leaves_by_removal, lent, library_at, library_tag, loaded_at, loads, marked, memory_without, no_library, numbers, public_memory, ready_to_load, tag_at, with_loaded}
+use Rattle.execlib.specs.declared.library.Loaded.{Loaded}
 
 -- ---- where a library lies
 

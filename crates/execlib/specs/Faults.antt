@@ -1,7 +1,6 @@
 -- Refusals of calls on libraries.
 use Rattle.std.specs.Prelude.{ℕ}
-use Rattle.execlib.specs.declared.fault.LibFault.{LibFault}
-use Rattle.execlib.specs.declared.fault.LibFault.TheVariants.{NotOpen}
+use Rattle.execlib.specs.{declared.fault.LibFault.LibFault, declared.fault.LibFault.TheVariants.NotOpen}
 
 -- the number of a fault (project rule)
 abbrev pub fault_number : LibFault → ℕ

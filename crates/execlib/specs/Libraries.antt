@@ -1,16 +1,10 @@
 -- What calls on libraries see: which libraries there are, and of each that is loaded where it lies, how often it is open, and whether it
 -- is to be expunged when it is closed for the last time (RKM Libraries, Exec Libraries).
-use Rattle.std.specs.Prelude.{◌≡◌, ℕ, ◌+◌, ◌-◌, ◌≤◌, pos, nat_le, nat_eq, bytes_eq, Bool, true, false, not, ◌&&◌, is_some, if◌then◌else◌, List, [], ◌∷◌, length, map, replicate, slice_set, slice_index_or, Option, Some, None}
-use Rattle.std.specs.List.{position_from, range_with_len}
-use Rattle.std.specs.Option.{option_and_then, option_map, option_map_or}
+use Rattle.std.specs.Prelude.{◌≡◌, ℕ, ◌+◌, ◌-◌, ◌≤◌, pos, nat_le, nat_eq, bytes_eq, Bool, true, false, not, ◌&&◌, is_some, if◌then◌else◌, List, [], ◌∷◌, length, map, replicate, slice_set, slice_index_or, Option, Some, None, option_and_then, option_map}
+use Rattle.std.specs.{List.position_from, List.range_with_len, Option.option_map_or}
 use Rattle.execlist.specs.Lists.{Key}
-use Rattle.memlist.specs.Blocks.{Blocks, block_at}
-use Rattle.memlist.specs.Fit.{fit}
-use Rattle.memlist.specs.Memory.{Memory, allocated, without_block}
-use Rattle.execlib.specs.declared.fault.LibFault.{LibFault}
-use Rattle.execlib.specs.declared.fault.LibFault.TheVariants.{NotOpen}
-use Rattle.execlib.specs.declared.library.LibInit.{LibInit}
-use Rattle.execlib.specs.declared.library.Loaded.{Loaded}
+use Rattle.memlist.specs.{Blocks.Blocks, Blocks.block_at, Fit.fit, Memory.Memory, Memory.allocated, Memory.without_block}
+use Rattle.execlib.specs.{declared.fault.LibFault.LibFault, declared.fault.LibFault.TheVariants.NotOpen, declared.library.LibInit.LibInit, declared.library.Loaded.Loaded}
 
 -- a library that may be opened: its name, its version, and the bytes of memory that it takes while it is loaded
 pub record Description : Type 0 where

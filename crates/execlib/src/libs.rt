@@ -1,8 +1,6 @@
 //! The libraries of a machine, by number.
 ghost use Rattle.std.specs.Prelude.{◌≡◌, ◌≤◌, ◌<◌, length, map, Some, None, IfOk, IfSome, IsSome, IsTrue, not, nat_eq, [], ◌∷◌};
-ghost use Rattle.memlist.specs.Blocks.{block_at};
-ghost use Rattle.memlist.specs.Fit.{fit};
-ghost use Rattle.memlist.specs.Memory.{allocated};
+ghost use Rattle.memlist.specs.{Blocks.block_at, Fit.fit, Memory.allocated};
 ghost use Rattle.execlist.specs.Answers.{fault_or, kept_or};
 ghost use Rattle.execlib.specs.Libraries.{no_library_loaded, description_of, library_at, library_tag, loaded_at, number_of, is_loaded, base_of, count_of, can_open, library_to_open, base_for, opened_base, opened, memory_for, memory_without, loads, entered, key_of, numbers, most_openings, close_fault, leaves_by_close, closed, memory_after_close, removed, leaves_by_removal, memory_after_removal, expunged, with_loaded, LieIn, after_asking, asked_each, gives_way, lent, ready_to_load, ready_to_open};
 

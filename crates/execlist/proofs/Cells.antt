@@ -4,8 +4,7 @@ use denote.Exit.{no}
 use denote.Param.{arg}
 use denote.Param.Laws.{arg_laws}
 use Rattle.core.proofs.mem.Param.{El}
-use Rattle.execlist.specs.Ownership.{cell_type}
-use Rattle.execlist.specs.contracts.block.Cell.{the_row}
+use Rattle.execlist.specs.{Ownership.cell_type, contracts.block.Cell.the_row}
 use Rattle.execlist.proofs.block.Cell.TheLaws.{the_row_laws}
 
 abbrev pub E : El

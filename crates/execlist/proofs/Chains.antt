@@ -1,7 +1,6 @@
 -- A node that is put into a list, or taken out of it.
 use Rattle.std.proofs.Common.{◌≡◌, ℕ, zero, suc, ◌<◌, List, [], ◌∷◌, ◌++◌, length, set, refl, sym, ap, subst, ◌∙◌, arith, length-set, get_or-set_same, get_or-set_other}
-use Rattle.execlist.specs.Links.{Link, no_link, link_at, set_next, set_prev, set_home, linked, unlinked}
-use Rattle.execlist.specs.Chains.{Follows, Misses, Apart, AtHome, Below}
+use Rattle.execlist.specs.{Links.Link, Links.no_link, Links.link_at, Links.set_next, Links.set_prev, Links.set_home, Links.linked, Links.unlinked, Chains.Follows, Chains.Misses, Chains.Apart, Chains.AtHome, Chains.Below}
 
 -- what a write leaves as it was
 kept_by : {X : Type 0} (f : Link → X) (ls : List Link) (i : ℕ) (l : Link) (k : ℕ) → f l ≡ f (link_at ls i) → f (link_at (set ls i l) k) ≡ f (link_at ls k)

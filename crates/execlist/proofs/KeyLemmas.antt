@@ -1,9 +1,7 @@
 -- The keys of the nodes of a space, of which the first are stored.
-use Rattle.std.proofs.Common.{◌≡◌, ℕ, zero, suc, ◌+◌, ◌-◌, ◌<◌, ◌≤◌, List, [], ◌∷◌, ◌++◌, length, get_or, set, map, replicate, refl, sym, ap, ◌∙◌, arith, append_assoc, Option, None, Some, slice_get}
-use Rattle.std.proofs.lemmas.List.{length-map, length-append, length-replicate, replicate-append-replicate, replicate_more, map-append, length-set, map-set}
-use Rattle.execlist.specs.Lists.{Key, blank, key_at}
-use Rattle.execlist.specs.DigestKeys.{digest_key_of, digest_keys_of, keys_in}
-use Rattle.execlist.specs.declared.digest.DigestKey.{DigestKey}
+use Rattle.std.proofs.Common.{◌≡◌, ℕ, zero, suc, ◌+◌, ◌-◌, ◌<◌, ◌≤◌, List, [], ◌∷◌, ◌++◌, length, get_or, set, map, replicate, refl, sym, ap, ◌∙◌, arith, append_assoc, Option, None, Some, slice_get, length-append, length-set}
+use Rattle.std.proofs.lemmas.List.{length-map, length-replicate, replicate-append-replicate, replicate_more, map-append, map-set}
+use Rattle.execlist.specs.{Lists.Key, Lists.blank, Lists.key_at, DigestKeys.digest_key_of, DigestKeys.digest_keys_of, DigestKeys.keys_in, declared.digest.DigestKey.DigestKey}
 
 -- a list set before its end
 set-left : {A : Type 0} (xs ys : List A) (n : ℕ) (a : A) → n < length xs → set (xs ++ ys) n a ≡ set xs n a ++ ys

@@ -1,18 +1,9 @@
 -- What the links of a block say of the sequences and of the nodes' headers.
-use Rattle.std.proofs.Common.{◌≡◌, ℕ, zero, suc, ◌+◌, ◌-◌, ◌<◌, ◌≤◌, false, cond, eqb, List, [], ◌∷◌, ◌++◌, length, get_or, set, replicate, refl, sym, ap, subst, ◌∙◌, arith, Option, Some, None, inl, inr, append_assoc, ◌⊎◌, slice_set, IsSome}
-use Rattle.std.proofs.lemmas.Bool.{cond-true, cond-false, eq-eqb, ne_eqb, cases_lt, lt-ltb, le-ltb, cases_eq}
-use Rattle.std.proofs.lemmas.List.{get_or_past, same_lists, set-get_or, length-replicate}
-use Rattle.std.proofs.lemmas.List.FromFn.{length-map-range_with_len, get_or-map-range_with_len}
-use Rattle.execlist.specs.Order.{first, without}
-use Rattle.execlist.specs.Lists.{sequence, home, is_at, times, part_before, part_after, part_from, put_after, last}
-use Rattle.execlist.specs.Links.{Link, link_at, linked, unlinked}
+use Rattle.std.proofs.Common.{◌≡◌, ℕ, zero, suc, ◌+◌, ◌-◌, ◌<◌, ◌≤◌, false, cond, eqb, List, [], ◌∷◌, ◌++◌, length, get_or, set, replicate, refl, sym, ap, subst, ◌∙◌, arith, Option, Some, None, inl, inr, append_assoc, ◌⊎◌, slice_set, IsSome, eq-eqb, ne_eqb, lt-ltb, le-ltb}
+use Rattle.std.proofs.lemmas.{Bool.cond-true, Bool.cond-false, Bool.cases_lt, Bool.cases_eq, List.get_or_past, List.same_lists, List.set-get_or, List.length-replicate, List.FromFn.length-map-range_with_len, List.FromFn.get_or-map-range_with_len}
 use Rattle.execlist.specs.Chains.{head_cell, tail_cell, Follows, Misses, Apart, AtHome, Below, IsIn, IsChain, IsLinked, lists_of, homes_of, header_of, node_at, cell_before, empty_links}
-use Rattle.execlist.proofs.PlainLemmas.{home_known, map_set, times-append, times_same, without_round}
-use Rattle.execlist.proofs.Walks.{upto, put_parts}
-use Rattle.execlist.proofs.Chains.{last_from, prev-is, next-is, home-misses, append-assoc, linked-home, linked-home-c, unlinked-home, unlinked-home-c}
-use Rattle.execlist.proofs.Linked.{first_or, rest_of, first-is, decide, linked-holds, unlinked-holds}
-use Rattle.execlist.proofs.Empty.{empty-at}
-use Rattle.execlist.proofs.Read.{lists-is, apart-left}
+use Rattle.execlist.specs.{Order.first, Order.without, Lists.sequence, Lists.home, Lists.is_at, Lists.times, Lists.part_before, Lists.part_after, Lists.part_from, Lists.put_after, Lists.last, Links.Link, Links.link_at, Links.linked, Links.unlinked}
+use Rattle.execlist.proofs.{PlainLemmas.home_known, PlainLemmas.map_set, PlainLemmas.times-append, PlainLemmas.times_same, PlainLemmas.without_round, Walks.upto, Walks.put_parts, Chains.last_from, Chains.prev-is, Chains.next-is, Chains.home-misses, Chains.append-assoc, Chains.linked-home, Chains.linked-home-c, Chains.unlinked-home, Chains.unlinked-home-c, Linked.first_or, Linked.rest_of, Linked.first-is, Linked.decide, Linked.linked-holds, Linked.unlinked-holds, Empty.empty-at, Read.lists-is, Read.apart-left}
 
 -- lists of numbers
 miss-times : (x : ℕ) (p : List ℕ) → Misses x p → times x p ≡ 0

@@ -21,8 +21,8 @@ use denote.Shadow.{makes_shadow}
 use denote.Memory.{shares, cell_at, part_at, hidden_shr, shared_of}
 use denote.Index.{row, others, place_is, elem_out, elem_put, elem_back}
 use denote.Struct.Struct.{Struct-Tells, Struct-row_laws}
-use Rattle.execlist.specs.Links.{Link, no_link, link_at, set_next, set_prev, set_home, linked, unlinked}
 use Rattle.execlist.specs.Ownership.{cell_shape, cell_row, cell_type, cell_val, cell_of, laid, block_type, cells_own, fit, block_own, block_lent}
+use Rattle.execlist.specs.Links.{Link, no_link, link_at, set_next, set_prev, set_home, linked, unlinked}
 use base.Fraction.{full_share}
 use contract.Monad.{fact, fact_i}
 use borrow.Table.OneValue.{part_out}

@@ -1,10 +1,7 @@
 -- The laws of `order` and `chosen`.
-use Rattle.std.proofs.Common.{◌≡◌, ℕ, zero, suc, ◌<◌, Bool, true, false, cond, not, eqb, List, [], ◌∷◌, length, get_or, refl, sym, ◌∙◌, ap, arith, Option, Some, None, MatchOption, All, ℤ, ◌≤ℤ◌, ◌<ℤ◌, int_lt, filter, fold, slice_index_or, find}
+use Rattle.std.proofs.Common.{◌≡◌, ℕ, zero, suc, ◌<◌, Bool, true, false, cond, not, eqb, List, [], ◌∷◌, length, get_or, refl, sym, ◌∙◌, ap, arith, Option, Some, None, MatchOption, All, ℤ, ◌≤ℤ◌, ◌<ℤ◌, int_lt, filter, fold, slice_index_or, find, eq-eqb}
 use Rattle.std.specs.List.{AllByRecursion}
-use Rattle.std.proofs.lemmas.Grind.{fold-append}
-use Rattle.std.proofs.lemmas.List.Elements.{filter_passes, All-head, All-tail}
-use Rattle.std.proofs.lemmas.Bool.{both_ways, not-true, eq-eqb, cond-true, cond-false}
-use Rattle.std.proofs.lemmas.Int.{ints}
+use Rattle.std.proofs.lemmas.{Grind.fold-append, List.Elements.filter_passes, List.Elements.All-head, List.Elements.All-tail, Bool.both_ways, Bool.not-true, Bool.cond-true, Bool.cond-false, Int.ints}
 use Rattle.execlist.specs.Order.{OrderTakesArrival, is_lower, enqueue, order, first, chosen, chosen_or, IsEarliestGreatest, OrderLeavesOut, FirstOfOrderIsChosen, ChosenIsEarliestGreatest, OrderReadsMembersKeys, FoundInOrderIsChosen, without, OrderRekeyed}
 
 lt_trans : (a b c : ℤ) → int_lt a b ≡ true → int_lt b c ≡ true → int_lt a c ≡ true

@@ -1,14 +1,9 @@
 -- Walks by `next_place` and `prev_place` meet a whole sequence, and end.
-use Rattle.std.proofs.Common.{◌≡◌, ℕ, zero, suc, ◌+◌, ◌<◌, ◌≤◌, Bool, true, false, cond, List, [], ◌∷◌, ◌++◌, length, refl, sym, ap, ◌∙◌, subst, arith, Option, Some, None, append_assoc, map, reverse}
-use Rattle.std.proofs.lemmas.Bool.{cond-true, cond-false, eq-eqb, eqb-true}
-use Rattle.std.proofs.lemmas.List.{reverse-reverse, reverse-append, length-reverse, append-nil}
-use Rattle.execlist.specs.Order.{first}
-use Rattle.execlist.specs.Lists.{sequence, home, is_at, times, part_before, part_after, last}
-use Rattle.execlist.specs.declared.link.Place.{Place}
+use Rattle.std.proofs.Common.{◌≡◌, ℕ, zero, suc, ◌+◌, ◌<◌, ◌≤◌, Bool, true, false, cond, List, [], ◌∷◌, ◌++◌, length, refl, sym, ap, ◌∙◌, subst, arith, Option, Some, None, append_assoc, map, reverse, eq-eqb, eqb-true, append-nil}
+use Rattle.std.proofs.lemmas.{Bool.cond-true, Bool.cond-false, List.reverse-reverse, List.reverse-append, List.length-reverse}
 use Rattle.execlist.specs.declared.link.Place.TheVariants.{Head, Node, Tail}
-use Rattle.execlist.specs.Places.{node_or, after_node, before_node, next_place, prev_place, places_met, AreInOneSequence, WalksMeetSequences}
-use Rattle.execlist.proofs.PlainLemmas.{times-append, times_same}
-use Rattle.execlist.proofs.Walks.{Once, once_from, less_once, apart}
+use Rattle.execlist.specs.{Order.first, Lists.sequence, Lists.home, Lists.is_at, Lists.times, Lists.part_before, Lists.part_after, Lists.last, declared.link.Place.Place, Places.node_or, Places.after_node, Places.before_node, Places.next_place, Places.prev_place, Places.places_met, Places.AreInOneSequence, Places.WalksMeetSequences}
+use Rattle.execlist.proofs.{PlainLemmas.times-append, PlainLemmas.times_same, Walks.Once, Walks.once_from, Walks.less_once, Walks.apart}
 
 ends : (step : Place → Option Place) (most : ℕ) → places_met step most None ≡ []
 ends step zero = refl

@@ -1,13 +1,8 @@
 -- The list of all linked nodes, when a node is put in or taken out.
-use Rattle.std.proofs.Common.{◌≡◌, ◌≢◌, ℕ, zero, suc, ◌+◌, ◌-◌, ◌<◌, ◌≤◌, Bool, true, false, cond, not, eqb, List, [], ◌∷◌, ◌++◌, length, get_or, take, drop, map, refl, sym, ◌∙◌, ap, arith, inl, inr, Option, Some, None, is_some, append_assoc, replicate, length-append, length-take, length-drop, add-one, slice_set, insert, remove, All, ◌⊎◌, slice_index, IfSome}
+use Rattle.std.proofs.Common.{◌≡◌, ◌≢◌, ℕ, zero, suc, ◌+◌, ◌-◌, ◌<◌, ◌≤◌, Bool, true, false, cond, not, eqb, List, [], ◌∷◌, ◌++◌, length, get_or, take, drop, map, refl, sym, ◌∙◌, ap, arith, inl, inr, Option, Some, None, is_some, append_assoc, replicate, length-append, length-take, length-drop, add-one, slice_set, insert, remove, All, ◌⊎◌, slice_index, IfSome, eqb-true, eq-eqb, ne_eqb, get_or-set_same, get_or-set_other, length-set, take-append-drop, append-nil}
 use Rattle.std.specs.List.{range_with_len}
-use Rattle.std.proofs.lemmas.Bool.{cond-true, cond-false, eqb-true, eqb-false, eq-eqb, ne_eqb, cases_eq, cases_lt}
-use Rattle.std.proofs.lemmas.List.{get_or-set_same, get_or-set_other, length-set, same_lists, take-append-drop, get_or_past, append-nil, set-get_or, get_or_read}
-use Rattle.std.proofs.lemmas.List.Elements.{filter-append, filter_more}
-use Rattle.std.proofs.lemmas.List.FromFn.{length-map-range_with_len, get_or-map-range_with_len}
-use Rattle.execlist.specs.Order.{first, without}
-use Rattle.execlist.specs.Lists.{home, is_at, times, sequence, part_before, part_after, put_after, last}
-use Rattle.execlist.specs.Plain.{nodes_of, sequences_of, linked_count, IsSpace}
+use Rattle.std.proofs.lemmas.{Bool.cond-true, Bool.cond-false, Bool.eqb-false, Bool.cases_eq, Bool.cases_lt, List.same_lists, List.get_or_past, List.set-get_or, List.get_or_read, List.Elements.filter-append, List.Elements.filter_more, List.FromFn.length-map-range_with_len, List.FromFn.get_or-map-range_with_len}
+use Rattle.execlist.specs.{Order.first, Order.without, Lists.home, Lists.is_at, Lists.times, Lists.sequence, Lists.part_before, Lists.part_after, Lists.put_after, Lists.last, Plain.nodes_of, Plain.sequences_of, Plain.linked_count, Plain.IsSpace}
 
 -- Homes.
 

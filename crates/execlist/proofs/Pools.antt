@@ -1,14 +1,9 @@
 -- Numbers of a pool that are given to items, and are free again.
-use Rattle.std.proofs.Common.{◌≡◌, ◌≢◌, ℕ, zero, suc, ◌+◌, ◌<◌, ◌≤◌, Bool, true, false, cond, not, eqb, List, [], ◌∷◌, ◌++◌, length, refl, sym, ◌∙◌, ap, subst, arith, inl, inr, Option, Some, None, is_some, replicate, length-append, drop, slice_set, take, ◌-◌, ◌⊎◌, nat_lt, ◌&&◌, IsSome, IfSome, slice_get}
-use Rattle.std.proofs.Math.Bool.{and-true, and-false}
+use Rattle.std.proofs.Common.{◌≡◌, ◌≢◌, ℕ, zero, suc, ◌+◌, ◌<◌, ◌≤◌, Bool, true, false, cond, not, eqb, List, [], ◌∷◌, ◌++◌, length, refl, sym, ◌∙◌, ap, subst, arith, inl, inr, Option, Some, None, is_some, replicate, length-append, drop, slice_set, take, ◌-◌, ◌⊎◌, nat_lt, ◌&&◌, IsSome, IfSome, slice_get, eq-eqb, ne_eqb, lt-ltb, le-ltb, get_or-set_same, get_or-set_other, length-set, take-append-drop, length-drop, option_to_list}
+use Rattle.std.proofs.{Math.Bool.and-true, Math.Bool.and-false, Math.Seq.take-append_seam}
 use Rattle.std.specs.List.{range_with_len}
-use Rattle.std.proofs.lemmas.List.FromFn.{length-range_with_len}
-use Rattle.std.proofs.lemmas.Bool.{cond-true, cond-false, eq-eqb, ne_eqb, cases_eq, lt-ltb, le-ltb, cases_lt}
-use Rattle.std.proofs.Math.Seq.{take-append_seam}
-use Rattle.std.proofs.lemmas.List.{get_or-set_same, get_or-set_other, length-set, length-replicate, take-append-drop, take-append-le, length-drop}
-use Rattle.std.specs.Option.{option_to_list}
-use Rattle.execlist.specs.Lists.{last, times}
-use Rattle.execlist.specs.Pool.{Pooled, IsStocked, next_number, slot, taken, is_free, IsPool, IsFresh}
+use Rattle.std.proofs.lemmas.{List.FromFn.length-range_with_len, Bool.cond-true, Bool.cond-false, Bool.cases_eq, Bool.cases_lt, List.length-replicate, List.take-append-le}
+use Rattle.execlist.specs.{Lists.last, Lists.times, Pool.Pooled, Pool.IsStocked, Pool.next_number, Pool.slot, Pool.taken, Pool.is_free, Pool.IsPool, Pool.IsFresh}
 use Rattle.execlist.specs.Pool as pool
 use Rattle.execlist.proofs.PlainLemmas.{times-append, last-push, last_none}
 

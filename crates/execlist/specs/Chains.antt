@@ -1,8 +1,7 @@
 -- The lists that the links of a block make. Of n nodes and k headers, node i is cell i, and header h has
 -- the cells n + 2 h and n + 2 h + 1 at its ends.
 use Rattle.std.specs.Prelude.{◌≡◌, ℕ, zero, suc, ◌+◌, ◌*◌, ◌<◌, List, [], ◌∷◌, ◌++◌, length, get_or, cond, map, Option, Some, None}
-use Rattle.std.specs.List.{range_with_len}
-use Rattle.std.specs.Coded.{×_prop, Unit-prop, le_prop, Coded-set, coded_ℕ}
+use Rattle.std.specs.{List.range_with_len, Coded.×_prop, Coded.Unit-prop, Coded.le_prop, Coded.Coded-set, Coded.coded_ℕ}
 use lib.Dec.{ltb}
 use Rattle.execlist.specs.Links.{Link, link, link_at}
 

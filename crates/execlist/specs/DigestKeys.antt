@@ -1,7 +1,6 @@
 -- What a key with a digest says of its node.
 use Rattle.std.specs.Prelude.{ℕ, ◌-◌, List, ◌++◌, length, map, option_map, replicate}
-use Rattle.execlist.specs.Lists.{Key, blank}
-use Rattle.execlist.specs.declared.digest.DigestKey.{DigestKey}
+use Rattle.execlist.specs.{Lists.Key, Lists.blank, declared.digest.DigestKey.DigestKey}
 
 -- what a stored key says
 abbrev pub digest_key_of : DigestKey → Key

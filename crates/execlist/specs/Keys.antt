@@ -1,7 +1,6 @@
 -- What the key that a space stores for a node says of it.
 use Rattle.std.specs.Prelude.{List, map, option_map}
-use Rattle.execlist.specs.Lists.{Key}
-use Rattle.execlist.specs.declared.key.NodeKey.{NodeKey}
+use Rattle.execlist.specs.{Lists.Key, declared.key.NodeKey.NodeKey}
 
 abbrev pub key_of : NodeKey → Key
 key_of k = record { pri = k.pri; name = option_map (λ t. t.bytes) k.name }

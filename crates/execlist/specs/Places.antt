@@ -1,9 +1,7 @@
 -- What follows a place in its sequence, and what comes before it: a head, the nodes in their order, a tail.
 use Rattle.std.specs.Prelude.{◌≡◌, ℕ, zero, suc, ◌+◌, ◌<◌, ◌≤◌, List, [], ◌∷◌, ◌++◌, length, map, reverse, Option, Some, None, if◌then◌else◌}
-use Rattle.execlist.specs.declared.link.Place.{Place}
 use Rattle.execlist.specs.declared.link.Place.TheVariants.{Head, Node, Tail}
-use Rattle.execlist.specs.Order.{first}
-use Rattle.execlist.specs.Lists.{sequence, home, is_at, times, part_before, part_after, last}
+use Rattle.execlist.specs.{declared.link.Place.Place, Order.first, Lists.sequence, Lists.home, Lists.is_at, Lists.times, Lists.part_before, Lists.part_after, Lists.last}
 
 -- the header or the node is one of the space's
 abbrev pub IsPlace : List (List ℕ) → List (Option ℕ) → Place → Type 0

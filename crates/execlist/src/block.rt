@@ -1,8 +1,7 @@
 //! One raw block of cells, linked by pointers: the only part of the crate that touches a pointer. Its
 //! clauses speak of the cells by their numbers, from 0. No pointer is made from a number or becomes one.
 ghost use Rattle.std.specs.Prelude.{◌≡◌, ℕ, ◌*◌, ◌^◌, ◌<◌, ◌≤◌, List, [], ◌∷◌, ◌++◌, ◌+◌, length, IfSome};
-ghost use Rattle.execlist.specs.Links.{Link, link_at, link, linked, unlinked};
-ghost use Rattle.execlist.specs.Ownership.{block_own, block_lent};
+ghost use Rattle.execlist.specs.{Links.Link, Links.link_at, Links.link, Links.linked, Links.unlinked, Ownership.block_own, Ownership.block_lent};
 ghost use Rattle.std.specs.Mem.Slots.{slots_ptr, slots_len, lease_ptr, lease_len, lease_heap};
 
 use core::slots::{self, Lease, Slots};

@@ -1,7 +1,6 @@
 //! A key that is searched by a number made of its name, so that a search compares few names.
 ghost use Rattle.std.specs.Prelude.{◌≡◌, None, option_map};
-ghost use Rattle.execlist.specs.Lists.{blank, name_is};
-ghost use Rattle.execlist.specs.Digest.{digest_of, digest_or};
+ghost use Rattle.execlist.specs.{Lists.blank, Lists.name_is, Digest.digest_of, Digest.digest_or};
 
 use crate::key::Name;
 

@@ -1,7 +1,6 @@
 //! Laws of the definitions of `specs/Order.antt` and `specs/Places.antt`. Each function does nothing: its contract is the law,
 //! and a caller who calls it may use the law from there on. No law speaks of a list space.
-ghost use Rattle.execlist.specs.Order.{OrderTakesArrival, OrderLeavesOut, FirstOfOrderIsChosen, ChosenIsEarliestGreatest, OrderReadsMembersKeys, FoundInOrderIsChosen, OrderRekeyed};
-ghost use Rattle.execlist.specs.Places.{WalksMeetSequences};
+ghost use Rattle.execlist.specs.{Order.OrderTakesArrival, Order.OrderLeavesOut, Order.FirstOfOrderIsChosen, Order.ChosenIsEarliestGreatest, Order.OrderReadsMembersKeys, Order.FoundInOrderIsChosen, Order.OrderRekeyed, Places.WalksMeetSequences};
 
 /// An arrival is one more `enqueue`: the order of some items and one more is that one put into their order.
 ///

@@ -1,12 +1,8 @@
 //! A list space linked by raw pointers: each header is the two cells at the ends of its list, and each node
 //! a cell. All of it is safe code over the block of cells. No call but a search walks along a list.
-ghost use Rattle.std.specs.Prelude.{find, IfSome, ◌≡◌, ℕ, ◌<◌, ◌≤◌, ◌+◌, ◌-◌, ◌++◌, ◌*◌, List, Option, Some, None, length, option_copied, replicate, slice_get, slice_set, vec_len, if◌then◌else◌};
-ghost use Rattle.execlist.specs.Lists.{blank, sequence, home, is_at, key_at, times, ahead};
-ghost use Rattle.execlist.specs.DigestKeys.{digest_keys_of, keys_in};
-ghost use Rattle.execlist.specs.Links.{link_at};
-ghost use Rattle.std.specs.Vec.{vec_capacity};
+ghost use Rattle.std.specs.Prelude.{find, IfSome, ◌≡◌, ℕ, ◌<◌, ◌≤◌, ◌+◌, ◌-◌, ◌++◌, ◌*◌, List, Option, Some, None, length, option_copied, replicate, slice_get, slice_set, vec_len, if◌then◌else◌, vec_capacity};
+ghost use Rattle.execlist.specs.{Lists.blank, Lists.sequence, Lists.home, Lists.is_at, Lists.key_at, Lists.times, Lists.ahead, DigestKeys.digest_keys_of, DigestKeys.keys_in, Links.link_at, Chains.IsLinked, Chains.IsLinked-prop, Chains.lists_of, Chains.homes_of, Chains.node_at, Chains.cell_before};
 ghost use Rattle.std.specs.Mem.Slots.{lease_ptr, lease_len, lease_heap};
-ghost use Rattle.execlist.specs.Chains.{IsLinked, IsLinked-prop, lists_of, homes_of, node_at, cell_before};
 
 use crate::block::{Block, Cell, reserve};
 use crate::digest::DigestKey;

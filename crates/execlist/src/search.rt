@@ -1,7 +1,6 @@
 //! What a search along a list asks of the key of each node.
 ghost use Rattle.std.specs.Prelude.{◌≡◌, Bool, int_lt};
-ghost use Rattle.execlist.specs.Lists.{Key, name_is};
-ghost use Rattle.execlist.specs.Digest.{digest_of};
+ghost use Rattle.execlist.specs.{Lists.Key, Lists.name_is, Digest.digest_of};
 
 use crate::digest::{DigestKey, digest};
 

@@ -2,8 +2,8 @@
 //! which has a priority and a name or none. A node is in at most one sequence, and there once.
 ghost use Rattle.std.specs.Prelude.{◌≡◌, ℕ, ◌<◌, ◌≤◌, List, [], ◌∷◌, ◌++◌, Option, Some, None, length, replicate, slice_set, drop, take, find, option_map, IfOk, IfSome, IsSome, MatchOption, if◌then◌else◌, ◌-◌};
 ghost use Rattle.std.specs.Option.{ForSome};
-ghost use Rattle.execlist.specs.Order.{enqueue, first, without};
 ghost use Rattle.execlist.specs.Lists.{Key, blank, sequence, home, pri_of, part_before, part_after, part_from, put_after, last, is_named, is_at, times};
+ghost use Rattle.execlist.specs.Order.{enqueue, first, without};
 
 use crate::key::Name;
 use std::alloc::{AllocError, Global};

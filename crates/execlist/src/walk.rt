@@ -1,8 +1,7 @@
 //! A walk along a sequence, one node after another, for callers that show it.
 ghost use Rattle.std.specs.Prelude.{◌≡◌, ◌<◌, length, Some, IfSome};
 ghost use Rattle.std.specs.Option.{ForSome};
-ghost use Rattle.execlist.specs.Order.{first};
-ghost use Rattle.execlist.specs.Lists.{sequence, home, part_from};
+ghost use Rattle.execlist.specs.{Order.first, Lists.sequence, Lists.home, Lists.part_from};
 
 use crate::space::{HeaderId, ListSpace, NodeId};
 

@@ -1,7 +1,6 @@
 -- A digit in the place of another.
-use Rattle.std.proofs.Common.{◌≡◌, ◌≤◌, ◌+◌, ℕ, List, ◌∷◌, ◌++◌, length, take, drop, refl, ap, sym, ◌∙◌, append_assoc, arith}
-use Rattle.std.proofs.lemmas.List.{drop-drop, drop_at, length-take-le, take_at}
-use Rattle.std.proofs.Math.Seq.{drop-append-add, take-add}
+use Rattle.std.proofs.Common.{◌≡◌, ◌≤◌, ◌+◌, ℕ, List, ◌∷◌, ◌++◌, length, take, drop, refl, ap, sym, ◌∙◌, append_assoc, arith, drop-drop, drop_at, length-take-le, take_at, take-add}
+use Rattle.std.proofs.Math.Seq.{drop-append-add}
 
 -- another last digit
 pub digit_replaced : (room s r : List ℕ) (x b start last : ℕ) → start ≤ length room → last ≡ start + length s → drop start room ≡ s ++ x ∷ r

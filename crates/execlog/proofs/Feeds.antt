@@ -1,11 +1,8 @@
 -- Line feeds that are found in many bytes together.
-use Rattle.std.proofs.Common.{◌≡◌, ◌≢◌, ◌≤◌, ◌<◌, ◌+◌, ◌-◌, ◌%◌, ◌^◌, ℕ, zero, suc, Bool, not, cond, eqb, true≢false, List, length, map, replicate, get_or, slice_index, ap, sym, ◌∙◌, subst, w8, arith}
-use Rattle.std.specs.List.{prefix_len}
-use Rattle.std.specs.Simd.Lanes.{chunk, mask_l, top, zip2}
+use Rattle.std.proofs.Common.{◌≡◌, ◌≢◌, ◌≤◌, ◌<◌, ◌+◌, ◌-◌, ◌%◌, ◌^◌, ℕ, zero, suc, Bool, not, cond, eqb, true≢false, List, length, map, replicate, get_or, slice_index, ap, sym, ◌∙◌, subst, w8, arith, eq-eqb, eqb-true}
+use Rattle.std.specs.{List.prefix_len, Simd.Lanes.chunk, Simd.Lanes.mask_l, Simd.Lanes.top, Simd.Lanes.zip2}
 use lib.Count.{count_trailing_zeros}
-use Rattle.std.proofs.lemmas.Bool.{eq-eqb, eqb-true, not-false, not-true}
-use Rattle.std.proofs.lemmas.List.Sums.{prefix_len_passes, prefix_len_stops}
-use Rattle.std.proofs.lemmas.Simd.{bitmask_splat, get_or-chunk, leading_from_mask_l, length-chunk, trailing_mask_l}
+use Rattle.std.proofs.lemmas.{Bool.not-false, Bool.not-true, List.Sums.prefix_len_passes, List.Sums.prefix_len_stops, Simd.bitmask_splat, Simd.get_or-chunk, Simd.leading_from_mask_l, Simd.length-chunk, Simd.trailing_mask_l}
 use Rattle.execlog.specs.Rows.{IsPartTo}
 
 abbrev is_feed : ℕ → Bool

@@ -1,13 +1,10 @@
 -- How rows follow one another.
-use Rattle.std.proofs.Common.{◌≡◌, ◌≢◌, ◌≤◌, ◌<◌, ◌-◌, ◌^◌, ◌/◌, ◌%◌, ◌+◌, ℕ, zero, suc, take, drop, length, replicate, Bool, true, List, [], ◌∷◌, ◌++◌, refl, ap, sym, ◌∙◌, subst, append-nil, append_assoc, length-drop, arith}
-use Rattle.std.specs.Prelude.{◌&&◌, codes, decimal, Option, None}
-use Rattle.std.specs.List.{flat_map, list_all}
-use Rattle.std.proofs.lemmas.Fmt.{decimal_digit, decimal_step, length-decimal-le}
-use Rattle.std.proofs.lemmas.List.{drop-append-le, drop-replicate, length-append, length-replicate, length-take-le, nil_from_length, take-append-drop, take-replicate, take-take}
+use Rattle.std.proofs.Common.{◌≡◌, ◌≢◌, ◌≤◌, ◌<◌, ◌-◌, ◌^◌, ◌/◌, ◌%◌, ◌+◌, ℕ, zero, suc, take, drop, length, replicate, Bool, true, List, [], ◌∷◌, ◌++◌, refl, ap, sym, ◌∙◌, subst, append-nil, append_assoc, length-drop, arith, ◌&&◌, codes, decimal, Option, None, flat_map, length-append, length-take-le, take-append-drop, take-take}
+use Rattle.std.specs.List.{list_all}
+use Rattle.std.proofs.lemmas.{Fmt.decimal_digit, Fmt.decimal_step, Fmt.length-decimal-le, List.drop-append-le, List.drop-replicate, List.length-replicate, List.nil_from_length, List.take-replicate}
 use Rattle.execlog.proofs.Columns.{digit_replaced}
-use Rattle.execlog.specs.declared.moment.Moment.{Moment}
-use Rattle.execlog.specs.Log.{Gains}
 use Rattle.execlog.specs.Rows.{FollowsRows, IsBlank, IsCut, IsFrame, IsHead, IsPart, IsRow, LaysOut, Row, columns, digit, gap_of, laid, line_column, millis, padded, row_with, source_column, stem, time_columns, traced}
+use Rattle.execlog.specs.{declared.moment.Moment.Moment, Log.Gains}
 
 -- ---- spaces
 

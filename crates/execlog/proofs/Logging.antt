@@ -1,37 +1,16 @@
 -- How the entries of some events follow one another in a log, and the bytes that show them.
-use Rattle.std.proofs.Common.{◌≡◌, ◌≢◌, ℕ, zero, suc, ◌+◌, ◌*◌, ◌^◌, ◌<◌, Bool, List, [], ◌∷◌, ◌++◌, length, take, drop, get_or, replicate, refl, ap, sym, ◌∙◌, subst, append-nil, append_assoc, arith}
-use Rattle.std.specs.Prelude.{Option, None, Some, Result, Ok, Err, OnOk, is_ok, is_some, ◌||◌, if◌then◌else◌, sum_by}
-use Rattle.std.specs.List.{flat_map}
-use Rattle.std.proofs.lemmas.Grind.{flat_map-append}
-use Rattle.std.proofs.lemmas.List.{length-append, length-replicate, take_more}
-use Rattle.std.proofs.lemmas.List.Sums.{sum_by-cons, sum_by-drop_more, sum_by_more, sum_by_more_le}
-use Rattle.std.proofs.Math.Nat.{suc-mul}
-use Rattle.exectrace.specs.Sink.{Tape, Adds, Breaks, Puts, TakesAll}
-use Rattle.exectrace.specs.declared.sinks.SinkState.{SinkState}
-use Rattle.exectrace.specs.declared.sinks.SinkState.TheVariants.{Good}
-use Rattle.exectrace.specs.Trace.{printed, printed_line}
+use Rattle.std.proofs.Common.{◌≡◌, ◌≢◌, ℕ, zero, suc, ◌+◌, ◌*◌, ◌^◌, ◌<◌, Bool, List, [], ◌∷◌, ◌++◌, length, take, drop, get_or, replicate, refl, ap, sym, ◌∙◌, subst, append-nil, append_assoc, arith, Option, None, Some, Result, Ok, Err, OnOk, is_ok, is_some, ◌||◌, if◌then◌else◌, sum_by, flat_map, length-append, suc-mul}
+use Rattle.std.proofs.lemmas.{Grind.flat_map-append, List.length-replicate, List.take_more, List.Sums.sum_by-cons, List.Sums.sum_by-drop_more, List.Sums.sum_by_more, List.Sums.sum_by_more_le}
+use Rattle.exectrace.specs.{Sink.Tape, Sink.Adds, Sink.Breaks, Sink.Puts, Sink.TakesAll, declared.sinks.SinkState.SinkState, declared.sinks.SinkState.TheVariants.Good, Trace.printed, Trace.printed_line}
 use Rattle.exectrace.proofs.Pieces.{adds_all, adds_fitting, adds_none, adds_then, put_all, put_part}
-use Rattle.taskscript.specs.Events.{ticks as ticks_of}
-use Rattle.taskscript.specs.File.{MachineData}
-use Rattle.taskscript.specs.declared.event.Event.{Event}
 use Rattle.taskscript.specs.declared.event.Event.TheVariants.{Run, Tick, Irq}
+use Rattle.taskscript.specs.{Events.ticks as ticks_of, File.MachineData, declared.event.Event.Event}
 use Rattle.scheduler.specs.Schedule.{Schedule}
-use Rattle.execmodel.specs.State.{Memory, Timer, Scripts, State, Outcome, andthen, booted}
-use Rattle.execmodel.specs.Pending.{next_softint}
-use Rattle.execmodel.specs.Step.{starts, event, events, run, steps}
+use Rattle.execmodel.specs.{State.Memory, State.Timer, State.Scripts, State.State, State.Outcome, State.andthen, State.booted, Pending.next_softint, Step.starts, Step.event, Step.events, Step.run, Step.steps}
 use Rattle.execmodel.proofs.Moments.{events_more}
-use Rattle.execsim.specs.Actions.{softint_seen}
-use Rattle.execsim.specs.Advancing.{Advances, IsSilent}
-use Rattle.execsim.specs.Agreement.{Seen, Agrees}
-use Rattle.execsim.specs.Headline.{Acts, Shown}
-use Rattle.execsim.specs.declared.machine.Flow.{Flow}
-use Rattle.execsim.specs.Time.{HasTimeFor}
-use Rattle.execsim.proofs.Clock.{time_for_fewer}
-use Rattle.execsim.proofs.Serving.{softint_same}
-use Rattle.execlog.specs.declared.moment.Actor.{Actor}
-use Rattle.execlog.specs.declared.moment.Moment.{Moment}
-use Rattle.execlog.specs.Log.{Entry, Gains, LogsTellTheTrace, ShowsLog, actor_at, actor_of, acts_next, entries_after, entry_after, log_of, turns, unit_of, units}
-use Rattle.execlog.specs.Runs.{Extends, Logs, Output, Wrote, actor_now}
+use Rattle.execsim.specs.{Actions.softint_seen, Advancing.Advances, Advancing.IsSilent, Agreement.Seen, Agreement.Agrees, Headline.Acts, Headline.Shown, declared.machine.Flow.Flow, Time.HasTimeFor}
+use Rattle.execsim.proofs.{Clock.time_for_fewer, Serving.softint_same}
+use Rattle.execlog.specs.{declared.moment.Actor.Actor, declared.moment.Moment.Moment, Log.Entry, Log.Gains, Log.LogsTellTheTrace, Log.ShowsLog, Log.actor_at, Log.actor_of, Log.acts_next, Log.entries_after, Log.entry_after, Log.log_of, Log.turns, Log.unit_of, Log.units, Runs.Extends, Runs.Logs, Runs.Output, Runs.Wrote, Runs.actor_now}
 use Rattle.execlog.proofs.UnitRuns.{steps_same, units_same}
 
 -- ---- the texts of a log

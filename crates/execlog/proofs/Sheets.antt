@@ -1,9 +1,7 @@
 -- Texts that are copied as a fixed number of bytes at once.
-use Rattle.std.proofs.Common.{◌≡◌, ◌≤◌, ◌+◌, ◌-◌, ℕ, List, [], ◌∷◌, ◌++◌, length, take, drop, replicate, refl, ap, sym, ◌∙◌, append-nil, append_assoc, length-drop, arith}
-use Rattle.std.proofs.lemmas.List.{drop-append-le, drop-drop, drop_at, length-append, length-replicate, length-take-le, take-append-drop, take-append-le, take-take, take_at}
-use Rattle.std.proofs.lemmas.List.Edits.{take-paste}
-use Rattle.std.proofs.lemmas.Simd.{put_chunk_is}
-use Rattle.std.proofs.Math.Seq.{drop-append-add, take-add, take-append-add}
+use Rattle.std.proofs.Common.{◌≡◌, ◌≤◌, ◌+◌, ◌-◌, ℕ, List, [], ◌∷◌, ◌++◌, length, take, drop, replicate, refl, ap, sym, ◌∙◌, append-nil, append_assoc, length-drop, arith, drop-drop, drop_at, length-append, length-take-le, take-append-drop, take-take, take_at, take-add}
+use Rattle.std.proofs.lemmas.{List.drop-append-le, List.length-replicate, List.take-append-le, List.Edits.take-paste, Simd.put_chunk_is}
+use Rattle.std.proofs.Math.Seq.{drop-append-add, take-append-add}
 use Rattle.exectrace.specs.Sink.{Tape, Adds, Puts}
 use Rattle.execlog.proofs.Laying.{spaces_taken}
 use Rattle.execlog.specs.Rows.{IsSheet}

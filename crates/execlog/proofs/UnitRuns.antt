@@ -1,13 +1,9 @@
 -- A run is the same one step and one tick at a time.
-use Rattle.std.proofs.Common.{◌≡◌, ℕ, zero, suc, ◌+◌, ◌*◌, List, [], ◌∷◌, ◌++◌, replicate, refl, ap, sym, ◌∙◌, append-nil, arith}
-use Rattle.std.specs.Prelude.{sum_by}
-use Rattle.std.proofs.lemmas.List.Folds.{sum_by-replicate}
-use Rattle.std.proofs.lemmas.List.Sums.{sum_by-append, sum_by-cons}
-use Rattle.taskscript.specs.Events.{ticks as ticks_of}
-use Rattle.taskscript.specs.declared.event.Event.{Event}
+use Rattle.std.proofs.Common.{◌≡◌, ℕ, zero, suc, ◌+◌, ◌*◌, List, [], ◌∷◌, ◌++◌, replicate, refl, ap, sym, ◌∙◌, append-nil, arith, sum_by}
+use Rattle.std.proofs.lemmas.{List.Folds.sum_by-replicate, List.Sums.sum_by-append, List.Sums.sum_by-cons}
 use Rattle.taskscript.specs.declared.event.Event.TheVariants.{Run, Tick, Irq}
-use Rattle.execmodel.specs.State.{State, Outcome, quiet, andthen}
-use Rattle.execmodel.specs.Step.{steps, ticks, event, events}
+use Rattle.taskscript.specs.{Events.ticks as ticks_of, declared.event.Event.Event}
+use Rattle.execmodel.specs.{State.State, State.Outcome, State.quiet, State.andthen, Step.steps, Step.ticks, Step.event, Step.events}
 use Rattle.execmodel.proofs.Moments.{events_more, run_cut, tick_cut}
 use Rattle.execlog.specs.Log.{unit_of, units}
 

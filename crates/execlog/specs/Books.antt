@@ -1,12 +1,6 @@
 -- Which line of a machine file a row has, and which rows are shown.
-use Rattle.std.specs.Prelude.{◌≡◌, ℕ, if◌then◌else◌, Option, None}
-use Rattle.std.specs.List.{slice_get}
-use Rattle.std.specs.Option.{option_and_then}
-use Rattle.execlog.specs.declared.book.Body.{Body}
-use Rattle.execlog.specs.declared.book.Book.{Book}
-use Rattle.execlog.specs.declared.book.Place.{Place}
-use Rattle.execlog.specs.declared.filter.Filter.{Filter}
-use Rattle.execlog.specs.declared.moment.Actor.{Actor}
+use Rattle.std.specs.Prelude.{◌≡◌, ℕ, if◌then◌else◌, Option, None, slice_get, option_and_then}
+use Rattle.execlog.specs.{declared.book.Body.Body, declared.book.Book.Book, declared.book.Place.Place, declared.filter.Filter.Filter, declared.moment.Actor.Actor}
 
 -- the line of the row of a command, which has none if it prints nothing
 abbrev pub row_line : Place → Option ℕ

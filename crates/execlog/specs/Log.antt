@@ -1,16 +1,11 @@
 -- The log of a run: an entry for the start, and one for each step, tick and request of an interrupt, with when it was, which command it was, and
 -- the lines that it printed.
-use Rattle.std.specs.Prelude.{◌≡◌, ℕ, suc, ◌||◌, if◌then◌else◌, nat_lt, is_some, List, [], ◌∷◌, ◌++◌, length, replicate, Option, None, Some}
-use Rattle.std.specs.List.{flat_map}
+use Rattle.std.specs.Prelude.{◌≡◌, ℕ, suc, ◌||◌, if◌then◌else◌, nat_lt, is_some, List, [], ◌∷◌, ◌++◌, length, replicate, Option, None, Some, flat_map}
 use Rattle.exectrace.specs.Trace.{printed}
-use Rattle.taskscript.specs.File.{MachineData}
-use Rattle.taskscript.specs.declared.event.Event.{Event}
 use Rattle.taskscript.specs.declared.event.Event.TheVariants.{Run, Tick, Irq}
-use Rattle.execmodel.specs.State.{Scripts, State, Outcome, booted, program_of}
-use Rattle.execmodel.specs.Pending.{next_softint}
-use Rattle.execmodel.specs.Step.{event, run, starts}
-use Rattle.execlog.specs.declared.moment.Actor.{Actor}
-use Rattle.execlog.specs.declared.moment.Moment.{Moment}
+use Rattle.taskscript.specs.{File.MachineData, declared.event.Event.Event}
+use Rattle.execmodel.specs.{State.Scripts, State.State, State.Outcome, State.booted, State.program_of, Pending.next_softint, Step.event, Step.run, Step.starts}
+use Rattle.execlog.specs.{declared.moment.Actor.Actor, declared.moment.Moment.Moment}
 
 -- ---- one step and one tick at a time
 

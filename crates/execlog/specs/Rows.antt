@@ -1,7 +1,6 @@
 -- The plain form of the entries of a log: a row for each line of the trace, with columns before it and after it.
-use Rattle.std.specs.Prelude.{◌≡◌, ◌≢◌, ⊤, ℕ, zero, suc, ◌+◌, ◌-◌, ◌/◌, ◌%◌, ◌^◌, ◌<◌, ◌≤◌, if◌then◌else◌, Bool, true, codes, decimal, drop, length, replicate, slice_index, take, List, [], ◌∷◌, ◌++◌, Option, None, Some}
-use Rattle.std.specs.Borrow.{Bor}
-use Rattle.std.specs.List.{flat_map, list_all}
+use Rattle.std.specs.Prelude.{◌≡◌, ◌≢◌, ⊤, ℕ, zero, suc, ◌+◌, ◌-◌, ◌/◌, ◌%◌, ◌^◌, ◌<◌, ◌≤◌, if◌then◌else◌, Bool, true, codes, decimal, drop, length, replicate, slice_index, take, List, [], ◌∷◌, ◌++◌, Option, None, Some, flat_map}
+use Rattle.std.specs.{Borrow.Bor, List.list_all}
 use Rattle.execlog.specs.declared.moment.Moment.{Moment}
 
 -- ---- columns

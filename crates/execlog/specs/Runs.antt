@@ -1,16 +1,12 @@
 -- What running a machine adds to its log, by what the machine shows.
 use Rattle.std.specs.Prelude.{ℕ, List, Option, None, Result, Ok, Err}
 use Rattle.exectrace.specs.Sink.{Tape, Adds, Breaks, TakesAll}
-use Rattle.taskscript.specs.declared.event.Event.{Event}
 use Rattle.taskscript.specs.declared.event.Event.TheVariants.{Run, Tick, Irq}
-use Rattle.execmodel.specs.State.{State}
-use Rattle.execmodel.specs.Step.{events}
-use Rattle.execsim.specs.Agreement.{Seen, Agrees}
-use Rattle.execsim.specs.Readers.{actor_seen}
-use Rattle.execlog.specs.declared.log.LogFault.{LogFault}
+use Rattle.taskscript.specs.declared.event.Event.{Event}
+use Rattle.execmodel.specs.{State.State, Step.events}
+use Rattle.execsim.specs.{Agreement.Seen, Agreement.Agrees, Readers.actor_seen}
 use Rattle.execlog.specs.declared.log.LogFault.TheVariants.{Memory, Write}
-use Rattle.execlog.specs.declared.moment.Actor.{Actor}
-use Rattle.execlog.specs.Log.{Entry, ShowsLog, actor_at, entries_after}
+use Rattle.execlog.specs.{declared.log.LogFault.LogFault, declared.moment.Actor.Actor, Log.Entry, Log.ShowsLog, Log.actor_at, Log.entries_after}
 
 -- the task whose command an event is
 abbrev pub actor_now : Event → Seen → Option Actor

@@ -1,15 +1,10 @@
 //! A run with an entry for each step, tick and request. Steps that print nothing are done together if they are not shown.
 ghost use Rattle.std.specs.Prelude.{◌≡◌, ◌+◌, ◌*◌, ◌∷◌, ◌<◌, ◌≤◌, ◌^◌, ℕ, [], false, replicate, sum_by, None, IfOk, OnOk};
 ghost use Rattle.exectrace.specs.declared.sinks.SinkState.{SinkState};
-ghost use Rattle.taskscript.specs.Events.{ticks as ticks_of};
-ghost use Rattle.taskscript.specs.File.{MachineData};
-ghost use Rattle.execmodel.specs.State.{booted};
-ghost use Rattle.execmodel.specs.Step.{starts};
-ghost use Rattle.execsim.specs.Agreement.{Agrees};
-ghost use Rattle.execsim.specs.Time.{HasTimeFor};
-ghost use Rattle.execlog.specs.declared.moment.Moment.{Moment};
-ghost use Rattle.execlog.specs.Log.{Entry, ShowsLog, entry_after, log_of, turns, unit_of, units};
-ghost use Rattle.execlog.specs.Runs.{Extends, Logs, LogsRun, Wrote};
+ghost use Rattle.taskscript.specs.{Events.ticks as ticks_of, File.MachineData};
+ghost use Rattle.execmodel.specs.{State.booted, Step.starts};
+ghost use Rattle.execsim.specs.{Agreement.Agrees, Time.HasTimeFor};
+ghost use Rattle.execlog.specs.{declared.moment.Moment.Moment, Log.Entry, Log.ShowsLog, Log.entry_after, Log.log_of, Log.turns, Log.unit_of, Log.units, Runs.Extends, Runs.Logs, Runs.LogsRun, Runs.Wrote};
 
 use crate::buffer::Buffer;
 use crate::form::{Before, Form};

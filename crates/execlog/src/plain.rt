@@ -1,8 +1,6 @@
 //! The plain form of a log: a row for each line of the trace, with the number of the step, the time, the line of the command and its text.
 ghost use Rattle.std.specs.Prelude.{◌≡◌, ◌≤◌, ◌<◌, ◌++◌, ◌+◌, ◌-◌, length, slice_index, IfSome, List, None, OnOk, Option, Some, ℕ};
-ghost use Rattle.execlog.specs.Books.{ShowsAll, line_at};
-ghost use Rattle.execlog.specs.Log.{Entry, Gains};
-ghost use Rattle.execlog.specs.Rows.{FollowsRows, IsCut, IsCutAt, IsFeedAt, IsRow, LaysOut};
+ghost use Rattle.execlog.specs.{Books.ShowsAll, Books.line_at, Log.Entry, Log.Gains, Rows.FollowsRows, Rows.IsCut, Rows.IsCutAt, Rows.IsFeedAt, Rows.IsRow, Rows.LaysOut};
 
 use crate::book::{Book, Place};
 use crate::cursor::{Cursor, Spot, place_at};
@@ -324,8 +322,7 @@ impl Plain<'_> {
 }
 
 impl Form for Plain<'_> {
-    ghost use Rattle.execlog.specs.Books.{ShowsAll, line_at};
-    ghost use Rattle.execlog.specs.Rows.{LaysOut};
+    ghost use Rattle.execlog.specs.{Books.ShowsAll, Books.line_at, Rows.LaysOut};
 
     ghost shows = { λ f e bytes. LaysOut (ShowsAll f.filter) e.moment (line_at f.book.now e.moment.actor) e.text bytes };
 

@@ -1,26 +1,14 @@
 -- The queues agree with the schedule, whatever is done.
-use Rattle.std.proofs.Common.{◌≡◌, ◌≢◌, ℕ, zero, suc, ◌+◌, ◌<◌, ◌≤◌, ℤ, Bool, true, false, List, [], ◌∷◌, ◌++◌, Option, None, Some, length, refl, sym, ap, ◌∙◌, subst, arith}
-use Rattle.std.specs.Prelude.{not, ◌&&◌, cond, if◌then◌else◌, nat_eq, replicate, slice_set}
-use Rattle.std.proofs.lemmas.List.{get_or-set_same, get_or-set_other}
+use Rattle.std.proofs.Common.{◌≡◌, ◌≢◌, ℕ, zero, suc, ◌+◌, ◌<◌, ◌≤◌, ℤ, Bool, true, false, List, [], ◌∷◌, ◌++◌, Option, None, Some, length, refl, sym, ap, ◌∙◌, subst, arith, not, ◌&&◌, cond, if◌then◌else◌, nat_eq, replicate, slice_set, get_or-set_same, get_or-set_other}
 use Rattle.memlist.proofs.Answered.{nat_eq-same, nat_eq-other, cases_eq}
-use Rattle.execlist.specs.Lists.{is_at}
-use Rattle.taskq.specs.Tasks.{state_at, is_ready, is_live}
-use Rattle.execlist.specs.Disciplines.{pri_at, by_arrival}
-use Rattle.taskq.specs.declared.TaskState.{TaskState}
+use Rattle.execlist.specs.{Lists.is_at, Lists.times, Disciplines.pri_at, Disciplines.by_arrival, Order.without, Order.chosen, Order.chosen_or, Order.is_lower}
 use Rattle.taskq.specs.declared.TaskState.TheVariants.{Absent, Ready, Running, Waiting, Removed}
-use Rattle.taskq.specs.declared.Why.TheVariants.{Signals, Sem}
+use Rattle.taskq.specs.{Tasks.state_at, Tasks.is_ready, Tasks.is_live, declared.TaskState.TaskState, declared.Why.TheVariants.Signals, declared.Why.TheVariants.Sem}
 use Rattle.scheduler.specs.Schedule.{Schedule, status_of, signals_of, is_absent, is_at_semaphore, awaits, departs, begins, removed, renewed, switch_for, takes_over, is_switching_allowed, is_quantum_over, waits_at_semaphore, with_signals}
-use Rattle.scheduler.specs.declared.Switch.TheVariants.{To, Idle}
-use Rattle.execlist.specs.Order.{without, chosen, chosen_or, is_lower}
+use Rattle.scheduler.specs.{declared.Switch.TheVariants.To, declared.Switch.TheVariants.Idle, Dispatch.arrives, Dispatch.added, Dispatch.displaced, Dispatch.after_switch, Dispatch.switch_of, Dispatch.rescheduled, Dispatch.signalled, Sound.is_running}
 use Rattle.signals.specs.Signals.{after_post}
-use Rattle.scheduler.specs.Dispatch.{arrives, added, displaced, after_switch, switch_of, rescheduled, signalled}
-use Rattle.execmodel.specs.Agreement.{once_if, StandsInOne, Agrees}
-use Rattle.scheduler.specs.Sound.{is_running}
-use Rattle.execlist.specs.Lists.{times}
-use Rattle.execmodel.proofs.Heaps.{true_is_not_false}
-use Rattle.execmodel.specs.Queues.{Turn, Came, Served}
-use Rattle.execmodel.specs.Marks.{turn_at}
-use Rattle.execmodel.proofs.Queues.{IsAway, Turns, Follows}
+use Rattle.execmodel.specs.{Agreement.once_if, Agreement.StandsInOne, Agreement.Agrees, Queues.Turn, Queues.Came, Queues.Served, Marks.turn_at}
+use Rattle.execmodel.proofs.{Heaps.true_is_not_false, Queues.IsAway, Queues.Turns, Queues.Follows}
 
 -- ---- how often a task is in a sequence
 

@@ -1,26 +1,16 @@
 -- What calls on requests, and the clock, make of the blocks and of the requests that wait: a request asks something else, and its reply is put, or
 -- not.
-use Rattle.std.proofs.Common.{◌≡◌, ◌≢◌, ℕ, suc, ◌+◌, ◌<◌, Bool, true, false, List, [], ◌∷◌, ◌++◌, length, Option, None, Some, refl, sym, ap, ◌∙◌, subst, arith}
-use Rattle.std.specs.Prelude.{ℤ, pos, not, ◌&&◌, cond, if◌then◌else◌, nat_eq, map, filter, ◌==◌}
-use Rattle.std.specs.Option.{option_map}
+use Rattle.std.proofs.Common.{◌≡◌, ◌≢◌, ℕ, suc, ◌+◌, ◌<◌, Bool, true, false, List, [], ◌∷◌, ◌++◌, length, Option, None, Some, refl, sym, ap, ◌∙◌, subst, arith, ℤ, pos, not, ◌&&◌, cond, if◌then◌else◌, nat_eq, map, filter, ◌==◌, option_map}
 use Rattle.memlist.proofs.Answered.{cases_eq}
-use Rattle.execlist.specs.Order.{chosen, chosen_or, is_lower, without}
-use Rattle.iorequest.specs.declared.request.Request.{Request as TimerRequest}
-use Rattle.iorequest.specs.Request.{is_way, is_under_way, done_state, finished, reply_port}
+use Rattle.execlist.specs.{Order.chosen, Order.chosen_or, Order.is_lower, Order.without, Lists.times}
+use Rattle.iorequest.specs.{declared.request.Request.Request as TimerRequest, Request.is_way, Request.is_under_way, Request.done_state, Request.finished, Request.reply_port}
 use Rattle.execmodel.specs.State.{Object, Request, Block, Heap, Waiting as Queued, Timer, Memory, Mark, put, Scripts, State, Outcome, says, on_memory}
-use Rattle.execmodel.specs.Objects.{replaced}
-use Rattle.execmodel.specs.Ports.{is_port_at, messages_of, port_of, with_port, appended, performed}
-use Rattle.exectrace.specs.Trace.{Timer as TimerLine}
 use Rattle.execmodel.specs.Requests.{is_request, is_request_at, request_of, with_request, where_port, answering_port, appended_at, acting_at, with_reply, finished_at, ended, finishes}
+use Rattle.execmodel.specs.{Objects.replaced, Ports.is_port_at, Ports.messages_of, Ports.port_of, Ports.with_port, Ports.appended, Ports.performed, Agreement.once_if, Laws.times_waiting}
+use Rattle.exectrace.specs.Trace.{Timer as TimerLine}
 use Rattle.timerdev.specs.Timing.{sooner, next_of, due_next, until_next, waits_no_more}
-use Rattle.execmodel.specs.Agreement.{once_if}
-use Rattle.execlist.specs.Lists.{times}
-use Rattle.execmodel.specs.Laws.{times_waiting}
-use Rattle.execmodel.proofs.Heaps.{true_is_not_false}
-use Rattle.execmodel.proofs.Agreement.{times_last, times_gone, times_others, first_stands, later_stands}
-use Rattle.execmodel.proofs.Commands.{none_some, IsCalm, Reaches, performed_reaches, performed_memory, performed_scripts, settings_of}
-use Rattle.execmodel.proofs.Queues.{IsAway}
 use Rattle.execmodel.proofs.Posts.{Post, ARequest, post_at, messages_at, asked_at, is_a_port, may_stand, IsTidy, messages_are, request_is, port_is, request_there, request_from, under_way_there, post_elsewhere, post_here}
+use Rattle.execmodel.proofs.{Heaps.true_is_not_false, Agreement.times_last, Agreement.times_gone, Agreement.times_others, Agreement.first_stands, Agreement.later_stands, Commands.none_some, Commands.IsCalm, Commands.Reaches, Commands.performed_reaches, Commands.performed_memory, Commands.performed_scripts, Commands.settings_of, Queues.IsAway}
 
 -- a request is in no port
 abbrev pub IsLoose : ℕ → Heap → Type 0

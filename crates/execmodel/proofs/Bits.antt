@@ -1,10 +1,7 @@
 -- Signals that are taken out of a set are not in it any more, and those that join one do not drive out others.
-use Rattle.std.proofs.Common.{inl, inr, ◌≡◌, ℕ, ◌^◌, true, bit_or, ap, ◌∙◌, arith}
-use Rattle.std.specs.Prelude.{bit_and, ◌||◌}
-use Rattle.std.specs.Int.{bit_not, w32}
-use Rattle.std.proofs.lemmas.Bool.{cases_lt}
-use Rattle.std.proofs.lemmas.Nat.{and_assoc, and-not}
-use Rattle.std.specs.Int.Bits.{and_self, and_zero_l, and_zero_r}
+use Rattle.std.proofs.Common.{inl, inr, ◌≡◌, ℕ, ◌^◌, true, bit_or, ap, ◌∙◌, arith, bit_and, ◌||◌, w32}
+use Rattle.std.specs.{Int.bit_not, Int.Bits.and_self, Int.Bits.and_zero_l, Int.Bits.and_zero_r}
+use Rattle.std.proofs.lemmas.{Bool.cases_lt, Nat.and_assoc, Nat.and-not}
 use Rattle.signals.specs.Signals.{has_signal, without}
 use Rattle.signals.proofs.Sets.{has_signal-or}
 

@@ -1,25 +1,17 @@
 -- What the body of an interrupt leaves as it is, and what it prints.
-use Rattle.std.proofs.Common.{◌≡◌, ℕ, zero, suc, ℤ, pos, Bool, true, false, List, [], ◌∷◌, ◌++◌, Option, None, Some, refl, ap, ◌∙◌}
-use Rattle.std.specs.Prelude.{if◌then◌else◌, length, All}
+use Rattle.std.proofs.Common.{◌≡◌, ℕ, zero, suc, ℤ, pos, Bool, true, false, List, [], ◌∷◌, ◌++◌, Option, None, Some, refl, ap, ◌∙◌, if◌then◌else◌, length, All}
 use Rattle.exectrace.specs.Trace.{TraceLine, Call as CallLine, Server, Softint, Alert, Timer}
 use Rattle.execlist.specs.Order.{first}
 use Rattle.forbid.specs.Nesting.{Nesting}
 use Rattle.scheduler.specs.Schedule.{Schedule}
-use Rattle.softint.specs.declared.latches.Latches.{Latches}
+use Rattle.softint.specs.{declared.latches.Latches.Latches, declared.source.Source.Source}
 use Rattle.taskscript.specs.Commands.{CommandData}
-use Rattle.execmodel.specs.State.{Call, State, Timer as Clock, Outcome, quiet, says, andthen, unless_stopped, on_memory, on_timer, on_pending, Bodies}
-use Rattle.execmodel.specs.Calls.{call_in_body}
-use Rattle.execmodel.specs.Pending.{caused_no_more}
-use Rattle.execmodel.specs.Bodies.{body_step, runs_body}
-use Rattle.softint.specs.declared.source.Source.{Source}
+use Rattle.execmodel.specs.Requests.{answering_port, acting_at, with_reply, ended, ends_with, finishes, finishes_each, finishes_all_due, finishes_set}
+use Rattle.execmodel.specs.{State.Call, State.State, State.Timer as Clock, State.Outcome, State.quiet, State.says, State.andthen, State.unless_stopped, State.on_memory, State.on_timer, State.on_pending, State.Bodies, Calls.call_in_body, Pending.caused_no_more, Bodies.body_step, Bodies.runs_body, Interrupts.softint_at, Interrupts.server_at, Interrupts.runs_softint, Interrupts.runs_server, Interrupts.runs_chain, Interrupts.finishes_for}
 use Rattle.softint.specs.declared.source.Source.TheVariants as source
 use Rattle.timerdev.specs.Timing.{due_next, looked_at, until_next}
-use Rattle.execmodel.specs.Requests.{answering_port, acting_at, with_reply, ended, ends_with, finishes, finishes_each, finishes_all_due, finishes_set}
-use Rattle.execmodel.specs.Interrupts.{softint_at, server_at, runs_softint, runs_server, runs_chain, finishes_for}
 use Rattle.std.proofs.lemmas.List.Elements.{All-head, All-tail}
-use Rattle.execmodel.proofs.Commands.{performed_fixed}
-use Rattle.execmodel.proofs.Telling.{IsOwn, own, refusing, body_commanded}
-use Rattle.execmodel.proofs.Keeping.{finishes_found}
+use Rattle.execmodel.proofs.{Commands.performed_fixed, Telling.IsOwn, Telling.own, Telling.refusing, Telling.body_commanded, Keeping.finishes_found}
 
 -- ---- what bodies leave
 

@@ -1,16 +1,12 @@
 -- The servers of a source run in the order of their priorities, however that is kept.
-use Rattle.std.proofs.Common.{◌≡◌, ℕ, zero, suc, ◌+◌, ◌<◌, ◌≤◌, Bool, true, false, cond, not, eqb, List, [], ◌∷◌, length, refl, sym, ap, ◌∙◌, arith, Option, Some, None}
-use Rattle.std.specs.Prelude.{ℤ, filter, fold, slice_index_or}
+use Rattle.std.proofs.Common.{◌≡◌, ℕ, zero, suc, ◌+◌, ◌<◌, ◌≤◌, Bool, true, false, cond, not, eqb, List, [], ◌∷◌, length, refl, sym, ap, ◌∙◌, arith, Option, Some, None, ℤ, filter, fold, slice_index_or, eq-eqb, ne_eqb}
 use Rattle.std.specs.List.{range_with_len}
-use Rattle.std.proofs.lemmas.Bool.{cond-true, cond-false, eq-eqb, ne_eqb}
-use Rattle.std.proofs.lemmas.List.FromFn.{length-range_with_len}
+use Rattle.std.proofs.lemmas.{Bool.cond-true, Bool.cond-false, List.FromFn.length-range_with_len}
 use Rattle.execlist.specs.Order.{enqueue, order, first, without, is_lower}
 use Rattle.execlist.proofs.OrderLaws.{first_of_order, order_leaves_out}
-use Rattle.softint.specs.Sources.{is_source}
-use Rattle.softint.specs.declared.source.Source.{Source}
+use Rattle.softint.specs.{Sources.is_source, declared.source.Source.Source}
 use Rattle.taskscript.specs.File.{ServerData}
-use Rattle.execmodel.specs.Pending.{source_named}
-use Rattle.execmodel.specs.Interrupts.{server_pri, servers_of, no_server, by_choice, chain_of}
+use Rattle.execmodel.specs.{Pending.source_named, Interrupts.server_pri, Interrupts.servers_of, Interrupts.no_server, Interrupts.by_choice, Interrupts.chain_of}
 use Rattle.execmodel.proofs.Heaps.{true_is_not_false}
 
 -- ---- numbers that are apart

@@ -1,27 +1,17 @@
 -- Each line of a switch in the text of a run is that of a switch at the start, or at the end of an action.
-use Rattle.std.proofs.Common.{◌≡◌, ℕ, zero, suc, Bool, true, false, List, [], ◌∷◌, Option, None, Some, refl, ap, length}
-use Rattle.std.specs.Prelude.{All, if◌then◌else◌}
+use Rattle.std.proofs.Common.{◌≡◌, ℕ, zero, suc, Bool, true, false, List, [], ◌∷◌, Option, None, Some, refl, ap, length, All, if◌then◌else◌}
 use Rattle.std.proofs.lemmas.List.Elements.{All-nil, All-cons, All-append}
 use Rattle.execlist.specs.Disciplines.{by_arrival}
 use Rattle.exectrace.specs.Trace.{TraceLine, Switch, Idle, Call, Serve, Timer, Server, Softint, Alert}
-use Rattle.taskscript.specs.File.{MachineData}
-use Rattle.taskscript.specs.declared.event.Event.{Event}
 use Rattle.taskscript.specs.declared.event.Event.TheVariants.{Run, Tick, Irq}
-use Rattle.softint.specs.declared.source.Source.{Source}
-use Rattle.softint.specs.declared.source.Source.TheVariants.{Vertb}
+use Rattle.taskscript.specs.{File.MachineData, declared.event.Event.Event}
+use Rattle.softint.specs.{declared.source.Source.Source, declared.source.Source.TheVariants.Vertb}
 use Rattle.timerdev.specs.Timing.{ticked}
-use Rattle.scheduler.specs.declared.Switch.{Switch as Choice}
+use Rattle.scheduler.specs.{declared.Switch.Switch as Choice, Schedule.name_of, Dispatch.switch_of}
 use Rattle.scheduler.specs.declared.Switch.TheVariants as choice
-use Rattle.scheduler.specs.Schedule.{name_of}
-use Rattle.scheduler.specs.Dispatch.{switch_of}
-use Rattle.execmodel.specs.State.{Call as TaskCall, State, Outcome, quiet, andthen, unless_stopped, on_schedule, on_memory, on_pending, on_timer, booted}
-use Rattle.execmodel.specs.Calls.{next_call}
-use Rattle.execmodel.specs.Pending.{source_named, with_latch_of, next_softint}
-use Rattle.execmodel.specs.Interrupts.{interrupts}
 use Rattle.execmodel.specs.Step.{announced, switches, settle, call_step, task_step, softint_or_task_step, acting, acts, step, steps, request, tick, ticks, all_added, starts, event, events, run}
-use Rattle.execmodel.specs.Laws.{OneStep, OneTick, OneRequest, says_switch, ComesTo, begins, goes_on, SwitchesTo, at_start, by_action, EachSwitchLineIsAChoice}
-use Rattle.execmodel.proofs.Heaps.{true_is_not_false}
-use Rattle.execmodel.proofs.Saying.{only_switches_say_so}
+use Rattle.execmodel.specs.{State.Call as TaskCall, State.State, State.Outcome, State.quiet, State.andthen, State.unless_stopped, State.on_schedule, State.on_memory, State.on_pending, State.on_timer, State.booted, Calls.next_call, Pending.source_named, Pending.with_latch_of, Pending.next_softint, Interrupts.interrupts, Laws.OneStep, Laws.OneTick, Laws.OneRequest, Laws.says_switch, Laws.ComesTo, Laws.begins, Laws.goes_on, Laws.SwitchesTo, Laws.at_start, Laws.by_action, Laws.EachSwitchLineIsAChoice}
+use Rattle.execmodel.proofs.{Heaps.true_is_not_false, Saying.only_switches_say_so}
 
 -- ---- what says no switch
 

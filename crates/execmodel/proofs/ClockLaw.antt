@@ -1,29 +1,14 @@
 -- The clock has counted the ticks of the events: nothing but a tick moves it.
-use Rattle.std.proofs.Common.{◌≡◌, ℕ, zero, suc, ◌+◌, ◌*◌, ◌≤◌, Bool, true, false, List, [], ◌∷◌, refl, sym, ap, ◌∙◌, subst, arith}
-use Rattle.std.specs.Prelude.{if◌then◌else◌, sum_by}
-use Rattle.std.proofs.Math.Nat.{add-mul}
+use Rattle.std.proofs.Common.{◌≡◌, ℕ, zero, suc, ◌+◌, ◌*◌, ◌≤◌, Bool, true, false, List, [], ◌∷◌, refl, sym, ap, ◌∙◌, subst, arith, if◌then◌else◌, sum_by, add-mul}
 use Rattle.std.proofs.lemmas.List.Sums.{sum_by-cons}
 use Rattle.execlist.specs.Disciplines.{by_arrival}
-use Rattle.softint.specs.declared.source.Source.{Source}
-use Rattle.softint.specs.declared.source.Source.TheVariants.{Vertb}
-use Rattle.taskscript.specs.declared.word.Word.{Word}
-use Rattle.taskscript.specs.declared.word.Word.TheVariants as group
-use Rattle.taskscript.specs.declared.event.Event.{Event}
+use Rattle.softint.specs.{declared.source.Source.Source, declared.source.Source.TheVariants.Vertb}
 use Rattle.taskscript.specs.declared.event.Event.TheVariants.{Run, Tick, Irq}
-use Rattle.taskscript.specs.Events.{ticks as event_ticks}
-use Rattle.taskscript.specs.File.{MachineData}
-use Rattle.execmodel.specs.State.{Call, Timer, State, Outcome, quiet, andthen, booted, on_schedule}
+use Rattle.taskscript.specs.{declared.word.Word.Word, declared.event.Event.Event, Events.ticks as event_ticks, File.MachineData}
+use Rattle.taskscript.specs.declared.word.Word.TheVariants as group
+use Rattle.execmodel.specs.{State.Call, State.Timer, State.State, State.Outcome, State.quiet, State.andthen, State.booted, State.on_schedule, Pending.source_named, Step.ends, Step.switches, Step.step, Step.steps, Step.request, Step.tick, Step.ticks, Step.event, Step.events, Step.starts, Step.run, Laws.TheClockCountsTicks}
 use Rattle.scheduler.specs.Dispatch.{rescheduled}
-use Rattle.execmodel.specs.Pending.{source_named}
-use Rattle.execmodel.specs.Step.{ends, switches, step, steps, request, tick, ticks, event, events, starts, run}
-use Rattle.execmodel.specs.Laws.{TheClockCountsTicks}
-use Rattle.execmodel.proofs.Heaps.{true_is_not_false}
-use Rattle.execmodel.proofs.Itself.{word_itself, word_keeps}
-use Rattle.execmodel.proofs.Stopped.{step_stopped, request_stopped}
-use Rattle.execmodel.proofs.Stretches.{Relation, HoldsOfEach, clock_gains, of_request, of_step, of_starts}
-use Rattle.execmodel.proofs.Telling.{body_alters}
-use Rattle.execmodel.proofs.Asking.{finishing}
-use Rattle.execmodel.proofs.TidyLaw.{quietly, switches_quiet}
+use Rattle.execmodel.proofs.{Heaps.true_is_not_false, Itself.word_itself, Itself.word_keeps, Stopped.step_stopped, Stopped.request_stopped, Stretches.Relation, Stretches.HoldsOfEach, Stretches.clock_gains, Stretches.of_request, Stretches.of_step, Stretches.of_starts, Telling.body_alters, Asking.finishing, TidyLaw.quietly, TidyLaw.switches_quiet}
 
 -- ---- but for ticks the clock is
 

@@ -1,30 +1,19 @@
 -- What a command that a body may have makes of the state, whether a body or a task makes the call: of the blocks of memory, of the tasks'
 -- states and of the received signals one of a few things, whatever the word.
-use Rattle.std.proofs.Common.{◌≡◌, ℕ, Bool, true, false, List, [], ◌∷◌, Option, None, Some, length, refl, sym, ap, ◌∙◌, subst}
-use Rattle.std.specs.Prelude.{◌-◌, not, if◌then◌else◌, nat_eq, is_some, nat_lt, ◌&&◌, unwrap_or}
-use Rattle.std.proofs.lemmas.List.{length-set}
-use Rattle.execlist.specs.Order.{first}
-use Rattle.execlist.specs.Disciplines.{by_arrival}
-use Rattle.scheduler.specs.Schedule.{Schedule, signals_of, status_of, awaits}
-use Rattle.msgport.specs.Port.{acting}
-use Rattle.msgport.specs.Ports.{nt_message, nt_replymsg}
-use Rattle.msgport.specs.declared.action.Action.{Action}
+use Rattle.std.proofs.Common.{◌≡◌, ℕ, Bool, true, false, List, [], ◌∷◌, Option, None, Some, length, refl, sym, ap, ◌∙◌, subst, ◌-◌, not, if◌then◌else◌, nat_eq, is_some, nat_lt, ◌&&◌, unwrap_or, length-set}
+use Rattle.execlist.specs.{Order.first, Disciplines.by_arrival}
+use Rattle.scheduler.specs.{Schedule.Schedule, Schedule.signals_of, Schedule.status_of, Schedule.awaits, Dispatch.signalled, Dispatch.arrives}
+use Rattle.msgport.specs.{Port.acting, Ports.nt_message, Ports.nt_replymsg, declared.action.Action.Action, declared.message.Message.Message as Content}
 use Rattle.msgport.specs.declared.action.Action.TheVariants as action
-use Rattle.msgport.specs.declared.message.Message.{Message as Content}
-use Rattle.taskscript.specs.declared.variable.Variable.{Variable}
 use Rattle.taskscript.specs.declared.variable.Variable.TheVariants.{Private, Shared}
+use Rattle.taskscript.specs.{declared.variable.Variable.Variable, File.SoftintData}
 use Rattle.execmodel.specs.State.{Call, Scripts, Heap, Memory, Mark, put, got, State, Outcome, leaving, Pending, Bodies, on_schedule}
-use Rattle.scheduler.specs.Dispatch.{signalled, arrives}
 use Rattle.execmodel.specs.Calls.{Caller, ByTask, ByBody, argument, stored, stored_shared, goes_on, done, answered, silent, alerted, done_by, answered_by, silent_by, unless_by, name_argument}
-use Rattle.execmodel.specs.Signals.{signal_alert, does_signal_by}
-use Rattle.execmodel.specs.Pending.{causes, arrived, is_caused, softint_named}
-use Rattle.execmodel.specs.Causing.{does_cause_by}
 use Rattle.execmodel.specs.Ports.{is_port_at, is_message_at, is_queued, port_alert, message_alert, messages_of, content_of, port_of, appended, with_content, typed, posted, taken_off, reply_port_alert, loose_alert, put_alert, reply_alert, replied_by, delivered, performed, taken_by, does_put_msg_by, does_get_msg_by, does_reply_msg_by}
-use Rattle.execmodel.specs.Marks.{turns_at_semaphore}
+use Rattle.execmodel.specs.{Signals.signal_alert, Signals.does_signal_by, Pending.causes, Pending.arrived, Pending.is_caused, Pending.softint_named, Causing.does_cause_by, Marks.turns_at_semaphore}
 use Rattle.execmodel.proofs.Heaps.{content_is, filled, true_is_not_false}
 use Rattle.forbid.specs.Nesting.{Nesting}
 use Rattle.softint.specs.declared.latches.Latches.{Latches}
-use Rattle.taskscript.specs.File.{SoftintData}
 use Rattle.taskq.specs.Tasks.{is_live}
 
 -- what a call may make of the blocks, and the marks that it leaves: nothing, or a message changes, is put at a port or is taken there

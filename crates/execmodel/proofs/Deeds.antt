@@ -1,15 +1,6 @@
 -- Facts about every call that is a value of what refuses it, what it makes of the blocks, and what it answers.
-use Rattle.std.proofs.Common.{◌≡◌, ℕ, Bool, Option, None, Some, refl, sym, ap, ◌∙◌}
-use Rattle.std.specs.Prelude.{List}
-use Rattle.std.specs.Option.{unwrap_or}
-use Rattle.execmodel.specs.State.{Call, Object, Memory, State, Outcome, on_memory}
-use Rattle.execmodel.specs.Calls.{answered, unless}
-use Rattle.execmodel.specs.Deeds.{allots, makes, performs}
-use Rattle.execmodel.specs.GivingWay.{after_asking_for_object}
-use Rattle.execmodel.specs.Keeping.{without_blocks}
-use Rattle.execmodel.specs.Memory.{allocates, makes_object}
-use Rattle.execmodel.specs.Objects.{place_for_object}
-use Rattle.execmodel.specs.Places.{placed}
+use Rattle.std.proofs.Common.{◌≡◌, ℕ, Bool, Option, None, Some, refl, sym, ap, ◌∙◌, List, unwrap_or}
+use Rattle.execmodel.specs.{State.Call, State.Object, State.Memory, State.State, State.Outcome, State.on_memory, Calls.answered, Calls.unless, Deeds.allots, Deeds.makes, Deeds.performs, GivingWay.after_asking_for_object, Keeping.without_blocks, Memory.allocates, Memory.makes_object, Objects.place_for_object, Places.placed}
 use Rattle.execmodel.proofs.GivingWay.{asking_for_object_keeps}
 
 -- a memory that differs in its blocks alone

@@ -1,37 +1,18 @@
 -- Messages leave a port in the order in which they came.
-use Rattle.std.proofs.Common.{◌≡◌, ◌≢◌, ℕ, Bool, true, false, List, [], ◌∷◌, ◌++◌, Option, None, Some, refl, sym, ap, ◌∙◌, subst}
-use Rattle.std.specs.Prelude.{cond, if◌then◌else◌, nat_eq, map, drop, ◌==◌, ◌||◌}
-use Rattle.std.specs.Option.{option_map}
-use Rattle.std.specs.List.{list_any}
-use Rattle.memlist.specs.declared.region.Region.{Region}
-use Rattle.memlist.specs.Memory.{IsWellFormed}
+use Rattle.std.proofs.Common.{◌≡◌, ◌≢◌, ℕ, Bool, true, false, List, [], ◌∷◌, ◌++◌, Option, None, Some, refl, sym, ap, ◌∙◌, subst, cond, if◌then◌else◌, nat_eq, map, drop, ◌==◌, ◌||◌, option_map, nat_cmp}
+use Rattle.std.specs.{List.list_any, Ordering.eq_by_cmp}
+use Rattle.memlist.specs.{declared.region.Region.Region, Memory.IsWellFormed, Fit.round}
 use Rattle.memlist.proofs.Answered.{nat_eq-same, nat_eq-other, cases_eq}
-use Rattle.execlist.specs.Order.{first}
-use Rattle.execlist.specs.Order.{without}
+use Rattle.execlist.specs.Order.{first, without}
 use Rattle.iorequest.specs.declared.request.Request.{Request as TimerRequest}
 use Rattle.execmodel.specs.State.{Call, Object, Plain, ListHead, MsgPort, Message, Semaphore, Library, Block, Heap, Waiting as Queued, Mark, out, State}
-use Rattle.execmodel.specs.Requests.{with_request}
-use Rattle.execmodel.specs.Objects.{object_at, is_kind, replaced}
-use Rattle.execmodel.specs.Memory.{extents, block_at}
-use Rattle.execmodel.specs.Lists.{is_list, is_list_at, with_nodes, unlinked, left_by}
 use Rattle.execmodel.specs.Ports.{is_port, is_message, is_port_at, is_message_at, messages_in, messages_of_object, messages_of, is_queued, has_message, with_port, with_action, appended, taken_off}
 use Rattle.execmodel.specs.Semaphores.{is_semaphore, is_semaphore_at, with_semaphore, left_by_task, entered, queued, dropped, handed_on, released_once, awaited_by}
-use Rattle.execmodel.specs.Libraries.{is_library, is_library_at, with_library}
-use Rattle.execmodel.specs.Queues.{Turn, Came, Served, Left}
-use Rattle.execmodel.specs.Marks.{turn_at, turns_at_port}
-use Rattle.execmodel.proofs.Queues.{Turns, Follows, IsAway}
-use Rattle.execmodel.proofs.Heaps.{rid, filled, instead, object_replaced, object_remade, object_placed_here, object_placed_there, object_rid_here, object_rid_there, true_is_not_false}
-use Rattle.execmodel.proofs.Formed.{placed_fresh, counted_formed, rid_formed}
-use Rattle.msgport.specs.Port.{Port}
-use Rattle.msgport.specs.declared.message.Message.{Message as Content}
-use Rattle.sigsem.specs.declared.semaphore.Sem.{Sem}
-use Rattle.memlist.specs.Fit.{round}
-use Rattle.std.specs.Ordering.{nat_cmp, eq_by_cmp}
-use Rattle.execmodel.proofs.Commands.{Touches, remains, fills, puts, gets, none_some}
-use Rattle.execmodel.proofs.Posts.{IsTidy, messages_are}
-use Rattle.execmodel.proofs.Asking.{Asks, writes, answers, messages_written, ports_written, without_reply}
-use Rattle.execmodel.proofs.Taking.{IsNew, Takes, nothing, places, recounts, yields}
+use Rattle.execmodel.specs.{Requests.with_request, Objects.object_at, Objects.is_kind, Objects.replaced, Memory.extents, Memory.block_at, Lists.is_list, Lists.is_list_at, Lists.with_nodes, Lists.unlinked, Lists.left_by, Libraries.is_library, Libraries.is_library_at, Libraries.with_library, Queues.Turn, Queues.Came, Queues.Served, Queues.Left, Marks.turn_at, Marks.turns_at_port}
 use Rattle.execmodel.proofs.Moves.{MayGo, leaving_marks, Moves, touches, takes, frees, relists, unlinks, sets, enters, queues, hands, opens, releases, counts, expunges, drops}
+use Rattle.execmodel.proofs.{Queues.Turns, Queues.Follows, Queues.IsAway, Heaps.rid, Heaps.filled, Heaps.instead, Heaps.object_replaced, Heaps.object_remade, Heaps.object_placed_here, Heaps.object_placed_there, Heaps.object_rid_here, Heaps.object_rid_there, Heaps.true_is_not_false, Formed.placed_fresh, Formed.counted_formed, Formed.rid_formed, Commands.Touches, Commands.remains, Commands.fills, Commands.puts, Commands.gets, Commands.none_some, Posts.IsTidy, Posts.messages_are, Asking.Asks, Asking.writes, Asking.answers, Asking.messages_written, Asking.ports_written, Asking.without_reply, Taking.IsNew, Taking.Takes, Taking.nothing, Taking.places, Taking.recounts, Taking.yields}
+use Rattle.msgport.specs.{Port.Port, declared.message.Message.Message as Content}
+use Rattle.sigsem.specs.declared.semaphore.Sem.{Sem}
 
 pub both_false : {A : Type 0} (b c : Bool) → (b || c) ≡ false → (b ≡ false → c ≡ false → A) → A
 both_false true c e f = true_is_not_false e

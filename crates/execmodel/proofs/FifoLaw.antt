@@ -2,25 +2,10 @@
 use Rattle.std.proofs.Common.{◌≡◌, ℕ, List, [], ◌++◌, refl, sym, ap, subst}
 use Rattle.std.proofs.lemmas.Grind.{flat_map-append}
 use Rattle.execlist.specs.Disciplines.{by_arrival}
-use Rattle.taskscript.specs.File.{MachineData}
-use Rattle.taskscript.specs.declared.event.Event.{Event}
-use Rattle.execmodel.specs.State.{Call, Memory, Mark, State, Outcome, on_schedule, booted, andthen}
+use Rattle.taskscript.specs.{File.MachineData, declared.event.Event.Event}
+use Rattle.execmodel.specs.{State.Call, State.Memory, State.Mark, State.State, State.Outcome, State.on_schedule, State.booted, State.andthen, Ports.messages_of, Bodies.body_step, Step.switches, Step.ends, Step.starts, Step.events, Step.run, Marks.port_turn, Marks.turns_at_port, Laws.FirstInFirstOut, Requests.finishes}
 use Rattle.scheduler.specs.Dispatch.{rescheduled}
-use Rattle.execmodel.specs.Ports.{messages_of}
-use Rattle.execmodel.specs.Bodies.{body_step}
-use Rattle.execmodel.specs.Step.{switches, ends, starts, events, run}
-use Rattle.execmodel.specs.Marks.{port_turn, turns_at_port}
-use Rattle.execmodel.specs.Laws.{FirstInFirstOut}
-use Rattle.execmodel.proofs.Queues.{Follows, IsOnce, follows_more, follows_once, in_order}
-use Rattle.execmodel.proofs.Itself.{does_itself, call_works}
-use Rattle.execmodel.specs.Requests.{finishes}
-use Rattle.execmodel.proofs.Stretches.{Relation, HoldsOfEach, clock_gains, of_starts, of_events}
-use Rattle.execmodel.proofs.Telling.{body_alters}
-use Rattle.execmodel.proofs.Posts.{IsTidy}
-use Rattle.execmodel.proofs.Asking.{finishing, without_reply}
-use Rattle.execmodel.proofs.Works.{Works, by_moves, by_asking, by_taking}
-use Rattle.execmodel.proofs.Fifo.{touched_follow, moves_follow, asked_follow, taken_follow}
-use Rattle.execmodel.proofs.TidyLaw.{tidies, rescheduled_tidy, booted_tidy, quietly, switches_quiet}
+use Rattle.execmodel.proofs.{Queues.Follows, Queues.IsOnce, Queues.follows_more, Queues.follows_once, Queues.in_order, Itself.does_itself, Itself.call_works, Stretches.Relation, Stretches.HoldsOfEach, Stretches.clock_gains, Stretches.of_starts, Stretches.of_events, Telling.body_alters, Posts.IsTidy, Asking.finishing, Asking.without_reply, Works.Works, Works.by_moves, Works.by_asking, Works.by_taking, Fifo.touched_follow, Fifo.moves_follow, Fifo.asked_follow, Fifo.taken_follow, TidyLaw.tidies, TidyLaw.rescheduled_tidy, TidyLaw.booted_tidy, TidyLaw.quietly, TidyLaw.switches_quiet}
 
 -- the state stays in order, and each port follows its marks
 abbrev Ports : Relation

@@ -1,33 +1,13 @@
 -- Blocks lie in the regions and do not meet, whatever a call does.
-use Rattle.std.proofs.Common.{◌≡◌, ℕ, Bool, true, false, List, [], ◌∷◌, Option, None, Some, refl, sym, ap, ◌∙◌, subst}
-use Rattle.std.specs.Prelude.{not, cond, if◌then◌else◌, nat_eq, map}
-use Rattle.std.specs.Option.{option_map}
-use Rattle.std.specs.Ordering.{nat_cmp, eq_by_cmp}
-use Rattle.std.specs.declared.cmp.Ordering.{Ordering}
-use Rattle.std.specs.declared.cmp.Ordering.TheVariants.{Less, Equal, Greater}
-use Rattle.std.specs.FinMap.{find, put}
-use Rattle.std.specs.FinMap.Entries.{by_order}
-use Rattle.memlist.specs.declared.region.Region.{Region}
-use Rattle.memlist.specs.Blocks.{Blocks, freed}
-use Rattle.memlist.specs.Fit.{fit, round}
-use Rattle.memlist.specs.Memory.{IsWellFormed}
-use Rattle.memlist.proofs.Fitting.{fitted_well_formed}
-use Rattle.memlist.proofs.Keeping.{freed_well_formed}
-use Rattle.memlist.proofs.Fitting.{fitted_fresh}
+use Rattle.std.proofs.Common.{◌≡◌, ℕ, Bool, true, false, List, [], ◌∷◌, Option, None, Some, refl, sym, ap, ◌∙◌, subst, not, cond, if◌then◌else◌, nat_eq, map, option_map, nat_cmp, Ordering, Less, Equal, Greater}
+use Rattle.std.specs.{Ordering.eq_by_cmp, FinMap.find, FinMap.put, FinMap.Entries.by_order}
+use Rattle.memlist.specs.{declared.region.Region.Region, Blocks.Blocks, Blocks.freed, Fit.fit, Fit.round, Memory.IsWellFormed}
+use Rattle.memlist.proofs.{Fitting.fitted_well_formed, Fitting.fitted_fresh, Keeping.freed_well_formed}
 use Rattle.iorequest.specs.declared.request.Request.{Request as TimerRequest}
-use Rattle.execmodel.specs.State.{Call, Object, Library, Request, Block, Heap, Waiting as Queued, Mark, State}
-use Rattle.execmodel.specs.Requests.{with_request}
-use Rattle.execmodel.specs.Objects.{object_at, replaced}
-use Rattle.execmodel.specs.Memory.{extents, block_at}
-use Rattle.execmodel.specs.Lists.{with_nodes, unlinked, left_by}
-use Rattle.execmodel.specs.Ports.{with_action, with_port, appended, taken_off}
 use Rattle.execmodel.specs.Semaphores.{with_semaphore, left_by_task, entered, queued, dropped, handed_on, released_once}
-use Rattle.execmodel.specs.Libraries.{number_of, with_library}
-use Rattle.execmodel.proofs.Heaps.{rid}
-use Rattle.execmodel.proofs.Commands.{Touches, remains, fills, puts, gets, none_some}
-use Rattle.execmodel.proofs.Asking.{Asks, writes, answers, written, without_reply}
-use Rattle.execmodel.proofs.Taking.{Takes, nothing, places, recounts, yields}
+use Rattle.execmodel.specs.{State.Call, State.Object, State.Library, State.Request, State.Block, State.Heap, State.Waiting as Queued, State.Mark, State.State, Requests.with_request, Objects.object_at, Objects.replaced, Memory.extents, Memory.block_at, Lists.with_nodes, Lists.unlinked, Lists.left_by, Ports.with_action, Ports.with_port, Ports.appended, Ports.taken_off, Libraries.number_of, Libraries.with_library}
 use Rattle.execmodel.proofs.Moves.{Moves, touches, takes, frees, relists, unlinks, sets, enters, queues, hands, opens, releases, counts, expunges, drops}
+use Rattle.execmodel.proofs.{Heaps.rid, Commands.Touches, Commands.remains, Commands.fills, Commands.puts, Commands.gets, Commands.none_some, Asking.Asks, Asking.writes, Asking.answers, Asking.written, Asking.without_reply, Taking.Takes, Taking.nothing, Taking.places, Taking.recounts, Taking.yields}
 
 -- where a block lies, and how long it is
 abbrev extent : ℕ × Block → ℕ × (ℕ × ℕ)

@@ -1,16 +1,8 @@
 -- Asking libraries to be expunged under low memory changes the blocks alone.
-use Rattle.std.proofs.Common.{◌≡◌, ℕ, Bool, true, false, List, [], ◌∷◌, Option, None, Some, refl, ◌∙◌}
-use Rattle.std.specs.Prelude.{not, ◌&&◌, if◌then◌else◌, nat_eq, is_some, length}
+use Rattle.std.proofs.Common.{◌≡◌, ℕ, Bool, true, false, List, [], ◌∷◌, Option, None, Some, refl, ◌∙◌, not, ◌&&◌, if◌then◌else◌, nat_eq, is_some, length}
 use Rattle.std.specs.List.{range_with_len}
-use Rattle.execmodel.specs.Blocks.{Object, Memory}
-use Rattle.execmodel.specs.Places.{place_for}
-use Rattle.execmodel.specs.Objects.{is_allowed}
+use Rattle.execmodel.specs.{Blocks.Object, Blocks.Memory, Places.place_for, Objects.is_allowed, Loaded.base_of, Loaded.count_of, Loaded.removed, GivingWay.gives_way_at, GivingWay.gives_way, GivingWay.asked_one, GivingWay.asked_each, GivingWay.after_asking, GivingWay.after_asking_for_object, Ports.is_port, Ports.port_size, Ports.after_asking_for_port, Libraries.library_at, Libraries.ready_to_load, Libraries.ready_to_open, Keeping.without_blocks}
 use Rattle.execlib.specs.Libraries.{public_memory}
-use Rattle.execmodel.specs.Loaded.{base_of, count_of, removed}
-use Rattle.execmodel.specs.GivingWay.{gives_way_at, gives_way, asked_one, asked_each, after_asking, after_asking_for_object}
-use Rattle.execmodel.specs.Ports.{is_port, port_size, after_asking_for_port}
-use Rattle.execmodel.specs.Libraries.{library_at, ready_to_load, ready_to_open}
-use Rattle.execmodel.specs.Keeping.{without_blocks}
 
 -- the blocks change alone, whichever of two things is done
 pub either_memory : (test : Bool) (m n memory : Memory) → without_blocks m ≡ without_blocks memory → without_blocks n ≡ without_blocks memory

@@ -1,23 +1,11 @@
 -- Libraries are expunged under low memory as far as a block needs it, and only those that are not open go.
-use Rattle.std.proofs.Common.{inl, inr, ◌≡◌, ◌≢◌, ℕ, zero, suc, ◌+◌, ◌<◌, ◌≤◌, Bool, true, false, List, [], ◌∷◌, Option, None, Some, refl, sym, ap, ◌∙◌, subst, arith}
-use Rattle.std.specs.Prelude.{not, ◌&&◌, if◌then◌else◌, nat_eq, is_some, length}
+use Rattle.std.proofs.Common.{inl, inr, ◌≡◌, ◌≢◌, ℕ, zero, suc, ◌+◌, ◌<◌, ◌≤◌, Bool, true, false, List, [], ◌∷◌, Option, None, Some, refl, sym, ap, ◌∙◌, subst, arith, not, ◌&&◌, if◌then◌else◌, nat_eq, is_some, length, option_map}
 use Rattle.std.specs.List.{range_with_len}
-use Rattle.std.specs.Option.{option_map}
-use Rattle.memlist.specs.declared.region.Region.{Region}
-use Rattle.memlist.specs.Memory.{IsWellFormed}
+use Rattle.memlist.specs.{declared.region.Region.Region, Memory.IsWellFormed}
 use Rattle.memlist.proofs.Answered.{nat_eq-other, cases_eq}
-use Rattle.execmodel.specs.State.{Block, Heap, Memory}
-use Rattle.execmodel.specs.Objects.{is_kind}
-use Rattle.execmodel.specs.Places.{extents, block_at, place_for}
-use Rattle.execmodel.specs.Loaded.{is_library, is_library_at, count_of, with_library}
-use Rattle.execmodel.specs.GivingWay.{gives_way, asked_each, after_asking}
-use Rattle.execmodel.specs.Step.{run}
-use Rattle.execmodel.specs.Laws.{StaysLoaded, first_gave_way, AsksAsFarAsNeeded, LibrariesGiveWayAsFarAsNeeded, OnlyClosedLibrariesGo, OnlyClosedLibrariesGiveWay}
-use Rattle.execmodel.proofs.Heaps.{rid, true_is_not_false}
-use Rattle.execmodel.proofs.Taking.{HoldsBefore, asking_before}
-use Rattle.execmodel.proofs.Formed.{counted_formed, rid_formed}
+use Rattle.execmodel.specs.{State.Block, State.Heap, State.Memory, Objects.is_kind, Places.extents, Places.block_at, Places.place_for, Loaded.is_library, Loaded.is_library_at, Loaded.count_of, Loaded.with_library, GivingWay.gives_way, GivingWay.asked_each, GivingWay.after_asking, Step.run, Laws.StaysLoaded, Laws.first_gave_way, Laws.AsksAsFarAsNeeded, Laws.LibrariesGiveWayAsFarAsNeeded, Laws.OnlyClosedLibrariesGo, Laws.OnlyClosedLibrariesGiveWay}
 use Rattle.execmodel.proofs.Libraries.{still, joined, same_count, block_elsewhere, block_rid_there, counted, counted_open, never}
-use Rattle.execmodel.proofs.TidyLaw.{tidy_in_every_state}
+use Rattle.execmodel.proofs.{Heaps.rid, Heaps.true_is_not_false, Taking.HoldsBefore, Taking.asking_before, Formed.counted_formed, Formed.rid_formed, TidyLaw.tidy_in_every_state}
 
 -- ---- as far as needed
 

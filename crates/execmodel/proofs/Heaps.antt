@@ -1,19 +1,9 @@
 -- What begins at an address, after a block is placed or freed and after what begins there becomes another.
-use Rattle.std.proofs.Common.{◌≡◌, ◌≢◌, ℕ, Bool, true, false, [], ◌∷◌, Option, None, Some, refl, sym, ap, ◌∙◌}
-use Rattle.std.specs.Prelude.{not, cond, if◌then◌else◌, nat_eq, map}
-use Rattle.std.specs.Ordering.{nat_cmp, eq_by_cmp, is_eq}
-use Rattle.std.specs.Cmp.{nat_cmp_total}
-use Rattle.std.specs.Option.{option_map}
-use Rattle.std.specs.declared.cmp.Ordering.TheVariants.{Equal}
-use Rattle.std.specs.FinMap.Entries.{find-put, find-where_key}
-use Rattle.std.specs.FinMap.{put}
-use Rattle.std.specs.FinMap.Entries.{where_key}
+use Rattle.std.proofs.Common.{◌≡◌, ◌≢◌, ℕ, Bool, true, false, [], ◌∷◌, Option, None, Some, refl, sym, ap, ◌∙◌, not, cond, if◌then◌else◌, nat_eq, map, nat_cmp, is_eq, option_map, Equal}
+use Rattle.std.specs.{Ordering.eq_by_cmp, Cmp.nat_cmp_total, FinMap.Entries.find-put, FinMap.Entries.find-where_key, FinMap.Entries.where_key, FinMap.put}
 use Rattle.memlist.proofs.Answered.{nat_eq-same, nat_eq-other, cases_eq, key_same, key_other}
 use Rattle.msgport.specs.declared.message.Message.{Message as Content}
-use Rattle.execmodel.specs.State.{Object, Message, Block, Heap}
-use Rattle.execmodel.specs.Memory.{block_at}
-use Rattle.execmodel.specs.Objects.{object_at, replaced}
-use Rattle.execmodel.specs.Ports.{is_message_at, with_content}
+use Rattle.execmodel.specs.{State.Object, State.Message, State.Block, State.Heap, Memory.block_at, Objects.object_at, Objects.replaced, Ports.is_message_at, Ports.with_content}
 
 pub true_is_not_false : {A : Type 0} → true ≡ false → A
 true_is_not_false e = let bad : true ≡ false = e in cc

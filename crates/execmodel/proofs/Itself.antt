@@ -1,18 +1,9 @@
 -- A call by its word alone: what follows the word if it set system time is left out.
 use Rattle.std.proofs.Common.{[], ◌≡◌, ℕ, false, List, refl, ap}
-use Rattle.taskscript.specs.declared.word.Word.{Word}
+use Rattle.taskscript.specs.{declared.word.Word.Word, declared.word.requests.RequestWord.RequestWord}
 use Rattle.taskscript.specs.declared.word.Word.TheVariants as group
-use Rattle.taskscript.specs.declared.word.requests.RequestWord.{RequestWord}
-use Rattle.execmodel.specs.State.{Call, Timer, Waiting, State, Outcome, andthen}
-use Rattle.execmodel.specs.Calls.{ByTask}
-use Rattle.execmodel.specs.Keeping.{Keeps, no_scripts, without_states, without_priorities, without_signals, without_nestings, without_caused, clock_alone}
-use Rattle.execmodel.specs.Requests.{does_requests, finishes_set}
-use Rattle.execmodel.specs.Step.{does, does_word}
-use Rattle.execmodel.proofs.Moves.{Makes}
-use Rattle.execmodel.proofs.Shifts.{Shifted}
-use Rattle.execmodel.proofs.Telling.{Tells}
-use Rattle.execmodel.proofs.Works.{Works, by_moves}
-use Rattle.execmodel.proofs.Words.{Facts, plain_facts, signals_facts, nesting_facts, tasks_facts, lists_facts, memory_facts, ports_facts, semaphores_facts, interrupts_facts, libraries_facts, requests_facts}
+use Rattle.execmodel.specs.{State.Call, State.Timer, State.Waiting, State.State, State.Outcome, State.andthen, Calls.ByTask, Keeping.Keeps, Keeping.no_scripts, Keeping.without_states, Keeping.without_priorities, Keeping.without_signals, Keeping.without_nestings, Keeping.without_caused, Keeping.clock_alone, Requests.does_requests, Requests.finishes_set, Step.does, Step.does_word}
+use Rattle.execmodel.proofs.{Moves.Makes, Shifts.Shifted, Telling.Tells, Works.Works, Works.by_moves, Words.Facts, Words.plain_facts, Words.signals_facts, Words.nesting_facts, Words.tasks_facts, Words.lists_facts, Words.memory_facts, Words.ports_facts, Words.semaphores_facts, Words.interrupts_facts, Words.libraries_facts, Words.requests_facts}
 
 abbrev pub word_itself : Word → ℕ → Call → State → Outcome
 word_itself (group.Requests word) t call s = does_requests word t call s

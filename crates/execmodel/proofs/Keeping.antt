@@ -1,39 +1,24 @@
 -- The words of a group change their part of the state alone.
-use Rattle.std.proofs.Common.{[], ◌≡◌, ℕ, zero, suc, ℤ, Bool, true, false, List, ◌∷◌, Option, None, Some, slice_set, ap, ◌∙◌, refl}
-use Rattle.std.specs.Prelude.{pos, negsuc, not, ◌&&◌, if◌then◌else◌, nat_eq, nat_lt, length, slice_index_or}
-use Rattle.execlist.specs.Order.{first}
-use Rattle.execlist.specs.Disciplines.{by_arrival}
+use Rattle.std.proofs.Common.{[], ◌≡◌, ℕ, zero, suc, ℤ, Bool, true, false, List, ◌∷◌, Option, None, Some, slice_set, ap, ◌∙◌, refl, pos, negsuc, not, ◌&&◌, if◌then◌else◌, nat_eq, nat_lt, length, slice_index_or}
+use Rattle.execlist.specs.{Order.first, Disciplines.by_arrival}
 use Rattle.signals.specs.Signals.{taken_signals}
 use Rattle.taskq.specs.Tasks.{is_ready, is_live}
 use Rattle.scheduler.specs.Schedule.{Schedule, status_of, signals_of, is_absent, removed, waits_at_semaphore, allocates as allocates_signal, frees, sets_signals, awaits, waits_for, takes, after_wait, clears_and_waits}
+use Rattle.scheduler.specs.Dispatch.{arrives, added, reprioritized, signalled}
 use Rattle.forbid.specs.Nesting.{Nesting}
-use Rattle.taskscript.specs.declared.variable.Variable.{Variable}
 use Rattle.taskscript.specs.declared.variable.Variable.TheVariants.{Private, Shared}
-use Rattle.taskscript.specs.File.{SoftintData}
+use Rattle.taskscript.specs.{declared.variable.Variable.Variable, File.SoftintData}
 use Rattle.exectrace.specs.Trace.{Timer as TimerLine}
 use Rattle.timerdev.specs.Timing.{looked_at, until_next}
-use Rattle.iorequest.specs.declared.request.ReqState.{ReqState}
-use Rattle.iorequest.specs.declared.request.ReqState.TheVariants.{UnderWay}
-use Rattle.iorequest.specs.declared.request.Begun.{Begun}
-use Rattle.iorequest.specs.declared.request.Begun.TheVariants.{Queue}
+use Rattle.iorequest.specs.{declared.request.ReqState.ReqState, declared.request.ReqState.TheVariants.UnderWay, declared.request.Begun.Begun, declared.request.Begun.TheVariants.Queue}
+use Rattle.sigsem.specs.declared.semaphore.Obtained.TheVariants.{Owner, Waits}
 use Rattle.sigsem.specs.declared.semaphore.Obtained.{Obtained}
 use Rattle.msgport.specs.declared.action.Action.{Action}
 use Rattle.msgport.specs.declared.action.Action.TheVariants as action
-use Rattle.sigsem.specs.declared.semaphore.Obtained.TheVariants.{Owner, Waits}
 use Rattle.execmodel.specs.State.{quiet, Call, Heap, Object, Library, Timer, Memory, Pending, Program, Scripts, State, Outcome, no_program, says, andthen, on_schedule, on_scripts, on_memory, on_timer}
-use Rattle.execmodel.specs.Pending.{arrived, is_caused, causes}
-use Rattle.execmodel.specs.Libraries.{base_of, library_at, library_opened, entered_or_loaded}
-use Rattle.scheduler.specs.Dispatch.{arrives, added, reprioritized, signalled}
-use Rattle.execmodel.specs.Calls.{keeps as keeps_call, stored, goes_on, done, answered, waiting, silent, alerted, unless}
-use Rattle.execmodel.specs.Signals.{waited}
-use Rattle.execmodel.specs.Nesting.{gives_nesting}
-use Rattle.execmodel.specs.Tasks.{ends_other}
-use Rattle.execmodel.specs.Memory.{placed, place_for}
-use Rattle.execmodel.specs.Deeds.{concluded}
-use Rattle.execmodel.specs.Ports.{port_created, replied, delivered, performed, taken, looked}
-use Rattle.execmodel.specs.Semaphores.{awaited_by, leaving_queue, obtains, passes}
 use Rattle.execmodel.specs.Requests.{finishes, finishes_each, finishes_set, answering_port, acting_at, with_reply, ended, outcome_at, timer_begun, begun_at, looks_for, aborts}
 use Rattle.execmodel.specs.Keeping.{Keeps, without_progress, without_progress_of, without_states, without_priorities, without_signals, without_blocks, beside_plain, beside_signals, beside_nestings, beside_memory, beside_ports, beside_semaphores, beside_tasks, beside_requests, without_caused, clock_alone, without_blocks_system_and_waiting}
+use Rattle.execmodel.specs.{Pending.arrived, Pending.is_caused, Pending.causes, Libraries.base_of, Libraries.library_at, Libraries.library_opened, Libraries.entered_or_loaded, Calls.keeps as keeps_call, Calls.stored, Calls.goes_on, Calls.done, Calls.answered, Calls.waiting, Calls.silent, Calls.alerted, Calls.unless, Signals.waited, Nesting.gives_nesting, Tasks.ends_other, Memory.placed, Memory.place_for, Deeds.concluded, Ports.port_created, Ports.replied, Ports.delivered, Ports.performed, Ports.taken, Ports.looked, Semaphores.awaited_by, Semaphores.leaving_queue, Semaphores.obtains, Semaphores.passes}
 use Rattle.execmodel.proofs.Commands.{performed_scripts}
 
 -- a part that both ways keep

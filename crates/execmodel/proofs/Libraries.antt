@@ -1,42 +1,18 @@
 -- An open library keeps its base and its block, until it is closed for the last time and expunged.
-use Rattle.std.proofs.Common.{◌⊎◌, inl, inr, ◌≡◌, ◌≢◌, ℕ, ◌≤◌, Bool, true, false, List, Option, None, Some, refl, sym, ap, ◌∙◌, subst, arith}
-use Rattle.std.specs.Prelude.{not, cond, if◌then◌else◌, nat_eq, map}
-use Rattle.std.specs.Option.{option_map, option_map_or}
-use Rattle.std.specs.Ordering.{nat_cmp}
-use Rattle.std.specs.Cmp.{nat_cmp_total}
-use Rattle.std.specs.FinMap.{put as put_entry}
-use Rattle.std.specs.FinMap.Entries.{find-put}
+use Rattle.std.proofs.Common.{◌⊎◌, inl, inr, ◌≡◌, ◌≢◌, ℕ, ◌≤◌, Bool, true, false, List, Option, None, Some, refl, sym, ap, ◌∙◌, subst, arith, not, cond, if◌then◌else◌, nat_eq, map, option_map, nat_cmp}
+use Rattle.std.specs.{Option.option_map_or, Cmp.nat_cmp_total, FinMap.put as put_entry, FinMap.Entries.find-put}
 use Rattle.execlist.specs.Disciplines.{by_arrival}
-use Rattle.memlist.specs.declared.region.Region.{Region}
-use Rattle.memlist.specs.Memory.{IsWellFormed}
+use Rattle.memlist.specs.{declared.region.Region.Region, Memory.IsWellFormed}
 use Rattle.memlist.proofs.Answered.{nat_eq-same, nat_eq-other, cases_eq, key_other}
 use Rattle.iorequest.specs.declared.request.Request.{Request as TimerRequest}
-use Rattle.execmodel.specs.Requests.{is_request, is_request_at, with_request, finishes}
 use Rattle.execmodel.specs.State.{Call, Object, ListHead, Semaphore, Library, Request, Block, Heap, Waiting as Queued, Mark, State, Outcome, quiet, andthen, on_schedule}
-use Rattle.execmodel.specs.Calls.{next_call}
-use Rattle.scheduler.specs.Dispatch.{rescheduled}
-use Rattle.execmodel.specs.Pending.{next_softint}
-use Rattle.execmodel.specs.Bodies.{body_step}
-use Rattle.execmodel.specs.Objects.{object_at, is_kind, replaced}
-use Rattle.execmodel.specs.Memory.{extents, block_at}
-use Rattle.execmodel.specs.Lists.{is_list, is_list_at, with_nodes, unlinked, left_by}
-use Rattle.execmodel.specs.Ports.{is_port, is_message, is_port_at, is_message_at, with_port, with_action, appended, taken_off}
 use Rattle.execmodel.specs.Semaphores.{is_semaphore, is_semaphore_at, with_semaphore, left_by_task, entered, queued, dropped, handed_on, released_once}
 use Rattle.execmodel.specs.Libraries.{is_library, is_library_at, library_number, number_of, count_in, count_of, with_library}
-use Rattle.execmodel.specs.Step.{switches, settle, ends, call_step, task_step, softint_or_task_step, acting, acts, step, tick, run}
-use Rattle.execmodel.specs.Laws.{Action, OneStep, OneTick, OneRequest, outcome_of, IsToCall, IsRemoval, IsLastClose, StaysLoaded, OpenLibrariesStay, UnaskedLibrariesStay}
-use Rattle.execmodel.proofs.Heaps.{block_remade, found_rid, rid, filled, true_is_not_false}
-use Rattle.execmodel.proofs.Itself.{does_itself, ends_followed, call_works}
-use Rattle.execmodel.proofs.Formed.{placed_fresh, counted_formed, rid_formed}
+use Rattle.execmodel.specs.{Requests.is_request, Requests.is_request_at, Requests.with_request, Requests.finishes, Calls.next_call, Pending.next_softint, Bodies.body_step, Objects.object_at, Objects.is_kind, Objects.replaced, Memory.extents, Memory.block_at, Lists.is_list, Lists.is_list_at, Lists.with_nodes, Lists.unlinked, Lists.left_by, Ports.is_port, Ports.is_message, Ports.is_port_at, Ports.is_message_at, Ports.with_port, Ports.with_action, Ports.appended, Ports.taken_off, Step.switches, Step.settle, Step.ends, Step.call_step, Step.task_step, Step.softint_or_task_step, Step.acting, Step.acts, Step.step, Step.tick, Step.run, Laws.Action, Laws.OneStep, Laws.OneTick, Laws.OneRequest, Laws.outcome_of, Laws.IsToCall, Laws.IsRemoval, Laws.IsLastClose, Laws.StaysLoaded, Laws.OpenLibrariesStay, Laws.UnaskedLibrariesStay}
+use Rattle.scheduler.specs.Dispatch.{rescheduled}
 use Rattle.execmodel.proofs.Stretches.{Relation, HoldsOfInterrupts, of_softint, of_set, of_settle, of_request, ticked}
-use Rattle.execmodel.proofs.Commands.{Touches, remains, fills, puts, gets}
-use Rattle.execmodel.proofs.Telling.{body_alters}
-use Rattle.execmodel.proofs.Taking.{Takes, nothing, places, recounts, yields}
 use Rattle.execmodel.proofs.Moves.{MayExpunge, MayGo, Moves, touches, takes, frees, relists, unlinks, sets, enters, queues, hands, opens, releases, counts, expunges, drops}
-use Rattle.execmodel.proofs.Posts.{IsTidy}
-use Rattle.execmodel.proofs.Asking.{Asks, writes, answers, written, without_reply, finishing}
-use Rattle.execmodel.proofs.Works.{Works, by_moves, by_asking, by_taking}
-use Rattle.execmodel.proofs.TidyLaw.{quietly, switches_quiet, tidy_in_every_state}
+use Rattle.execmodel.proofs.{Heaps.block_remade, Heaps.found_rid, Heaps.rid, Heaps.filled, Heaps.true_is_not_false, Itself.does_itself, Itself.ends_followed, Itself.call_works, Formed.placed_fresh, Formed.counted_formed, Formed.rid_formed, Commands.Touches, Commands.remains, Commands.fills, Commands.puts, Commands.gets, Telling.body_alters, Taking.Takes, Taking.nothing, Taking.places, Taking.recounts, Taking.yields, Posts.IsTidy, Asking.Asks, Asking.writes, Asking.answers, Asking.written, Asking.without_reply, Asking.finishing, Works.Works, Works.by_moves, Works.by_asking, Works.by_taking, TidyLaw.quietly, TidyLaw.switches_quiet, TidyLaw.tidy_in_every_state}
 
 -- ---- a library is nothing else
 

@@ -1,36 +1,24 @@
 -- Each line of a run is short: proved of each thing that a machine does, from names that are short and commands that are brief.
-use Rattle.std.proofs.Common.{◌≡◌, ℕ, zero, suc, lit≤, Bool, true, false, List, [], ◌∷◌, Option, None, Some, length, map, refl, subst, ◌∙◌}
-use Rattle.std.specs.Prelude.{All, IfSome, if◌then◌else◌, codes, slice_index_or}
+use Rattle.std.proofs.Common.{◌≡◌, ℕ, zero, suc, lit≤, Bool, true, false, List, [], ◌∷◌, Option, None, Some, length, map, refl, subst, ◌∙◌, All, IfSome, if◌then◌else◌, codes, slice_index_or}
 use Rattle.std.proofs.lemmas.List.Elements.{All-nil, All-head, All-tail, All-append, All-map, All-weaker}
 use Rattle.execlist.specs.Disciplines.{by_arrival}
 use Rattle.exectrace.specs.Trace.{Value, Done, Switch, Serve, Server, Softint}
 use Rattle.exectrace.specs.Trace as trace
 use Rattle.scheduler.specs.Schedule.{Schedule, name_of, status_of, is_absent, begins, leaves, renewed, ticked as quantum_ticked, ticked_for}
-use Rattle.scheduler.specs.declared.Switch.{Switch as Choice}
+use Rattle.scheduler.specs.{declared.Switch.Switch as Choice, Dispatch.arrives, Dispatch.added, Dispatch.displaced, Dispatch.after_switch, Dispatch.rescheduled, Dispatch.switch_of}
 use Rattle.scheduler.specs.declared.Switch.TheVariants as switch
 use Rattle.softint.specs.declared.source.Source.{Source}
 use Rattle.softint.specs.declared.source.Source.TheVariants as source
 use Rattle.timerdev.specs.Timing.{due_next, looked_at, until_next, ticked as clock_ticked}
-use Rattle.taskscript.specs.Commands.{CommandData}
-use Rattle.taskscript.specs.File.{MachineData, TaskData, SoftintData, ServerData}
-use Rattle.taskscript.specs.Machines.{IsMachine, IsCode, IsTask, IsSoftint, IsServer, softint_names}
-use Rattle.taskscript.specs.declared.event.Event.{Event}
 use Rattle.taskscript.specs.declared.event.Event.TheVariants.{Run, Tick, Irq}
+use Rattle.taskscript.specs.{Commands.CommandData, File.MachineData, File.TaskData, File.SoftintData, File.ServerData, Machines.IsMachine, Machines.IsCode, Machines.IsTask, Machines.IsSoftint, Machines.IsServer, Machines.softint_names, declared.event.Event.Event}
 use Rattle.execmodel.specs.State.{Call, Scripts, State, Timer as Clock, Outcome, quiet, says, andthen, unless_stopped, no_program, on_schedule, on_memory, on_timer, on_pending, begun, booted}
-use Rattle.scheduler.specs.Dispatch.{arrives, added, displaced, after_switch, rescheduled, switch_of}
-use Rattle.execmodel.specs.Calls.{next_call, call_in_body}
-use Rattle.execmodel.specs.Pending.{source_named, caused_no_more, with_latch_of, next_softint, next_source}
-use Rattle.execmodel.specs.Bodies.{body_step, runs_body}
-use Rattle.execmodel.specs.Requests.{does_requests, finishes, finishes_each, finishes_all_due, finishes_set}
 use Rattle.execmodel.specs.Interrupts.{no_softint, no_server, softint_at, runs_softint, server_at, chain_of, runs_server, runs_chain, text_of_source, serving_counted, finishes_for, serves, servings, interrupts}
 use Rattle.execmodel.specs.Step.{announced, switches, settle, does, ends, task_step, call_step, softint_or_task_step, acting, acts, step, steps, request, tick, ticks, started, all_added, starts, event, events, run}
-use Rattle.execmodel.specs.Laws.{FitsItsWord, CallsFitTheirWords, LinesAreShort}
-use Rattle.execmodel.proofs.Keeping.{finishes_found}
-use Rattle.execmodel.proofs.Itself.{followed}
+use Rattle.execmodel.specs.{Calls.next_call, Calls.call_in_body, Pending.source_named, Pending.caused_no_more, Pending.with_latch_of, Pending.next_softint, Pending.next_source, Bodies.body_step, Bodies.runs_body, Requests.does_requests, Requests.finishes, Requests.finishes_each, Requests.finishes_all_due, Requests.finishes_set, Laws.FitsItsWord, Laws.CallsFitTheirWords, Laws.LinesAreShort}
 use Rattle.execmodel.proofs.ShortLines.{IsShort, IsShortText, switch_short, idle_short, serve_short, server_short, softint_short, call_short}
-use Rattle.execmodel.proofs.ShortCalls.{IsBrief, HasArguments, name_is_short, body_call_has}
-use Rattle.execmodel.proofs.Telling.{IsBriefProgram}
 use Rattle.execmodel.proofs.ShortTexts.{IsShortBody, HasShortTexts, Says, all_stays, named_alike, quiet_says, line_says, then_says, either_says, going_says, itself_says, next_has, either_names, command_says, finished_says}
+use Rattle.execmodel.proofs.{Keeping.finishes_found, Itself.followed, ShortCalls.IsBrief, ShortCalls.HasArguments, ShortCalls.name_is_short, ShortCalls.body_call_has, Telling.IsBriefProgram}
 
 -- ---- interrupts
 

@@ -1,19 +1,9 @@
 -- A library that is found by its number is the one that begins at its address.
-use Rattle.std.proofs.Common.{◌≡◌, ℕ, ◌<◌, Bool, true, false, List, [], ◌∷◌, None, Some, refl, sym, ap, ◌∙◌, subst, arith}
-use Rattle.std.specs.Prelude.{cond, find}
-use Rattle.std.specs.Option.{option_map}
-use Rattle.memlist.specs.declared.region.Region.{Region}
-use Rattle.memlist.specs.Memory.{IsWellFormed}
-use Rattle.memlist.proofs.Answered.{cases_eq, key_same, key_other}
-use Rattle.memlist.proofs.Slots.{AllFrom}
-use Rattle.memlist.proofs.Merged.{IsRising}
-use Rattle.memlist.proofs.Keeping.{rising_sorted}
-use Rattle.execmodel.specs.State.{Object, Library, Block, Heap}
-use Rattle.execmodel.specs.Memory.{block_at, extents}
-use Rattle.execmodel.specs.Objects.{object_at, is_kind}
-use Rattle.execmodel.specs.Libraries.{is_library, is_library_at, is_numbered, base_of}
-use Rattle.execmodel.proofs.Heaps.{true_is_not_false}
-use Rattle.execmodel.proofs.Commands.{none_some}
+use Rattle.std.proofs.Common.{◌≡◌, ℕ, ◌<◌, Bool, true, false, List, [], ◌∷◌, None, Some, refl, sym, ap, ◌∙◌, subst, arith, cond, find, option_map}
+use Rattle.memlist.specs.{declared.region.Region.Region, Memory.IsWellFormed}
+use Rattle.memlist.proofs.{Answered.cases_eq, Answered.key_same, Answered.key_other, Slots.AllFrom, Merged.IsRising, Keeping.rising_sorted}
+use Rattle.execmodel.specs.{State.Object, State.Library, State.Block, State.Heap, Memory.block_at, Memory.extents, Objects.object_at, Objects.is_kind, Libraries.is_library, Libraries.is_library_at, Libraries.is_numbered, Libraries.base_of}
+use Rattle.execmodel.proofs.{Heaps.true_is_not_false, Commands.none_some}
 
 numbered_is : (i : ℕ) (object : Object) → is_numbered i object ≡ true → is_library object ≡ true
 numbered_is i (Library number count delayed) e = refl

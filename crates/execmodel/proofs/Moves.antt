@@ -1,17 +1,12 @@
 -- What a call makes of the blocks of memory and of what begins there: one of a few things, whatever the word. The laws of ports, of
 -- semaphores and of memory go by these.
-use Rattle.std.proofs.Common.{[], ◌⊎◌, inl, inr, ◌≡◌, ◌≢◌, ℕ, Bool, true, false, List, ◌∷◌, Option, None, Some, refl, sym, ap, ◌∙◌, subst, arith}
-use Rattle.std.specs.Prelude.{◌-◌, not, if◌then◌else◌, nat_eq, is_some, codes, ◌&&◌, ◌||◌}
-use Rattle.std.specs.Option.{option_map}
+use Rattle.std.proofs.Common.{[], ◌⊎◌, inl, inr, ◌≡◌, ◌≢◌, ℕ, Bool, true, false, List, ◌∷◌, Option, None, Some, refl, sym, ap, ◌∙◌, subst, arith, ◌-◌, not, if◌then◌else◌, nat_eq, is_some, codes, ◌&&◌, ◌||◌, option_map}
 use Rattle.memlist.proofs.Answered.{nat_eq-same}
-use Rattle.memlist.specs.declared.region.Region.{Region}
-use Rattle.memlist.specs.Fit.{fit}
-use Rattle.memlist.specs.Memory.{IsWellFormed}
+use Rattle.memlist.specs.{declared.region.Region.Region, Fit.fit, Memory.IsWellFormed}
 use Rattle.execlist.specs.Order.{first}
 use Rattle.forbid.specs.Nesting.{Nesting}
 use Rattle.scheduler.specs.Schedule.{Schedule}
-use Rattle.msgport.specs.Port.{new_port}
-use Rattle.msgport.specs.declared.action.PortAction.{PortAction}
+use Rattle.msgport.specs.{Port.new_port, declared.action.PortAction.PortAction}
 use Rattle.sigsem.specs.declared.semaphore.Obtained.TheVariants.{Owner, Waits}
 use Rattle.sigsem.specs.Semaphores.{is_open, is_last, is_owned, is_owner}
 use Rattle.taskscript.specs.declared.word.Word.TheVariants as group
@@ -19,23 +14,11 @@ use Rattle.taskscript.specs.declared.word.semaphores.SemaphoreWord.TheVariants a
 use Rattle.taskscript.specs.declared.word.libraries.LibraryWord.TheVariants as libraries
 use Rattle.iorequest.specs.Request.{is_under_way}
 use Rattle.execmodel.specs.State.{Call, Object, Plain, ListHead, Node, MsgPort, Message, Semaphore, Library, Request, Block, Heap, Memory, Mark, asked, passed, left, State, Outcome, on_schedule, on_memory, on_heap}
-use Rattle.execmodel.specs.Calls.{argument, done, answered, waiting, alerted}
-use Rattle.execmodel.specs.Signals.{waited}
-use Rattle.execmodel.specs.Nesting.{gives_nesting}
-use Rattle.execmodel.specs.Tasks.{is_caller, ends_other}
-use Rattle.execmodel.specs.Objects.{object_at, is_kind, is_allowed, place_for_object}
-use Rattle.execmodel.specs.GivingWay.{after_asking_for_object}
-use Rattle.execmodel.specs.Memory.{extents, allocates, makes_object, placed, freed, place_for, is_named, is_plain}
-use Rattle.execmodel.specs.Lists.{is_list, is_node, is_list_at, with_nodes, unlinked}
-use Rattle.execmodel.specs.Deeds.{concluded}
 use Rattle.execmodel.specs.Ports.{is_port, is_message, is_port_at, is_message_at, port_size, port_created, makes_port, after_asking_for_port, messages_of, messages_of_object, with_action, is_queued, is_public, is_awaited_at, delete_alert, loose_alert, looked}
 use Rattle.execmodel.specs.Semaphores.{awaited_by, dropped, entered, queued, handed_on, released_once, is_semaphore_at, waiters_of, free_sem_alert, is_semaphore, leaving_queue, obtain_alert, obtains, passes, release_alert, sem_of, sem_of_object}
 use Rattle.execmodel.specs.Libraries.{is_library_at, count_of, is_delayed, with_library, base_of, library_at, library_opened, ready_to_open, entered_or_loaded}
-use Rattle.execmodel.proofs.Heaps.{rid, true_is_not_false}
-use Rattle.execmodel.proofs.Taking.{IsNew, Takes, nothing, places, recounts, IsTaking, number_is, after_asking_for_object_taking, after_asking_for_port_taking, ready_to_open_taking}
-use Rattle.execmodel.proofs.Posts.{Other, post_in, post_of_object, post_at, is_a_port, is_mail, port_there, message_there}
-use Rattle.execmodel.proofs.Loaded.{base_is_loaded}
-use Rattle.execmodel.proofs.Commands.{Touches, remains, IsAltered, none_some, passed_first, passed_other, is_loose_there}
+use Rattle.execmodel.specs.{Calls.argument, Calls.done, Calls.answered, Calls.waiting, Calls.alerted, Signals.waited, Nesting.gives_nesting, Tasks.is_caller, Tasks.ends_other, Objects.object_at, Objects.is_kind, Objects.is_allowed, Objects.place_for_object, GivingWay.after_asking_for_object, Memory.extents, Memory.allocates, Memory.makes_object, Memory.placed, Memory.freed, Memory.place_for, Memory.is_named, Memory.is_plain, Lists.is_list, Lists.is_node, Lists.is_list_at, Lists.with_nodes, Lists.unlinked, Deeds.concluded}
+use Rattle.execmodel.proofs.{Heaps.rid, Heaps.true_is_not_false, Taking.IsNew, Taking.Takes, Taking.nothing, Taking.places, Taking.recounts, Taking.IsTaking, Taking.number_is, Taking.after_asking_for_object_taking, Taking.after_asking_for_port_taking, Taking.ready_to_open_taking, Posts.Other, Posts.post_in, Posts.post_of_object, Posts.post_at, Posts.is_a_port, Posts.is_mail, Posts.port_there, Posts.message_there, Loaded.base_is_loaded, Commands.Touches, Commands.remains, Commands.IsAltered, Commands.none_some, Commands.passed_first, Commands.passed_other, Commands.is_loose_there}
 
 -- an object that may be freed: a port has to be empty, a semaphore free, and a request not under way
 abbrev pub MayGo : Option Object → Type 0

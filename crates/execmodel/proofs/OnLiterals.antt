@@ -1,29 +1,11 @@
 -- What an answer unfolds to compute a run on literals.
 use Rattle.std.specs.Prelude.{⊤}
-use Rattle.execmodel.specs.Calls.{alerted, answered, call_of, done, next_call, silent, waiting}
-use Rattle.execmodel.specs.Bodies.{body_step, does_in_body, runs_body}
-use Rattle.execmodel.specs.Causing.{does_cause}
 use Rattle.execmodel.specs.Interrupts.{by_choice, chain_of, interrupts, runs_chain, runs_server, runs_softint, serves, servings}
-use Rattle.execmodel.specs.Pending.{causes, next_softint, next_source}
-use Rattle.execmodel.specs.Deeds.{performs}
-use Rattle.execmodel.specs.Lists.{list_rules}
-use Rattle.execmodel.specs.Libraries.{library_rules}
-use Rattle.execmodel.specs.GivingWay.{after_asking, after_asking_for_object, gives_way}
-use Rattle.execmodel.specs.Memory.{memory_deed}
-use Rattle.execmodel.specs.Nesting.{nesting_rules}
-use Rattle.execmodel.specs.Objects.{place_for_object}
-use Rattle.execmodel.specs.Plain.{plain_rules}
-use Rattle.execmodel.specs.Ports.{port_rules}
-use Rattle.execmodel.specs.Requests.{request_rules}
-use Rattle.scheduler.specs.Dispatch.{added, arrives, reprioritized, rescheduled, signalled, switch_of}
-use Rattle.execmodel.specs.Semaphores.{semaphore_rules}
-use Rattle.execmodel.specs.Signals.{signal_rules}
-use Rattle.execmodel.specs.State.{andthen, booted}
 use Rattle.execmodel.specs.Step.{acting, acts, all_added, does, ends, event, events, request, run, settle, starts, step, steps, switches, tick, ticks}
-use Rattle.execmodel.specs.Tasks.{task_rules}
-use Rattle.memlist.specs.Blocks.{gaps}
-use Rattle.memlist.specs.Fit.{avail, fit}
+use Rattle.execmodel.specs.{Calls.alerted, Calls.answered, Calls.call_of, Calls.done, Calls.next_call, Calls.silent, Calls.waiting, Bodies.body_step, Bodies.does_in_body, Bodies.runs_body, Causing.does_cause, Pending.causes, Pending.next_softint, Pending.next_source, Deeds.performs, Lists.list_rules, Libraries.library_rules, GivingWay.after_asking, GivingWay.after_asking_for_object, GivingWay.gives_way, Memory.memory_deed, Nesting.nesting_rules, Objects.place_for_object, Plain.plain_rules, Ports.port_rules, Requests.request_rules, Semaphores.semaphore_rules, Signals.signal_rules, State.andthen, State.booted, Tasks.task_rules}
 use Rattle.scheduler.specs.Schedule.{allocates, begins, found, frees, leaves, removed, sets_signals, takes, ticked, waits_at_semaphore, waits_for}
+use Rattle.scheduler.specs.Dispatch.{added, arrives, reprioritized, rescheduled, signalled, switch_of}
+use Rattle.memlist.specs.{Blocks.gaps, Fit.avail, Fit.fit}
 use Rattle.signals.specs.Signals.{highest_free}
 use Rattle.timerdev.specs.Timing.{due_next, next_of, until_next}
 

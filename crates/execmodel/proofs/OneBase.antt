@@ -1,42 +1,18 @@
 -- A loaded library is at one base only: no call puts a second one of its number anywhere.
-use Rattle.std.proofs.Common.{◌≡◌, ◌≢◌, ℕ, Bool, true, false, List, [], ◌∷◌, Option, None, Some, refl, sym, ap, ◌∙◌, subst}
-use Rattle.std.specs.Prelude.{cond, find, not, if◌then◌else◌, nat_eq, map}
-use Rattle.std.specs.Option.{option_map, option_map_or}
-use Rattle.std.specs.Ordering.{nat_cmp}
-use Rattle.std.specs.FinMap.{put as put_entry}
+use Rattle.std.proofs.Common.{◌≡◌, ◌≢◌, ℕ, Bool, true, false, List, [], ◌∷◌, Option, None, Some, refl, sym, ap, ◌∙◌, subst, cond, find, not, if◌then◌else◌, nat_eq, map, option_map, nat_cmp}
+use Rattle.std.specs.{Option.option_map_or, FinMap.put as put_entry}
 use Rattle.execlist.specs.Disciplines.{by_arrival}
 use Rattle.scheduler.specs.Dispatch.{rescheduled}
-use Rattle.memlist.specs.declared.region.Region.{Region}
-use Rattle.memlist.specs.Fit.{round}
-use Rattle.memlist.specs.Memory.{IsWellFormed}
+use Rattle.memlist.specs.{declared.region.Region.Region, Fit.round, Memory.IsWellFormed}
 use Rattle.memlist.proofs.Answered.{nat_eq-same, cases_eq, key_same, key_other}
 use Rattle.iorequest.specs.declared.request.Request.{Request as TimerRequest}
-use Rattle.taskscript.specs.File.{MachineData}
-use Rattle.taskscript.specs.Machines.{IsMachine}
-use Rattle.taskscript.specs.declared.event.Event.{Event}
+use Rattle.taskscript.specs.{File.MachineData, Machines.IsMachine, declared.event.Event.Event}
 use Rattle.execmodel.specs.State.{Call, Object, ListHead, Message, Library, Request, Block, Heap, Memory, Waiting as Queued, Mark, State, Outcome, andthen, on_schedule, booted}
-use Rattle.execmodel.specs.Objects.{object_at, is_kind, replaced}
-use Rattle.execmodel.specs.Memory.{extents, block_at}
-use Rattle.execmodel.specs.Bodies.{body_step}
-use Rattle.execmodel.specs.Requests.{finishes, with_request}
-use Rattle.execmodel.specs.Lists.{with_nodes, unlinked, left_by}
-use Rattle.execmodel.specs.Ports.{with_port, with_action, appended, taken_off}
 use Rattle.execmodel.specs.Semaphores.{with_semaphore, left_by_task, entered, queued, dropped, handed_on, released_once}
 use Rattle.execmodel.specs.Libraries.{is_library, is_library_at, is_numbered, library_number, number_of, with_library, base_of}
-use Rattle.execmodel.specs.Step.{switches, ends, run, starts}
-use Rattle.execmodel.specs.Laws.{LibrariesHaveOneBase}
-use Rattle.execmodel.proofs.Heaps.{block_remade, found_rid, rid, filled, true_is_not_false, object_remade, object_placed_here, object_placed_there}
-use Rattle.execmodel.proofs.Itself.{does_itself, call_works}
-use Rattle.execmodel.proofs.Formed.{counted_formed, rid_formed}
-use Rattle.execmodel.proofs.Stretches.{Relation, HoldsOfEach, of_events, of_starts, clock_gains}
-use Rattle.execmodel.proofs.Commands.{Touches, remains, fills, puts, gets, none_some}
-use Rattle.execmodel.proofs.Telling.{body_alters}
-use Rattle.execmodel.proofs.Taking.{IsNew, Takes, nothing, places, recounts, yields, number_is}
+use Rattle.execmodel.specs.{Objects.object_at, Objects.is_kind, Objects.replaced, Memory.extents, Memory.block_at, Bodies.body_step, Requests.finishes, Requests.with_request, Lists.with_nodes, Lists.unlinked, Lists.left_by, Ports.with_port, Ports.with_action, Ports.appended, Ports.taken_off, Step.switches, Step.ends, Step.run, Step.starts, Laws.LibrariesHaveOneBase}
 use Rattle.execmodel.proofs.Moves.{Moves, touches, takes, frees, relists, unlinks, sets, enters, queues, hands, opens, releases, counts, expunges, drops}
-use Rattle.execmodel.proofs.Posts.{IsTidy}
-use Rattle.execmodel.proofs.Asking.{Asks, writes, answers, written, without_reply, finishing}
-use Rattle.execmodel.proofs.Works.{Works, by_moves, by_asking, by_taking}
-use Rattle.execmodel.proofs.TidyLaw.{quietly, switches_quiet, tidies, rescheduled_tidy, booted_tidy}
+use Rattle.execmodel.proofs.{Heaps.block_remade, Heaps.found_rid, Heaps.rid, Heaps.filled, Heaps.true_is_not_false, Heaps.object_remade, Heaps.object_placed_here, Heaps.object_placed_there, Itself.does_itself, Itself.call_works, Formed.counted_formed, Formed.rid_formed, Stretches.Relation, Stretches.HoldsOfEach, Stretches.of_events, Stretches.of_starts, Stretches.clock_gains, Commands.Touches, Commands.remains, Commands.fills, Commands.puts, Commands.gets, Commands.none_some, Telling.body_alters, Taking.IsNew, Taking.Takes, Taking.nothing, Taking.places, Taking.recounts, Taking.yields, Taking.number_is, Posts.IsTidy, Asking.Asks, Asking.writes, Asking.answers, Asking.written, Asking.without_reply, Asking.finishing, Works.Works, Works.by_moves, Works.by_asking, Works.by_taking, TidyLaw.quietly, TidyLaw.switches_quiet, TidyLaw.tidies, TidyLaw.rescheduled_tidy, TidyLaw.booted_tidy}
 
 -- library i is what was found
 abbrev Numbered : ℕ → Option Object → Type 0

@@ -1,29 +1,12 @@
 -- Each byte has one owner.
-use Rattle.std.proofs.Common.{◌≡◌, ◌≢◌, ℕ, Bool, true, false, List, Option, None, Some, refl, sym, ◌∙◌, subst}
-use Rattle.std.specs.Prelude.{not, if◌then◌else◌, codes}
-use Rattle.std.specs.Option.{option_map}
+use Rattle.std.proofs.Common.{◌≡◌, ◌≢◌, ℕ, Bool, true, false, List, Option, None, Some, refl, sym, ◌∙◌, subst, not, if◌then◌else◌, codes, option_map}
 use Rattle.execlist.specs.Disciplines.{by_arrival}
 use Rattle.memlist.specs.Memory.{IsWellFormed}
-use Rattle.memlist.proofs.Tiling.{tiled}
-use Rattle.memlist.proofs.Fitting.{disjoint}
-use Rattle.taskscript.specs.File.{MachineData}
-use Rattle.taskscript.specs.declared.event.Event.{Event}
-use Rattle.execmodel.specs.State.{Call, Object, Plain, Block, State, Outcome, booted, andthen, on_schedule}
-use Rattle.execmodel.specs.Calls.{argument, alerted, unless}
+use Rattle.memlist.proofs.{Tiling.tiled, Fitting.disjoint}
+use Rattle.taskscript.specs.{File.MachineData, declared.event.Event.Event}
+use Rattle.execmodel.specs.{State.Call, State.Object, State.Plain, State.Block, State.State, State.Outcome, State.booted, State.andthen, State.on_schedule, Calls.argument, Calls.alerted, Calls.unless, Bodies.body_step, Memory.extents, Memory.block_at, Memory.is_plain, Memory.is_named, Memory.memory_deed, Deeds.performs, Step.switches, Step.ends, Step.starts, Step.run, Laws.EachByteHasOneOwner, Laws.FreeMemRefusesObjects, Requests.finishes}
 use Rattle.scheduler.specs.Dispatch.{rescheduled}
-use Rattle.execmodel.specs.Bodies.{body_step}
-use Rattle.execmodel.specs.Memory.{extents, block_at, is_plain, is_named, memory_deed}
-use Rattle.execmodel.specs.Deeds.{performs}
-use Rattle.execmodel.specs.Step.{switches, ends, starts, run}
-use Rattle.execmodel.specs.Laws.{EachByteHasOneOwner, FreeMemRefusesObjects}
-use Rattle.execmodel.proofs.Heaps.{true_is_not_false}
-use Rattle.execmodel.proofs.Itself.{does_itself, call_works}
-use Rattle.execmodel.proofs.Stretches.{Relation, HoldsOfEach, of_starts, of_events}
-use Rattle.execmodel.proofs.Commands.{none_some}
-use Rattle.execmodel.proofs.Telling.{body_alters}
-use Rattle.execmodel.specs.Requests.{finishes}
-use Rattle.execmodel.proofs.Asking.{finishing}
-use Rattle.execmodel.proofs.TidyLaw.{FormedState, works_regions, works_formed, altered_formed, finished_formed, booted_formed, quietly, switches_quiet}
+use Rattle.execmodel.proofs.{Heaps.true_is_not_false, Itself.does_itself, Itself.call_works, Stretches.Relation, Stretches.HoldsOfEach, Stretches.of_starts, Stretches.of_events, Commands.none_some, Telling.body_alters, Asking.finishing, TidyLaw.FormedState, TidyLaw.works_regions, TidyLaw.works_formed, TidyLaw.altered_formed, TidyLaw.finished_formed, TidyLaw.booted_formed, TidyLaw.quietly, TidyLaw.switches_quiet}
 
 -- the regions stay, and the blocks stay well formed
 abbrev Memories : Relation

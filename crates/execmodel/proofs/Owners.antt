@@ -1,31 +1,14 @@
 -- The owner of a semaphore changes from none or at the last release, and nobody waits for one that no task owns.
-use Rattle.std.proofs.Common.{◌⊎◌, inl, inr, ◌≡◌, ◌≢◌, ℕ, Bool, true, false, List, [], ◌∷◌, Option, None, Some, refl, sym, ap, ◌∙◌, subst}
-use Rattle.std.specs.Prelude.{not, if◌then◌else◌, nat_eq, map, drop, is_some, ◌==◌, ◌||◌}
-use Rattle.std.specs.Option.{option_map}
-use Rattle.memlist.specs.declared.region.Region.{Region}
-use Rattle.memlist.specs.Memory.{IsWellFormed}
-use Rattle.memlist.specs.Fit.{round}
+use Rattle.std.proofs.Common.{◌⊎◌, inl, inr, ◌≡◌, ◌≢◌, ℕ, Bool, true, false, List, [], ◌∷◌, Option, None, Some, refl, sym, ap, ◌∙◌, subst, not, if◌then◌else◌, nat_eq, map, drop, is_some, ◌==◌, ◌||◌, option_map}
+use Rattle.memlist.specs.{declared.region.Region.Region, Memory.IsWellFormed, Fit.round}
 use Rattle.memlist.proofs.Answered.{nat_eq-same, nat_eq-other, cases_eq}
-use Rattle.execlist.specs.Order.{first, without}
-use Rattle.execlist.specs.Lists.{is_at}
-use Rattle.sigsem.specs.declared.semaphore.Sem.{Sem}
+use Rattle.execlist.specs.{Order.first, Order.without, Lists.is_at}
+use Rattle.sigsem.specs.{declared.semaphore.Sem.Sem, Semaphores.is_open, Semaphores.is_owned, Semaphores.owned_next}
 use Rattle.iorequest.specs.declared.request.Request.{Request as TimerRequest}
-use Rattle.execmodel.specs.State.{Call, Object, Plain, ListHead, Semaphore, Library, Request, Block, Heap, Waiting as Queued, Mark, State}
-use Rattle.execmodel.specs.Requests.{is_request, is_request_at, with_request}
-use Rattle.execmodel.specs.Objects.{object_at, is_kind, replaced}
-use Rattle.execmodel.specs.Memory.{extents}
-use Rattle.execmodel.specs.Lists.{is_list, is_list_at, with_nodes, unlinked, left_by}
-use Rattle.execmodel.specs.Ports.{is_port, is_message, is_port_at, is_message_at, with_port, with_action, appended, taken_off}
 use Rattle.execmodel.specs.Semaphores.{sem_in, sem_of, sem_of_object, waiters_of, waiters_of_object, with_semaphore, left_by_task, entered, queued, dropped, handed_on, released_once}
-use Rattle.sigsem.specs.Semaphores.{is_open, is_owned, owned_next}
-use Rattle.execmodel.specs.Libraries.{is_library, is_library_at, with_library}
-use Rattle.execmodel.proofs.Heaps.{rid, filled, instead, object_replaced, object_remade, object_placed_here, object_placed_there, object_rid_here, object_rid_there, true_is_not_false}
-use Rattle.execmodel.proofs.Formed.{placed_fresh, counted_formed, rid_formed}
-use Rattle.execmodel.proofs.Fifo.{port_stays}
-use Rattle.execmodel.proofs.Commands.{Touches, remains, fills, puts, gets, none_some}
-use Rattle.execmodel.proofs.Asking.{Asks, writes, answers, written, ports_written, without_reply}
-use Rattle.execmodel.proofs.Taking.{IsNew, Takes, nothing, places, recounts, yields}
+use Rattle.execmodel.specs.{State.Call, State.Object, State.Plain, State.ListHead, State.Semaphore, State.Library, State.Request, State.Block, State.Heap, State.Waiting as Queued, State.Mark, State.State, Requests.is_request, Requests.is_request_at, Requests.with_request, Objects.object_at, Objects.is_kind, Objects.replaced, Memory.extents, Lists.is_list, Lists.is_list_at, Lists.with_nodes, Lists.unlinked, Lists.left_by, Ports.is_port, Ports.is_message, Ports.is_port_at, Ports.is_message_at, Ports.with_port, Ports.with_action, Ports.appended, Ports.taken_off, Libraries.is_library, Libraries.is_library_at, Libraries.with_library}
 use Rattle.execmodel.proofs.Moves.{IsRelease, MayGo, Moves, touches, takes, frees, relists, unlinks, sets, enters, queues, hands, opens, releases, counts, expunges, drops}
+use Rattle.execmodel.proofs.{Heaps.rid, Heaps.filled, Heaps.instead, Heaps.object_replaced, Heaps.object_remade, Heaps.object_placed_here, Heaps.object_placed_there, Heaps.object_rid_here, Heaps.object_rid_there, Heaps.true_is_not_false, Formed.placed_fresh, Formed.counted_formed, Formed.rid_formed, Fifo.port_stays, Commands.Touches, Commands.remains, Commands.fills, Commands.puts, Commands.gets, Commands.none_some, Asking.Asks, Asking.writes, Asking.answers, Asking.written, Asking.ports_written, Asking.without_reply, Taking.IsNew, Taking.Takes, Taking.nothing, Taking.places, Taking.recounts, Taking.yields}
 
 -- nobody waits for what begins at an address, unless a task owns it
 abbrev pub Idle : Option Object → Type 0

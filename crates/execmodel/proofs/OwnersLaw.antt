@@ -1,29 +1,13 @@
 -- Owners and idle semaphores, over every run.
-use Rattle.std.proofs.Common.{◌⊎◌, inl, inr, ◌≡◌, ℕ, Bool, true, false, Option, None, Some, refl, sym, ap, ◌∙◌, subst}
-use Rattle.std.specs.Prelude.{if◌then◌else◌}
-use Rattle.execlist.specs.Lists.{is_at}
-use Rattle.execlist.specs.Disciplines.{by_arrival}
+use Rattle.std.proofs.Common.{◌⊎◌, inl, inr, ◌≡◌, ℕ, Bool, true, false, Option, None, Some, refl, sym, ap, ◌∙◌, subst, if◌then◌else◌}
+use Rattle.execlist.specs.{Lists.is_at, Disciplines.by_arrival}
 use Rattle.memlist.proofs.Answered.{nat_eq-other, cases_eq}
 use Rattle.taskscript.specs.File.{MachineData}
-use Rattle.execmodel.specs.State.{Call, State, Outcome, Memory, quiet, booted, andthen, on_schedule}
-use Rattle.execmodel.specs.Calls.{next_call}
+use Rattle.execmodel.specs.{State.Call, State.State, State.Outcome, State.Memory, State.quiet, State.booted, State.andthen, State.on_schedule, Calls.next_call, Pending.next_softint, Bodies.body_step, Objects.object_at, Semaphores.sem_of, Semaphores.waiters_of, Step.switches, Step.settle, Step.ends, Step.call_step, Step.task_step, Step.softint_or_task_step, Step.acting, Step.acts, Step.step, Step.tick, Step.starts, Step.run, Laws.Action, Laws.OneStep, Laws.OneTick, Laws.OneRequest, Laws.outcome_of, Laws.IsLastRelease, Laws.OwnersChangeAtTheLastRelease, Laws.FreeSemaphoresHaveNoWaiters, Requests.finishes}
 use Rattle.scheduler.specs.Dispatch.{rescheduled}
-use Rattle.execmodel.specs.Pending.{next_softint}
-use Rattle.execmodel.specs.Bodies.{body_step}
-use Rattle.execmodel.specs.Objects.{object_at}
-use Rattle.execmodel.specs.Semaphores.{sem_of, waiters_of}
-use Rattle.execmodel.specs.Step.{switches, settle, ends, call_step, task_step, softint_or_task_step, acting, acts, step, tick, starts, run}
-use Rattle.execmodel.specs.Laws.{Action, OneStep, OneTick, OneRequest, outcome_of, IsLastRelease, OwnersChangeAtTheLastRelease, FreeSemaphoresHaveNoWaiters}
-use Rattle.execmodel.proofs.Heaps.{true_is_not_false}
-use Rattle.execmodel.proofs.Itself.{does_itself, ends_followed, call_works}
 use Rattle.execmodel.proofs.Stretches.{Relation, HoldsOfInterrupts, HoldsOfEach, of_softint, of_set, of_settle, of_request, ticked, of_starts, of_events}
-use Rattle.execmodel.proofs.Telling.{body_alters}
-use Rattle.execmodel.specs.Requests.{finishes}
-use Rattle.execmodel.proofs.Posts.{IsTidy}
-use Rattle.execmodel.proofs.Asking.{finishing}
-use Rattle.execmodel.proofs.Works.{Works, by_moves, by_asking, by_taking}
-use Rattle.execmodel.proofs.TidyLaw.{quietly, switches_quiet, tidy_in_every_state}
 use Rattle.execmodel.proofs.Owners.{AllIdle, Owns, owner_in, touched_idle, moves_idle, asked_idle, taken_idle, touched_own, moves_own, asked_own, taken_own}
+use Rattle.execmodel.proofs.{Heaps.true_is_not_false, Itself.does_itself, Itself.ends_followed, Itself.call_works, Telling.body_alters, Posts.IsTidy, Asking.finishing, Works.Works, Works.by_moves, Works.by_asking, Works.by_taking, TidyLaw.quietly, TidyLaw.switches_quiet, TidyLaw.tidy_in_every_state}
 
 -- ---- nobody waits for a free semaphore
 

@@ -1,36 +1,17 @@
 -- Tasks get a semaphore in the order in which they asked, from states if each task waits at one place at most and the running one at
 -- none.
-use Rattle.std.proofs.Common.{◌≡◌, ◌≢◌, ℕ, Bool, true, false, List, [], ◌∷◌, ◌++◌, Option, None, Some, refl, sym, ap, ◌∙◌, subst}
-use Rattle.std.specs.Prelude.{not, cond, if◌then◌else◌, nat_eq, map, drop}
-use Rattle.std.specs.Option.{option_map}
-use Rattle.memlist.specs.declared.region.Region.{Region}
-use Rattle.memlist.specs.Memory.{IsWellFormed}
+use Rattle.std.proofs.Common.{◌≡◌, ◌≢◌, ℕ, Bool, true, false, List, [], ◌∷◌, ◌++◌, Option, None, Some, refl, sym, ap, ◌∙◌, subst, not, cond, if◌then◌else◌, nat_eq, map, drop, option_map}
+use Rattle.memlist.specs.{declared.region.Region.Region, Memory.IsWellFormed, Fit.round}
 use Rattle.memlist.proofs.Answered.{nat_eq-same, nat_eq-other, cases_eq}
 use Rattle.execlist.specs.Order.{without}
 use Rattle.iorequest.specs.declared.request.Request.{Request as TimerRequest}
 use Rattle.execmodel.specs.State.{Call, Object, Plain, ListHead, MsgPort, Message, Semaphore, Library, Request, Block, Heap, Waiting as Queued, Mark, out, State}
-use Rattle.execmodel.specs.Requests.{is_request, is_request_at, with_request}
-use Rattle.execmodel.specs.Objects.{object_at, is_kind, replaced}
-use Rattle.execmodel.specs.Memory.{extents}
-use Rattle.execmodel.specs.Lists.{is_list, is_list_at, with_nodes, unlinked, left_by}
-use Rattle.execmodel.specs.Ports.{is_port, is_message, is_port_at, is_message_at, with_port, with_action, appended, taken_off}
 use Rattle.execmodel.specs.Semaphores.{is_semaphore, is_semaphore_at, waiters_in, waiters_of, waiters_of_object, awaited_by, with_semaphore, left_by_task, entered, queued, dropped, handed_on, released_once}
-use Rattle.execmodel.specs.Libraries.{is_library, is_library_at, with_library}
-use Rattle.execmodel.specs.Queues.{Came, Served, Left}
-use Rattle.execmodel.specs.Marks.{turns_at_semaphore}
-use Rattle.execmodel.proofs.Queues.{Follows, IsAway}
-use Rattle.execmodel.proofs.Heaps.{rid, filled, instead, object_replaced, object_remade, object_placed_here, object_placed_there, object_rid_here, object_rid_there, true_is_not_false}
-use Rattle.execmodel.proofs.Formed.{placed_fresh, counted_formed, rid_formed}
-use Rattle.execmodel.proofs.Owners.{Idle, AllIdle, free_owner}
-use Rattle.execmodel.proofs.Fifo.{turned, first_is, first_none, port_stays}
-use Rattle.msgport.specs.Port.{Port}
-use Rattle.msgport.specs.declared.message.Message.{Message as Content}
-use Rattle.sigsem.specs.declared.semaphore.Sem.{Sem}
-use Rattle.memlist.specs.Fit.{round}
-use Rattle.execmodel.proofs.Commands.{Touches, remains, fills, puts, gets}
-use Rattle.execmodel.proofs.Asking.{Asks, writes, answers, written, ports_written, without_reply}
-use Rattle.execmodel.proofs.Taking.{IsNew, Takes, nothing, places, recounts, yields}
+use Rattle.execmodel.specs.{Requests.is_request, Requests.is_request_at, Requests.with_request, Objects.object_at, Objects.is_kind, Objects.replaced, Memory.extents, Lists.is_list, Lists.is_list_at, Lists.with_nodes, Lists.unlinked, Lists.left_by, Ports.is_port, Ports.is_message, Ports.is_port_at, Ports.is_message_at, Ports.with_port, Ports.with_action, Ports.appended, Ports.taken_off, Libraries.is_library, Libraries.is_library_at, Libraries.with_library, Queues.Came, Queues.Served, Queues.Left, Marks.turns_at_semaphore}
 use Rattle.execmodel.proofs.Moves.{MayGo, leaving_marks, Moves, touches, takes, frees, relists, unlinks, sets, enters, queues, hands, opens, releases, counts, expunges, drops}
+use Rattle.execmodel.proofs.{Queues.Follows, Queues.IsAway, Heaps.rid, Heaps.filled, Heaps.instead, Heaps.object_replaced, Heaps.object_remade, Heaps.object_placed_here, Heaps.object_placed_there, Heaps.object_rid_here, Heaps.object_rid_there, Heaps.true_is_not_false, Formed.placed_fresh, Formed.counted_formed, Formed.rid_formed, Owners.Idle, Owners.AllIdle, Owners.free_owner, Fifo.turned, Fifo.first_is, Fifo.first_none, Fifo.port_stays, Commands.Touches, Commands.remains, Commands.fills, Commands.puts, Commands.gets, Asking.Asks, Asking.writes, Asking.answers, Asking.written, Asking.ports_written, Asking.without_reply, Taking.IsNew, Taking.Takes, Taking.nothing, Taking.places, Taking.recounts, Taking.yields}
+use Rattle.msgport.specs.{Port.Port, declared.message.Message.Message as Content}
+use Rattle.sigsem.specs.declared.semaphore.Sem.{Sem}
 
 -- ---- what has no messages
 

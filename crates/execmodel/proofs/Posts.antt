@@ -1,21 +1,11 @@
 -- What begins at an address for those who post: a port with its messages, a message, a request, or something else; and that the requests are in
 -- order, with the ports and with the timer.
-use Rattle.std.proofs.Common.{◌≡◌, ◌≢◌, ℕ, Bool, true, false, List, [], Option, None, Some, refl, sym, ap, ◌∙◌, subst}
-use Rattle.std.specs.Prelude.{not, ◌&&◌, if◌then◌else◌, nat_eq, map}
-use Rattle.std.specs.Option.{option_map}
+use Rattle.std.proofs.Common.{◌≡◌, ◌≢◌, ℕ, Bool, true, false, List, [], Option, None, Some, refl, sym, ap, ◌∙◌, subst, not, ◌&&◌, if◌then◌else◌, nat_eq, map, option_map}
 use Rattle.memlist.specs.Memory.{IsWellFormed}
 use Rattle.memlist.proofs.Answered.{nat_eq-same, nat_eq-other, cases_eq}
-use Rattle.iorequest.specs.declared.request.Request.{Request as TimerRequest}
-use Rattle.iorequest.specs.Request.{idle_request, is_under_way}
-use Rattle.execmodel.specs.State.{Object, MsgPort, Message, Request, Block, Heap, Waiting as Queued, State}
-use Rattle.execmodel.specs.Memory.{extents}
-use Rattle.execmodel.specs.Objects.{object_at, is_kind, replaced}
-use Rattle.execmodel.specs.Ports.{is_port, is_message, is_port_at, is_message_at, messages_of, messages_of_object}
-use Rattle.execmodel.specs.Requests.{is_request, is_request_at, request_of, request_of_object}
-use Rattle.execmodel.specs.Agreement.{once_if}
-use Rattle.execmodel.specs.Laws.{times_waiting}
-use Rattle.execmodel.proofs.Heaps.{instead, object_replaced, object_remade, true_is_not_false}
-use Rattle.execmodel.proofs.Queues.{IsAway}
+use Rattle.iorequest.specs.{declared.request.Request.Request as TimerRequest, Request.idle_request, Request.is_under_way}
+use Rattle.execmodel.specs.{State.Object, State.MsgPort, State.Message, State.Request, State.Block, State.Heap, State.Waiting as Queued, State.State, Memory.extents, Objects.object_at, Objects.is_kind, Objects.replaced, Ports.is_port, Ports.is_message, Ports.is_port_at, Ports.is_message_at, Ports.messages_of, Ports.messages_of_object, Requests.is_request, Requests.is_request_at, Requests.request_of, Requests.request_of_object, Agreement.once_if, Laws.times_waiting}
+use Rattle.execmodel.proofs.{Heaps.instead, Heaps.object_replaced, Heaps.object_remade, Heaps.true_is_not_false, Queues.IsAway}
 
 -- ---- what begins at an address
 

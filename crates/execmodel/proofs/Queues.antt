@@ -1,6 +1,5 @@
 -- A queue that takes each arrival last, serves the first, and may lose any: it serves in order of arrival.
-use Rattle.std.proofs.Common.{◌≡◌, ◌≢◌, ℕ, Bool, true, false, List, [], ◌∷◌, ◌++◌, refl, sym, ap, ◌∙◌, subst, append-nil, append_assoc}
-use Rattle.std.specs.Prelude.{not, cond, if◌then◌else◌, nat_eq, filter, drop}
+use Rattle.std.proofs.Common.{◌≡◌, ◌≢◌, ℕ, Bool, true, false, List, [], ◌∷◌, ◌++◌, refl, sym, ap, ◌∙◌, subst, append-nil, append_assoc, not, cond, if◌then◌else◌, nat_eq, filter, drop}
 use Rattle.memlist.proofs.Answered.{nat_eq-same, nat_eq-other}
 use Rattle.std.proofs.lemmas.List.Elements.{filter-append}
 use Rattle.execlist.specs.Order.{without}

@@ -1,37 +1,17 @@
 -- A task that waits for signals has received none of them, and what a task has received stays unless it takes it itself.
-use Rattle.std.proofs.Common.{◌⊎◌, inl, inr, ◌≡◌, ◌≢◌, ℕ, zero, suc, Bool, true, false, List, [], ◌∷◌, Option, None, Some, length, refl, sym, ap, ◌∙◌, subst}
-use Rattle.std.specs.Prelude.{not, ◌&&◌, if◌then◌else◌, nat_eq, bit_and, slice_set, slice_index_or}
-use Rattle.std.proofs.lemmas.List.{get_or-set_other}
+use Rattle.std.proofs.Common.{◌⊎◌, inl, inr, ◌≡◌, ◌≢◌, ℕ, zero, suc, Bool, true, false, List, [], ◌∷◌, Option, None, Some, length, refl, sym, ap, ◌∙◌, subst, not, ◌&&◌, if◌then◌else◌, nat_eq, bit_and, slice_set, slice_index_or, get_or-set_other}
 use Rattle.execlist.specs.Disciplines.{by_arrival}
 use Rattle.memlist.proofs.Answered.{nat_eq-other, cases_eq}
 use Rattle.signals.specs.Signals.{SignalSets, initial_sets, after_post, has_signal}
-use Rattle.taskq.specs.Tasks.{state_at, is_live}
-use Rattle.taskq.specs.declared.TaskState.{TaskState}
 use Rattle.taskq.specs.declared.TaskState.TheVariants.{Ready, Running, Waiting, Removed}
-use Rattle.taskq.specs.declared.Why.TheVariants.{Signals, Sem}
+use Rattle.taskq.specs.{Tasks.state_at, Tasks.is_live, declared.TaskState.TaskState, declared.Why.TheVariants.Signals, declared.Why.TheVariants.Sem}
 use Rattle.scheduler.specs.Schedule.{Schedule, status_of, signals_of, is_absent, awaits, begins, renewed, is_switching_allowed, is_quantum_over, leaves as leaves_for_good, removed, ticked, ticked_for, waits_for, waits_at_semaphore, with_signals}
-use Rattle.scheduler.specs.declared.Switch.{Switch}
-use Rattle.scheduler.specs.declared.Switch.TheVariants.{To, Idle}
+use Rattle.scheduler.specs.{declared.Switch.Switch, declared.Switch.TheVariants.To, declared.Switch.TheVariants.Idle, Dispatch.arrives, Dispatch.added, Dispatch.displaced, Dispatch.after_switch, Dispatch.rescheduled, Dispatch.switch_of, Dispatch.signalled}
 use Rattle.taskscript.specs.File.{MachineData}
-use Rattle.execmodel.specs.State.{Call, Mark, State, Outcome, quiet, booted, andthen, on_schedule}
-use Rattle.scheduler.specs.Dispatch.{arrives, added, displaced, after_switch, rescheduled, switch_of, signalled}
-use Rattle.execmodel.specs.Calls.{next_call}
-use Rattle.execmodel.specs.Pending.{next_softint}
-use Rattle.execmodel.specs.Bodies.{body_step}
-use Rattle.execmodel.specs.Step.{switches, ends, call_step, task_step, softint_or_task_step, acting, acts, step, tick, starts, run}
-use Rattle.execmodel.specs.Laws.{OneStep, OneTick, OneRequest, IsToCall, is_own_taking, WaitersHaveReceivedNone, ReceivedSignalsStay}
-use Rattle.execmodel.proofs.Bits.{signal_joined}
-use Rattle.execmodel.proofs.Heaps.{true_is_not_false}
-use Rattle.execmodel.proofs.Itself.{does_itself, ends_followed, call_shifts}
+use Rattle.execmodel.specs.{State.Call, State.Mark, State.State, State.Outcome, State.quiet, State.booted, State.andthen, State.on_schedule, Calls.next_call, Pending.next_softint, Bodies.body_step, Step.switches, Step.ends, Step.call_step, Step.task_step, Step.softint_or_task_step, Step.acting, Step.acts, Step.step, Step.tick, Step.starts, Step.run, Laws.OneStep, Laws.OneTick, Laws.OneRequest, Laws.IsToCall, Laws.is_own_taking, Laws.WaitersHaveReceivedNone, Laws.ReceivedSignalsStay, Requests.finishes}
 use Rattle.execmodel.proofs.Stretches.{Relation, HoldsOfInterrupts, HoldsOfEach, of_softint, of_set, of_settle, of_request, ticked as ticked_stretch, of_starts, of_events}
-use Rattle.execmodel.proofs.TidyLaw.{quietly, switches_quiet}
-use Rattle.execmodel.specs.Requests.{finishes}
-use Rattle.execmodel.proofs.Asking.{finishing}
-use Rattle.execmodel.proofs.Commands.{Reaches, rests, posts}
-use Rattle.execmodel.proofs.Telling.{body_alters}
-use Rattle.execmodel.proofs.Shifts.{Shifts, reaches, rearrives, adds, takes, sleeps, asks, wakes, leaves, removes}
 use Rattle.execmodel.proofs.Agreement.{running_state, set_there, set_here, in_range, set_state, all_absent, got}
-use Rattle.execmodel.proofs.WaitingLaw.{IsSound, waits, clocked, booted_sound}
+use Rattle.execmodel.proofs.{Bits.signal_joined, Heaps.true_is_not_false, Itself.does_itself, Itself.ends_followed, Itself.call_shifts, TidyLaw.quietly, TidyLaw.switches_quiet, Asking.finishing, Commands.Reaches, Commands.rests, Commands.posts, Telling.body_alters, Shifts.Shifts, Shifts.reaches, Shifts.rearrives, Shifts.adds, Shifts.takes, Shifts.sleeps, Shifts.asks, Shifts.wakes, Shifts.leaves, Shifts.removes, WaitingLaw.IsSound, WaitingLaw.waits, WaitingLaw.clocked, WaitingLaw.booted_sound}
 
 -- ---- what a task has received
 

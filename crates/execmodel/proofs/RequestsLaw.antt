@@ -1,13 +1,8 @@
 -- The reply port of a request that is under way lives, and exactly the requests that are under way wait: in every state of every run.
 use Rattle.std.proofs.Common.{sym, ap, ◌∙◌}
-use Rattle.iorequest.specs.declared.request.Request.{Request as TimerRequest}
-use Rattle.iorequest.specs.Request.{is_under_way}
-use Rattle.execmodel.specs.Agreement.{once_if}
-use Rattle.execmodel.specs.Step.{run}
-use Rattle.execmodel.specs.Laws.{ReplyPortsLive, RequestsUnderWayWait}
-use Rattle.execmodel.proofs.Posts.{post_at, is_a_port, request_is, port_is}
-use Rattle.execmodel.specs.Requests.{request_of}
-use Rattle.execmodel.proofs.TidyLaw.{tidy_in_every_state}
+use Rattle.iorequest.specs.{declared.request.Request.Request as TimerRequest, Request.is_under_way}
+use Rattle.execmodel.specs.{Agreement.once_if, Step.run, Laws.ReplyPortsLive, Laws.RequestsUnderWayWait, Requests.request_of}
+use Rattle.execmodel.proofs.{Posts.post_at, Posts.is_a_port, Posts.request_is, Posts.port_is, TidyLaw.tidy_in_every_state}
 
 pub reply_ports_live : ReplyPortsLive
 reply_ports_live request machine list is under =

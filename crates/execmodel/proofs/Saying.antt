@@ -1,19 +1,10 @@
 -- No word says the line of a switch, nor does a task that ends, a software interrupt, or what is served.
-use Rattle.std.proofs.Common.{◌≡◌, ℕ, false, List, [], ◌∷◌, refl}
-use Rattle.std.specs.Prelude.{All}
+use Rattle.std.proofs.Common.{◌≡◌, ℕ, false, List, [], ◌∷◌, refl, All}
 use Rattle.std.proofs.lemmas.List.Elements.{All-head, All-tail}
 use Rattle.exectrace.specs.Trace.{TraceLine}
-use Rattle.execmodel.specs.State.{Call, State, Outcome, andthen}
-use Rattle.execmodel.specs.Calls.{ByTask}
-use Rattle.execmodel.specs.Interrupts.{runs_softint, interrupts}
-use Rattle.execmodel.specs.Requests.{does_requests, finishes_set}
-use Rattle.execmodel.specs.Step.{does, ends}
-use Rattle.execmodel.specs.Laws.{OnlySwitchesSaySo, says_switch}
+use Rattle.execmodel.specs.{State.Call, State.State, State.Outcome, State.andthen, Calls.ByTask, Interrupts.runs_softint, Interrupts.interrupts, Requests.does_requests, Requests.finishes_set, Step.does, Step.ends, Laws.OnlySwitchesSaySo, Laws.says_switch}
 use Rattle.taskscript.specs.declared.word.Word.{Word}
-use Rattle.execmodel.proofs.BodyActions.{softint_bodily, set_told}
-use Rattle.execmodel.proofs.Itself.{word_itself, followed, word_tells}
-use Rattle.execmodel.proofs.Servings.{none_switched, switched_more, all_served}
-use Rattle.execmodel.proofs.Telling.{IsOwn, own, refusing, speaker}
+use Rattle.execmodel.proofs.{BodyActions.softint_bodily, BodyActions.set_told, Itself.word_itself, Itself.followed, Itself.word_tells, Servings.none_switched, Servings.switched_more, Servings.all_served, Telling.IsOwn, Telling.own, Telling.refusing, Telling.speaker}
 
 -- an outcome without the line of a switch
 abbrev Silent : Outcome → Type 0

@@ -1,25 +1,17 @@
 -- What servings leave as it is, what they print, and what they make of the latches.
-use Rattle.std.proofs.Common.{◌≡◌, ℕ, zero, suc, ◌+◌, ◌≤◌, Bool, true, false, List, [], ◌∷◌, ◌++◌, Option, None, Some, refl, sym, ap, ◌∙◌, arith}
+use Rattle.std.proofs.Common.{◌≡◌, ℕ, zero, suc, ◌+◌, ◌≤◌, Bool, true, false, List, [], ◌∷◌, ◌++◌, Option, None, Some, refl, sym, ap, ◌∙◌, arith, if◌then◌else◌, count_by, slice_index_or}
 use Rattle.std.proofs.lemmas.List.Sums.{sum_by-cons, sum_by-append}
-use Rattle.std.specs.Prelude.{if◌then◌else◌, count_by, slice_index_or}
 use Rattle.execlist.specs.Disciplines.{by_arrival}
 use Rattle.exectrace.specs.Trace.{TraceLine, Switch, Serve}
 use Rattle.forbid.specs.Nesting.{Nesting, initial_nesting, may_interrupt}
-use Rattle.softint.specs.declared.source.Source.{Source}
+use Rattle.softint.specs.{declared.source.Source.Source, declared.latches.Latches.Latches, Sources.is_latched, Sources.no_latches, Sources.with_latch, Sources.highest}
 use Rattle.softint.specs.declared.source.Source.TheVariants as source
-use Rattle.softint.specs.declared.latches.Latches.{Latches}
-use Rattle.softint.specs.Sources.{is_latched, no_latches, with_latch, highest}
-use Rattle.scheduler.specs.Schedule.{Schedule, ticked, ticked_for, is_interrupting_allowed}
-use Rattle.scheduler.specs.declared.Switch.{Switch as Choice}
+use Rattle.scheduler.specs.{Schedule.Schedule, Schedule.ticked, Schedule.ticked_for, Schedule.is_interrupting_allowed, declared.Switch.Switch as Choice, Dispatch.switch_of, Dispatch.rescheduled}
 use Rattle.scheduler.specs.declared.Switch.TheVariants as switch
-use Rattle.execmodel.specs.State.{State, Outcome, quiet, andthen, unless_stopped, on_schedule, on_pending}
-use Rattle.scheduler.specs.Dispatch.{switch_of, rescheduled}
-use Rattle.execmodel.specs.Pending.{allows_interrupts, with_latch_of, next_source}
 use Rattle.execmodel.specs.Interrupts.{serving_counted, text_of_source, finishes_for, chain_of, runs_chain, serves, servings, interrupts}
-use Rattle.execmodel.specs.Step.{announced, switches, settle}
-use Rattle.execmodel.specs.Laws.{says_switch, is_serving, InterruptsKeepNestings, ThreeServingsAtMost}
-use Rattle.execmodel.proofs.Heaps.{true_is_not_false}
+use Rattle.execmodel.specs.{State.State, State.Outcome, State.quiet, State.andthen, State.unless_stopped, State.on_schedule, State.on_pending, Pending.allows_interrupts, Pending.with_latch_of, Pending.next_source, Step.announced, Step.switches, Step.settle, Laws.says_switch, Laws.is_serving, Laws.InterruptsKeepNestings, Laws.ThreeServingsAtMost}
 use Rattle.execmodel.proofs.BodyActions.{standing, steady, IsOfBody, AreOfBodies, softint_bodily, served_bodily}
+use Rattle.execmodel.proofs.Heaps.{true_is_not_false}
 
 -- ---- lines
 

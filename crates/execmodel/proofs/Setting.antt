@@ -1,20 +1,13 @@
 -- A call on requests leaves system time as it is, or sets it.
-use Rattle.std.proofs.Common.{◌⊎◌, inl, inr, ◌≡◌, ℕ, Bool, true, false, Option, refl, ap, ◌∙◌}
-use Rattle.std.specs.Prelude.{ℤ, negsuc, if◌then◌else◌}
+use Rattle.std.proofs.Common.{◌⊎◌, inl, inr, ◌≡◌, ℕ, Bool, true, false, Option, refl, ap, ◌∙◌, ℤ, negsuc, if◌then◌else◌}
 use Rattle.msgport.specs.declared.action.Action.{Action}
-use Rattle.iorequest.specs.declared.request.ReqState.{ReqState}
-use Rattle.iorequest.specs.declared.request.ReqState.TheVariants.{Idle}
 use Rattle.iorequest.specs.declared.request.Begun.TheVariants.{Finish, Queue, Until, NewTime}
-use Rattle.iorequest.specs.Request.{is_to_wait, is_until, due_of, error_of, sets_time, time_of}
+use Rattle.iorequest.specs.{declared.request.ReqState.ReqState, declared.request.ReqState.TheVariants.Idle, Request.is_to_wait, Request.is_until, Request.due_of, Request.error_of, Request.sets_time, Request.time_of}
 use Rattle.taskscript.specs.declared.word.requests.RequestWord.{RequestWord}
 use Rattle.taskscript.specs.declared.word.requests.RequestWord.TheVariants as requests
-use Rattle.execmodel.specs.State.{Call, Timer, Memory, State, on_memory}
-use Rattle.execmodel.specs.Calls.{done, answered, waiting}
-use Rattle.execmodel.specs.Ports.{performed as performed_action}
 use Rattle.execmodel.specs.Requests.{request_of, answering_port, acting_at, with_reply, ended, timer_begun, begun_at, looks_for, aborts}
-use Rattle.execmodel.specs.Step.{request}
-use Rattle.execmodel.proofs.Commands.{performed_memory}
-use Rattle.execmodel.proofs.Asking.{state_of}
+use Rattle.execmodel.specs.{State.Call, State.Timer, State.Memory, State.State, State.on_memory, Calls.done, Calls.answered, Calls.waiting, Ports.performed as performed_action, Step.request}
+use Rattle.execmodel.proofs.{Commands.performed_memory, Asking.state_of}
 
 -- system time, as a part of a state
 abbrev pub system_of : State → ℕ

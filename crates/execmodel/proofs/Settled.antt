@@ -1,31 +1,17 @@
 -- After an action the machine is settled: the highest ready task runs, and a request is left only if interrupts are not allowed.
-use Rattle.std.proofs.Common.{◌≡◌, ℕ, zero, suc, ℤ, Bool, true, false, List, [], ◌∷◌, Option, None, Some, MatchOption, All, int_eq, refl, sym, ap, ◌∙◌, subst, arith}
-use Rattle.std.specs.Prelude.{if◌then◌else◌, ◌&&◌, ◌||◌, ◌≤ℤ◌, int_lt, int_le, length}
-use Rattle.std.proofs.lemmas.Option.{none-some}
-use Rattle.std.proofs.lemmas.Int.{ints}
-use Rattle.std.proofs.lemmas.List.Elements.{All-append, All-filter, All-nil}
-use Rattle.execlist.specs.Order.{chosen, chosen_or, is_lower, without, IsEarliestGreatest}
+use Rattle.std.proofs.Common.{◌≡◌, ℕ, zero, suc, ℤ, Bool, true, false, List, [], ◌∷◌, Option, None, Some, MatchOption, All, int_eq, refl, sym, ap, ◌∙◌, subst, arith, if◌then◌else◌, ◌&&◌, ◌||◌, ◌≤ℤ◌, int_lt, int_le, length}
+use Rattle.std.proofs.lemmas.{Option.none-some, Int.ints, List.Elements.All-append, List.Elements.All-filter, List.Elements.All-nil}
+use Rattle.execlist.specs.{Order.chosen, Order.chosen_or, Order.is_lower, Order.without, Order.IsEarliestGreatest, Disciplines.pri_at, Disciplines.by_arrival}
 use Rattle.execlist.proofs.OrderLaws.{chosen_is_earliest}
 use Rattle.forbid.specs.Nesting.{Nesting, may_switch, may_interrupt, not_nested}
-use Rattle.execlist.specs.Disciplines.{pri_at, by_arrival}
 use Rattle.scheduler.specs.Schedule.{Schedule, priority_of, nesting_of, switch_for, renewed, begins, is_switching_allowed, is_interrupting_allowed, is_quantum_over, takes_over}
-use Rattle.scheduler.specs.declared.Switch.{Switch}
-use Rattle.scheduler.specs.declared.Switch.TheVariants.{To, Idle}
-use Rattle.taskscript.specs.declared.event.Event.{Event}
+use Rattle.scheduler.specs.{declared.Switch.Switch, declared.Switch.TheVariants.To, declared.Switch.TheVariants.Idle, Dispatch.arrives, Dispatch.displaced, Dispatch.after_switch, Dispatch.switch_of, Dispatch.rescheduled}
 use Rattle.taskscript.specs.declared.event.Event.TheVariants.{Run, Tick, Irq}
-use Rattle.execmodel.specs.State.{State, Outcome, quiet, on_schedule, on_memory, on_timer, on_pending, andthen, unless_stopped, booted}
+use Rattle.taskscript.specs.declared.event.Event.{Event}
+use Rattle.execmodel.specs.{State.State, State.Outcome, State.quiet, State.on_schedule, State.on_memory, State.on_timer, State.on_pending, State.andthen, State.unless_stopped, State.booted, Pending.source_named, Pending.with_latch_of, Pending.allows_interrupts, Interrupts.interrupts, Step.announced, Step.switches, Step.settle, Step.acts, Step.step, Step.steps, Step.request, Step.tick, Step.ticks, Step.starts, Step.all_added, Step.event, Step.events, Step.run, Laws.IsSettled, Laws.EachStateIsSettled}
 use Rattle.timerdev.specs.Timing.{ticked}
-use Rattle.scheduler.specs.Dispatch.{arrives, displaced, after_switch, switch_of, rescheduled}
-use Rattle.execmodel.specs.Pending.{source_named, with_latch_of, allows_interrupts}
-use Rattle.execmodel.specs.Interrupts.{interrupts}
-use Rattle.execmodel.specs.Step.{announced, switches, settle, acts, step, steps, request, tick, ticks, starts, all_added, event, events, run}
-use Rattle.softint.specs.declared.source.Source.{Source}
-use Rattle.softint.specs.declared.source.Source.TheVariants.{Vertb}
-use Rattle.softint.specs.Sources.{is_latched}
-use Rattle.execmodel.specs.Laws.{IsSettled, EachStateIsSettled}
-use Rattle.execmodel.proofs.Heaps.{true_is_not_false}
-use Rattle.execmodel.proofs.TidyLaw.{switches_quiet}
-use Rattle.execmodel.proofs.Servings.{interrupts_blocked}
+use Rattle.softint.specs.{declared.source.Source.Source, declared.source.Source.TheVariants.Vertb, Sources.is_latched}
+use Rattle.execmodel.proofs.{Heaps.true_is_not_false, TidyLaw.switches_quiet, Servings.interrupts_blocked}
 
 announced_state : (c : Option Switch) (s : State) → (announced c s).state ≡ s
 announced_state None s = refl

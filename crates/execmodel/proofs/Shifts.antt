@@ -1,8 +1,6 @@
 -- What a call makes of the tasks' states, of the ready sequence and of the received signals: one of a few things, whatever the word. That
 -- the queues agree with the schedule, and the laws of signals, go by these.
-use Rattle.std.proofs.Common.{[], ◌≡◌, ◌≢◌, ℕ, zero, suc, ◌<◌, ℤ, Bool, true, false, List, ◌∷◌, Option, None, Some, length, refl, sym, ap, ◌∙◌, arith}
-use Rattle.std.specs.Prelude.{◌-◌, negsuc, if◌then◌else◌, nat_eq, nat_lt, nat_le, bit_and, slice_set, slice_index_or, ◌&&◌}
-use Rattle.std.proofs.lemmas.List.{length-set, get_or-set_other}
+use Rattle.std.proofs.Common.{[], ◌≡◌, ◌≢◌, ℕ, zero, suc, ◌<◌, ℤ, Bool, true, false, List, ◌∷◌, Option, None, Some, length, refl, sym, ap, ◌∙◌, arith, ◌-◌, negsuc, if◌then◌else◌, nat_eq, nat_lt, nat_le, bit_and, slice_set, slice_index_or, ◌&&◌, length-set, get_or-set_other}
 use Rattle.std.proofs.lemmas.Bool.Decides.{nat_tests}
 use Rattle.memlist.proofs.Answered.{nat_eq-other, cases_eq}
 use Rattle.execlist.specs.Disciplines.{by_arrival}
@@ -10,24 +8,15 @@ use Rattle.signals.specs.Signals.{SignalSets, initial_sets, without, taken_signa
 use Rattle.forbid.specs.Nesting.{Nesting}
 use Rattle.taskq.specs.Tasks.{is_live, is_ready}
 use Rattle.scheduler.specs.Schedule.{Schedule, status_of, signals_of, allocates as allocates_signal, frees as frees_signal, sets_signals, takes as takes_signals, waits_for, waits_at_semaphore, departs, is_absent, leaves as leaves_for_good, removed, with_priority, with_signals}
-use Rattle.sigsem.specs.declared.semaphore.Obtained.{Obtained}
-use Rattle.sigsem.specs.declared.semaphore.Obtained.TheVariants.{Owner, Waits}
-use Rattle.iorequest.specs.declared.request.ReqState.{ReqState}
-use Rattle.iorequest.specs.declared.request.ReqState.TheVariants.{Idle, UnderWay, Quick, Replied}
-use Rattle.msgport.specs.declared.action.Action.{Action}
-use Rattle.execmodel.specs.State.{Call, Scripts, Memory, asked, passed, State, Outcome, on_schedule, on_memory, on_heap}
 use Rattle.scheduler.specs.Dispatch.{arrives}
-use Rattle.execmodel.specs.Calls.{done, answered, waiting, silent, alerted, keeps}
-use Rattle.execmodel.specs.Plain.{jumps}
-use Rattle.execmodel.specs.Signals.{is_task, waited}
-use Rattle.execmodel.specs.Nesting.{gives_nesting}
-use Rattle.execmodel.specs.Ports.{port_created, looked, loses, performed}
-use Rattle.execmodel.specs.Semaphores.{dropped, obtains, passes, leaving_queue}
-use Rattle.execmodel.specs.Requests.{answering_port, acting_at, with_reply, ended, looks_for, aborts}
-use Rattle.execmodel.specs.Laws.{is_own_taking}
-use Rattle.execmodel.proofs.Heaps.{true_is_not_false}
+use Rattle.sigsem.specs.declared.semaphore.Obtained.TheVariants.{Owner, Waits}
+use Rattle.sigsem.specs.declared.semaphore.Obtained.{Obtained}
+use Rattle.iorequest.specs.declared.request.ReqState.TheVariants.{Idle, UnderWay, Quick, Replied}
+use Rattle.iorequest.specs.declared.request.ReqState.{ReqState}
+use Rattle.msgport.specs.declared.action.Action.{Action}
+use Rattle.execmodel.specs.{State.Call, State.Scripts, State.Memory, State.asked, State.passed, State.State, State.Outcome, State.on_schedule, State.on_memory, State.on_heap, Calls.done, Calls.answered, Calls.waiting, Calls.silent, Calls.alerted, Calls.keeps, Plain.jumps, Signals.is_task, Signals.waited, Nesting.gives_nesting, Ports.port_created, Ports.looked, Ports.loses, Ports.performed, Semaphores.dropped, Semaphores.obtains, Semaphores.passes, Semaphores.leaving_queue, Requests.answering_port, Requests.acting_at, Requests.with_reply, Requests.ended, Requests.looks_for, Requests.aborts, Laws.is_own_taking}
 use Rattle.execmodel.proofs.Commands.{IsCalm, IsAlike, same, Reaches, rests, IsAltered, performed_reaches, performed_scripts, goes_count, answered_count}
-use Rattle.execmodel.proofs.Bits.{nothing_left}
+use Rattle.execmodel.proofs.{Heaps.true_is_not_false, Bits.nothing_left}
 
 -- the same states, ready tasks, running task and received signals, but for what task t has received
 pub record IsOwn (t : ℕ) (s r : Schedule) : Type 0 where

@@ -1,11 +1,8 @@
 -- The code of every alert is short.
-use Rattle.std.proofs.Common.{ℕ, lit≤, Bool, true, false, List, Option, None, Some}
-use Rattle.std.specs.Prelude.{if◌then◌else◌}
-use Rattle.iorequest.specs.declared.request.ReqState.{ReqState}
+use Rattle.std.proofs.Common.{ℕ, lit≤, Bool, true, false, List, Option, None, Some, if◌then◌else◌}
 use Rattle.iorequest.specs.declared.request.ReqState.TheVariants.{Idle, UnderWay, Quick, Replied}
-use Rattle.execmodel.specs.State.{Heap}
-use Rattle.execmodel.specs.Ports.{port_rules}
-use Rattle.execmodel.specs.Requests.{state_alert}
+use Rattle.iorequest.specs.declared.request.ReqState.{ReqState}
+use Rattle.execmodel.specs.{State.Heap, Ports.port_rules, Requests.state_alert}
 use Rattle.execmodel.proofs.ShortLines.{IsShortText}
 
 -- an alert, if one comes, has a short code

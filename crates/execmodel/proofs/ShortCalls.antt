@@ -1,22 +1,11 @@
 -- A call has the arguments of its word, and they are short, if its command has them, of which at most one is a name.
-use Rattle.std.proofs.Common.{◌≡◌, ℕ, ◌+◌, ◌*◌, ◌≤◌, lit≤, true, List, [], ◌∷◌, length, map, refl, sym, subst, length-append, arith}
-use Rattle.std.specs.Prelude.{if◌then◌else◌, count_by, nat_le}
-use Rattle.std.specs.List.{flat_map}
-use Rattle.std.proofs.lemmas.Bool.{and_parts, leb-true}
-use Rattle.std.proofs.lemmas.List.Sums.{sum_by-cons}
+use Rattle.std.proofs.Common.{◌≡◌, ℕ, ◌+◌, ◌*◌, ◌≤◌, lit≤, true, List, [], ◌∷◌, length, map, refl, sym, subst, length-append, arith, if◌then◌else◌, count_by, nat_le, flat_map, leb-true}
+use Rattle.std.proofs.lemmas.{Bool.and_parts, List.Sums.sum_by-cons}
 use Rattle.exectrace.specs.Trace.{Argument, Quoted, argument_text}
-use Rattle.taskscript.specs.declared.word.row.Kind.{Kind}
-use Rattle.taskscript.specs.declared.word.row.Kind.TheVariants as kind
-use Rattle.taskscript.specs.declared.variable.Variable.{Variable}
 use Rattle.taskscript.specs.declared.variable.Variable.TheVariants.{Private, Shared}
-use Rattle.taskscript.specs.Commands.{ArgumentData, number, variable, quoted, place, CommandData}
-use Rattle.taskscript.specs.Machines.{IsOfKind, AreOfKinds, HasItsArguments, QuotesOnce, is_quoted}
-use Rattle.taskscript.specs.Names.{is_name}
-use Rattle.taskscript.specs.Words.{kinds}
-use Rattle.taskscript.specs.WordTable.{few_kinds}
-use Rattle.execmodel.specs.State.{Call, Scripts}
-use Rattle.execmodel.specs.Calls.{evaluated, evaluated_in_body, call_of, call_in_body}
-use Rattle.execmodel.specs.Laws.{FitsKind, FitKinds, FitsItsWord}
+use Rattle.taskscript.specs.{declared.word.row.Kind.Kind, declared.variable.Variable.Variable, Commands.ArgumentData, Commands.number, Commands.variable, Commands.quoted, Commands.place, Commands.CommandData, Machines.IsOfKind, Machines.AreOfKinds, Machines.HasItsArguments, Machines.QuotesOnce, Machines.is_quoted, Names.is_name, Words.kinds, WordTable.few_kinds}
+use Rattle.taskscript.specs.declared.word.row.Kind.TheVariants as kind
+use Rattle.execmodel.specs.{State.Call, State.Scripts, Calls.evaluated, Calls.evaluated_in_body, Calls.call_of, Calls.call_in_body, Laws.FitsKind, Laws.FitKinds, Laws.FitsItsWord}
 use Rattle.execmodel.proofs.ShortLines.{IsShortText, AreShort}
 
 -- a command has its word's arguments, of which at most one is a name

@@ -1,7 +1,5 @@
 -- How many bytes a line has at most, if names and words have at most 31, and the arguments of a call take at most 64.
-use Rattle.std.proofs.Common.{ℕ, ◌+◌, ◌≤◌, lit≤, List, ◌++◌, length, length-append, arith}
-use Rattle.std.specs.Prelude.{codes}
-use Rattle.std.specs.List.{flat_map}
+use Rattle.std.proofs.Common.{ℕ, ◌+◌, ◌≤◌, lit≤, List, ◌++◌, length, length-append, arith, codes, flat_map}
 use Rattle.exectrace.specs.Trace.{Argument, Outcome, Done, Answers, Waits, TraceLine, Switch, Idle, Call, Serve, Timer, Server, Softint, Alert, argument_text, outcome_text, printed_line}
 
 -- a printed line has at most 160 bytes, its line feed included

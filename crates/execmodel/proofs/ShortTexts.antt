@@ -1,25 +1,12 @@
 -- Names are short and commands brief in every state: what words, bodies and requests leave of them, and that their lines are short.
-use Rattle.std.proofs.Common.{◌≡◌, ℕ, zero, suc, pos, Bool, true, false, List, [], ◌∷◌, Option, None, Some, sym, subst, ap}
-use Rattle.std.specs.Prelude.{◌+◌, All, IfSome, if◌then◌else◌, slice_get, slice_index_or}
+use Rattle.std.proofs.Common.{◌≡◌, ℕ, zero, suc, pos, Bool, true, false, List, [], ◌∷◌, Option, None, Some, sym, subst, ap, ◌+◌, All, IfSome, if◌then◌else◌, slice_get, slice_index_or}
 use Rattle.std.proofs.lemmas.List.Elements.{All-nil, All-cons, All-head, All-tail, All-append, All-weaker}
 use Rattle.exectrace.specs.Trace.{TraceLine, Timer}
-use Rattle.taskscript.specs.Words.{word_text}
+use Rattle.taskscript.specs.{Words.word_text, Commands.CommandData, declared.word.Word.Word}
 use Rattle.execlist.specs.Order.{first}
 use Rattle.scheduler.specs.Schedule.{name_of, Schedule}
-use Rattle.taskscript.specs.Commands.{CommandData}
-use Rattle.taskscript.specs.declared.word.Word.{Word}
-use Rattle.execmodel.specs.State.{Call, Scripts, Bodies, State, Outcome, quiet, says, andthen, unless_stopped, program_of, on_schedule, on_memory}
-use Rattle.execmodel.specs.Calls.{call_at, call_after, call_in_body, next_call}
-use Rattle.execmodel.specs.Ports.{performed}
-use Rattle.execmodel.specs.Bodies.{body_step}
-use Rattle.execmodel.specs.Requests.{answering_port, acting_at, with_reply, ended, finishes}
-use Rattle.execmodel.specs.Interrupts.{softint_at, server_at}
-use Rattle.execmodel.proofs.Itself.{word_itself, does_itself, word_keeps, word_tells}
-use Rattle.execmodel.proofs.Commands.{performed_scripts, performed_fixed}
-use Rattle.execmodel.proofs.ShortLines.{IsShort, IsShortText, AreShort, timer_short, call_short, alert_short}
-use Rattle.execmodel.proofs.ShortWords.{word_short}
-use Rattle.execmodel.proofs.ShortCalls.{IsBrief, HasArguments, task_call_has, body_call_has}
-use Rattle.execmodel.proofs.Telling.{AreBriefPrograms, IsOwn, own, refusing, body_commanded}
+use Rattle.execmodel.specs.{State.Call, State.Scripts, State.Bodies, State.State, State.Outcome, State.quiet, State.says, State.andthen, State.unless_stopped, State.program_of, State.on_schedule, State.on_memory, Calls.call_at, Calls.call_after, Calls.call_in_body, Calls.next_call, Ports.performed, Bodies.body_step, Requests.answering_port, Requests.acting_at, Requests.with_reply, Requests.ended, Requests.finishes, Interrupts.softint_at, Interrupts.server_at}
+use Rattle.execmodel.proofs.{Itself.word_itself, Itself.does_itself, Itself.word_keeps, Itself.word_tells, Commands.performed_scripts, Commands.performed_fixed, ShortLines.IsShort, ShortLines.IsShortText, ShortLines.AreShort, ShortLines.timer_short, ShortLines.call_short, ShortLines.alert_short, ShortWords.word_short, ShortCalls.IsBrief, ShortCalls.HasArguments, ShortCalls.task_call_has, ShortCalls.body_call_has, Telling.AreBriefPrograms, Telling.IsOwn, Telling.own, Telling.refusing, Telling.body_commanded}
 use Rattle.forbid.specs.Nesting.{Nesting}
 use Rattle.softint.specs.declared.latches.Latches.{Latches}
 

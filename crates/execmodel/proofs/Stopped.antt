@@ -1,12 +1,8 @@
 -- A machine that an alert has stopped does nothing.
-use Rattle.std.proofs.Common.{◌≡◌, ℕ, zero, suc, Bool, true, false, List, [], ◌∷◌, ◌++◌, refl, ap, sym, ◌∙◌}
-use Rattle.std.specs.Prelude.{if◌then◌else◌}
-use Rattle.std.proofs.lemmas.List.{append-nil}
-use Rattle.taskscript.specs.declared.event.Event.{Event}
+use Rattle.std.proofs.Common.{◌≡◌, ℕ, zero, suc, Bool, true, false, List, [], ◌∷◌, ◌++◌, refl, ap, sym, ◌∙◌, if◌then◌else◌, append-nil}
 use Rattle.taskscript.specs.declared.event.Event.TheVariants.{Run, Tick, Irq}
-use Rattle.execmodel.specs.State.{State, Outcome, quiet, andthen, unless_stopped}
-use Rattle.execmodel.specs.Pending.{source_named}
-use Rattle.execmodel.specs.Step.{acts, settle, step, steps, request, tick, ticks, event, events}
+use Rattle.taskscript.specs.declared.event.Event.{Event}
+use Rattle.execmodel.specs.{State.State, State.Outcome, State.quiet, State.andthen, State.unless_stopped, Pending.source_named, Step.acts, Step.settle, Step.step, Step.steps, Step.request, Step.tick, Step.ticks, Step.event, Step.events}
 use Rattle.softint.specs.declared.source.Source.{Source}
 
 -- an outcome, and then another action

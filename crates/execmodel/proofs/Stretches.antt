@@ -1,27 +1,18 @@
 -- What holds over every stretch of every run: proved once from what holds of each thing that a machine does.
-use Rattle.std.proofs.Common.{◌≡◌, ℕ, zero, suc, ◌<◌, ◌≤◌, Bool, true, false, List, [], ◌∷◌, ◌++◌, Option, None, Some, refl, arith}
-use Rattle.std.specs.Prelude.{length, if◌then◌else◌}
+use Rattle.std.proofs.Common.{◌≡◌, ℕ, zero, suc, ◌<◌, ◌≤◌, Bool, true, false, List, [], ◌∷◌, ◌++◌, Option, None, Some, refl, arith, length, if◌then◌else◌}
 use Rattle.execlist.specs.Disciplines.{by_arrival}
 use Rattle.exectrace.specs.Trace.{Serve, Server, Softint, TraceLine}
-use Rattle.taskscript.specs.Commands.{CommandData}
-use Rattle.taskscript.specs.declared.event.Event.{Event}
 use Rattle.taskscript.specs.declared.event.Event.TheVariants.{Run, Tick, Irq}
-use Rattle.scheduler.specs.Schedule.{ticked as quantum_ticked}
+use Rattle.taskscript.specs.{Commands.CommandData, declared.event.Event.Event}
+use Rattle.scheduler.specs.{Schedule.ticked as quantum_ticked, Dispatch.added}
 use Rattle.softint.specs.declared.source.Source.{Source}
 use Rattle.softint.specs.declared.source.Source.TheVariants as source
 use Rattle.execmodel.specs.State.{Call, Pending, Timer as Clock, State, Mark, Outcome, quiet, says, andthen, unless_stopped, on_schedule, on_memory, on_timer, on_pending}
-use Rattle.scheduler.specs.Dispatch.{added}
-use Rattle.execmodel.specs.Calls.{next_call}
-use Rattle.execmodel.specs.Pending.{source_named, caused_no_more, with_latch_of, next_softint, next_source}
-use Rattle.execmodel.specs.Bodies.{body_step, runs_body}
-use Rattle.timerdev.specs.Timing.{ticked as clock_ticked, due_next, looked_at, until_next}
-use Rattle.execmodel.specs.Requests.{does_requests, finishes, finishes_each, finishes_all_due, finishes_set}
 use Rattle.execmodel.specs.Interrupts.{softint_at, runs_softint, server_at, chain_of, runs_server, runs_chain, text_of_source, serving_counted, finishes_for, serves, servings, interrupts}
-use Rattle.execmodel.specs.Laws.{times_waiting}
-use Rattle.execmodel.proofs.Asking.{due_stands, until_stands}
-use Rattle.execmodel.proofs.Keeping.{finishes_found}
-use Rattle.execmodel.proofs.Itself.{does_itself, followed}
 use Rattle.execmodel.specs.Step.{switches, settle, does, ends, task_step, call_step, softint_or_task_step, acting, acts, step, steps, request, tick, ticks, all_added, starts, event, events}
+use Rattle.execmodel.specs.{Calls.next_call, Pending.source_named, Pending.caused_no_more, Pending.with_latch_of, Pending.next_softint, Pending.next_source, Bodies.body_step, Bodies.runs_body, Requests.does_requests, Requests.finishes, Requests.finishes_each, Requests.finishes_all_due, Requests.finishes_set, Laws.times_waiting}
+use Rattle.timerdev.specs.Timing.{ticked as clock_ticked, due_next, looked_at, until_next}
+use Rattle.execmodel.proofs.{Asking.due_stands, Asking.until_stands, Keeping.finishes_found, Itself.does_itself, Itself.followed}
 
 -- a relation of the state before, the marks that are left, and the state after
 abbrev pub Relation : Type 1

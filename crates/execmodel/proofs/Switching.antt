@@ -1,22 +1,14 @@
 -- A switch is to the chosen of the ready tasks and of the one that ran until then, which comes last.
-use Rattle.std.proofs.Common.{◌≡◌, ℕ, ℤ, Bool, true, false, List, [], ◌∷◌, ◌++◌, Option, None, Some, refl, sym, ap, ◌∙◌, subst, arith}
-use Rattle.std.specs.Prelude.{if◌then◌else◌, ◌&&◌, ◌||◌, int_lt, int_le, nat_eq}
-use Rattle.std.proofs.lemmas.Option.{none-some}
+use Rattle.std.proofs.Common.{◌≡◌, ℕ, ℤ, Bool, true, false, List, [], ◌∷◌, ◌++◌, Option, None, Some, refl, sym, ap, ◌∙◌, subst, arith, if◌then◌else◌, ◌&&◌, ◌||◌, int_lt, int_le, nat_eq}
+use Rattle.std.proofs.lemmas.{Option.none-some, Int.ints}
 use Rattle.exectrace.specs.Trace.{TraceLine}
 use Rattle.exectrace.specs.Trace as trace
-use Rattle.execlist.specs.Disciplines.{pri_at, by_arrival}
+use Rattle.execlist.specs.{Disciplines.pri_at, Disciplines.by_arrival, Order.chosen, Order.chosen_or}
 use Rattle.scheduler.specs.Schedule.{Schedule, name_of, priority_of, begins, switch_for, is_switching_allowed, is_quantum_over, takes_over}
-use Rattle.scheduler.specs.declared.Switch.{Switch}
-use Rattle.scheduler.specs.declared.Switch.TheVariants.{To, Idle}
-use Rattle.execmodel.specs.State.{State, on_schedule}
-use Rattle.scheduler.specs.Dispatch.{arrives, displaced, after_switch, switch_of, rescheduled}
-use Rattle.execmodel.specs.Step.{announced, switches}
-use Rattle.execmodel.specs.Laws.{SwitchesGoToTheChosen}
-use Rattle.execmodel.proofs.Heaps.{true_is_not_false}
-use Rattle.execmodel.proofs.TidyLaw.{switches_quiet}
-use Rattle.std.proofs.lemmas.Int.{ints}
+use Rattle.scheduler.specs.{declared.Switch.Switch, declared.Switch.TheVariants.To, declared.Switch.TheVariants.Idle, Dispatch.arrives, Dispatch.displaced, Dispatch.after_switch, Dispatch.switch_of, Dispatch.rescheduled}
+use Rattle.execmodel.specs.{State.State, State.on_schedule, Step.announced, Step.switches, Laws.SwitchesGoToTheChosen}
+use Rattle.execmodel.proofs.{Heaps.true_is_not_false, TidyLaw.switches_quiet}
 use Rattle.memlist.proofs.Answered.{nat_eq-other, cases_eq}
-use Rattle.execlist.specs.Order.{chosen, chosen_or}
 
 -- the chosen of two sequences, one after the other, from the chosen of each
 abbrev merged : (ℕ → ℤ) → Option ℕ → Option ℕ → Option ℕ

@@ -1,30 +1,17 @@
 -- System time goes with the clock, but if a request sets it.
-use Rattle.std.proofs.Common.{[], ◌⊎◌, inl, inr, ◌≡◌, ℕ, ◌+◌, Bool, true, false, Option, None, Some, refl, sym, ap, ◌∙◌, subst, arith}
-use Rattle.std.specs.Prelude.{pos, ◌-ℤ◌, if◌then◌else◌}
+use Rattle.std.proofs.Common.{[], ◌⊎◌, inl, inr, ◌≡◌, ℕ, ◌+◌, Bool, true, false, Option, None, Some, refl, sym, ap, ◌∙◌, subst, arith, pos, ◌-ℤ◌, if◌then◌else◌}
 use Rattle.std.proofs.lemmas.Int.{ints}
 use Rattle.execlist.specs.Disciplines.{by_arrival}
 use Rattle.softint.specs.declared.source.Source.TheVariants.{Vertb}
 use Rattle.iorequest.specs.Request.{sets_time, time_of}
-use Rattle.taskscript.specs.declared.word.Word.{Word}
+use Rattle.taskscript.specs.{declared.word.Word.Word, declared.word.requests.RequestWord.RequestWord}
 use Rattle.taskscript.specs.declared.word.Word.TheVariants as group
-use Rattle.taskscript.specs.declared.word.requests.RequestWord.{RequestWord}
 use Rattle.taskscript.specs.declared.word.requests.RequestWord.TheVariants as requests
 use Rattle.timerdev.specs.Timing.{offset}
-use Rattle.execmodel.specs.State.{Call, Timer, State, quiet, andthen, on_schedule}
+use Rattle.execmodel.specs.{State.Call, State.Timer, State.State, State.quiet, State.andthen, State.on_schedule, Calls.argument, Calls.next_call, Pending.next_softint, Requests.request_of, Requests.finishes_set, Requests.does_requests, Step.switches, Step.settle, Step.ends, Step.call_step, Step.task_step, Step.softint_or_task_step, Step.acting, Step.acts, Step.step, Step.tick, Step.request, Step.run, Laws.Action as Act, Laws.OneStep, Laws.OneTick, Laws.OneRequest, Laws.outcome_of, Laws.IsSetting, Laws.SystemTimeGoesWithTheClock}
 use Rattle.scheduler.specs.Dispatch.{rescheduled}
-use Rattle.execmodel.specs.Calls.{argument, next_call}
-use Rattle.execmodel.specs.Pending.{next_softint}
-use Rattle.execmodel.specs.Requests.{request_of, finishes_set, does_requests}
-use Rattle.execmodel.specs.Step.{switches, settle, ends, call_step, task_step, softint_or_task_step, acting, acts, step, tick, request, run}
-use Rattle.execmodel.specs.Laws.{Action as Act, OneStep, OneTick, OneRequest, outcome_of, IsSetting, SystemTimeGoesWithTheClock}
-use Rattle.execmodel.proofs.Setting.{Leaves, system_of}
-use Rattle.execmodel.proofs.Words.{requests_facts}
-use Rattle.execmodel.proofs.Itself.{word_itself, word_keeps, ends_followed}
 use Rattle.execmodel.proofs.Stretches.{Relation, HoldsOfInterrupts, clock_gains, of_softint, of_set, of_settle, of_request}
-use Rattle.execmodel.proofs.Telling.{body_alters}
-use Rattle.execmodel.proofs.Asking.{finishing}
-use Rattle.execmodel.proofs.ClockLaw.{word_stands}
-use Rattle.execmodel.proofs.TidyLaw.{quietly, switches_quiet}
+use Rattle.execmodel.proofs.{Setting.Leaves, Setting.system_of, Words.requests_facts, Itself.word_itself, Itself.word_keeps, Itself.ends_followed, Telling.body_alters, Asking.finishing, ClockLaw.word_stands, TidyLaw.quietly, TidyLaw.switches_quiet}
 
 -- ---- but for ticks, and requests that set it, system time is
 

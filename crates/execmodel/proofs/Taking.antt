@@ -1,28 +1,14 @@
 -- What a call that takes memory makes of the blocks: libraries are expunged under low memory, one after another, and then an object is placed, or an opening of a
 -- library is counted, or nothing.
-use Rattle.std.proofs.Common.{◌≡◌, ℕ, ◌≤◌, Bool, true, false, List, [], ◌∷◌, Option, None, Some, refl, sym, ap, ◌∙◌, subst, arith}
-use Rattle.std.specs.Prelude.{not, ◌&&◌, if◌then◌else◌, nat_eq, is_some, length}
-use Rattle.std.specs.List.{range_with_len}
-use Rattle.std.specs.Ordering.{nat_cmp}
-use Rattle.std.specs.FinMap.{put as put_entry}
-use Rattle.memlist.specs.declared.region.Region.{Region}
-use Rattle.memlist.specs.Fit.{fit, round}
-use Rattle.memlist.specs.Memory.{IsWellFormed}
+use Rattle.std.proofs.Common.{◌≡◌, ℕ, ◌≤◌, Bool, true, false, List, [], ◌∷◌, Option, None, Some, refl, sym, ap, ◌∙◌, subst, arith, not, ◌&&◌, if◌then◌else◌, nat_eq, is_some, length, nat_cmp}
+use Rattle.std.specs.{List.range_with_len, FinMap.put as put_entry}
+use Rattle.memlist.specs.{declared.region.Region.Region, Fit.fit, Fit.round, Memory.IsWellFormed}
 use Rattle.memlist.proofs.Answered.{nat_eq-other, cases_eq}
 use Rattle.sigsem.specs.Semaphores.{free_sem}
 use Rattle.iorequest.specs.Request.{is_under_way}
-use Rattle.execmodel.specs.State.{Object, ListHead, MsgPort, Semaphore, Library, Request, Heap, Memory, State, Outcome, on_memory}
-use Rattle.execmodel.specs.Places.{extents, place_for, freed}
-use Rattle.execmodel.specs.Objects.{is_allowed}
+use Rattle.execmodel.specs.{State.Object, State.ListHead, State.MsgPort, State.Semaphore, State.Library, State.Request, State.Heap, State.Memory, State.State, State.Outcome, State.on_memory, Places.extents, Places.place_for, Places.freed, Objects.is_allowed, Loaded.is_library_at, Loaded.count_of, Loaded.with_library, Loaded.base_of, Loaded.removed, GivingWay.gives_way_at, GivingWay.gives_way, GivingWay.asked_one, GivingWay.asked_each, GivingWay.after_asking, GivingWay.after_asking_for_object, Ports.is_port, Ports.port_size, Ports.after_asking_for_port, Libraries.library_at, Libraries.ready_to_load, Libraries.ready_to_open, Keeping.without_blocks}
 use Rattle.execlib.specs.Libraries.{public_memory}
-use Rattle.execmodel.specs.Loaded.{is_library_at, count_of, with_library, base_of, removed}
-use Rattle.execmodel.specs.GivingWay.{gives_way_at, gives_way, asked_one, asked_each, after_asking, after_asking_for_object}
-use Rattle.execmodel.specs.Ports.{is_port, port_size, after_asking_for_port}
-use Rattle.execmodel.specs.Libraries.{library_at, ready_to_load, ready_to_open}
-use Rattle.execmodel.specs.Keeping.{without_blocks}
-use Rattle.execmodel.proofs.Heaps.{rid, true_is_not_false}
-use Rattle.execmodel.proofs.Loaded.{base_is_loaded}
-use Rattle.execmodel.proofs.GivingWay.{asking_keeps, asking_for_object_keeps}
+use Rattle.execmodel.proofs.{Heaps.rid, Heaps.true_is_not_false, Loaded.base_is_loaded, GivingWay.asking_keeps, GivingWay.asking_for_object_keeps}
 
 -- a new object: an empty list or port, a semaphore that no task owns and none waits for, a library that was at no base, a request that is not
 -- under way, or what has no queue

@@ -1,48 +1,27 @@
 -- What a word prints, and what it makes of the programs: its own line or its alert, and its caller's progress.
-use Rattle.std.proofs.Common.{[], ◌≡◌, ℕ, Bool, true, false, List, Option, None, Some, refl, zero, suc, ◌∷◌, sym, subst, ap, ◌∙◌}
-use Rattle.std.specs.Prelude.{if◌then◌else◌, nat_eq, All, IfSome, slice_index_or, slice_set, is_some}
-use Rattle.execmodel.specs.State.{Call, State, Outcome, quiet, on_schedule, Program, Scripts, Mark, leaving, no_program}
+use Rattle.std.proofs.Common.{[], ◌≡◌, ℕ, Bool, true, false, List, Option, None, Some, refl, zero, suc, ◌∷◌, sym, subst, ap, ◌∙◌, if◌then◌else◌, nat_eq, All, IfSome, slice_index_or, slice_set, is_some}
 use Rattle.execmodel.specs.Calls.{argument, done, answered, waiting, silent, alerted, ByBody, unless_by, alerted_by, Caller, ByTask, stored, stored_shared, goes_on, done_by, answered_by, silent_by, call_in_body}
-use Rattle.execmodel.specs.Causing.{does_cause_by}
-use Rattle.execmodel.specs.Requests.{answering_port, with_reply, looks_for, aborts}
-use Rattle.taskscript.specs.declared.word.Word.{Word}
-use Rattle.taskscript.specs.declared.word.task_signals.SignalWord.{SignalWord}
-use Rattle.taskscript.specs.declared.word.ports.PortWord.{PortWord}
-use Rattle.taskscript.specs.declared.word.interrupts.InterruptWord.{InterruptWord}
-use Rattle.taskscript.specs.declared.word.plain.PlainWord.{PlainWord}
+use Rattle.execmodel.specs.Ports.{port_created, port_alert, messages_of, content_of, put_alert, reply_alert, looked, delivered, taken_by, replied_by, does_put_msg_by, does_get_msg_by, does_reply_msg_by, port_rules}
+use Rattle.execmodel.specs.{State.Call, State.State, State.Outcome, State.quiet, State.on_schedule, State.Program, State.Scripts, State.Mark, State.leaving, State.no_program, Causing.does_cause_by, Requests.answering_port, Requests.with_reply, Requests.looks_for, Requests.aborts, Plain.jumps, Signals.signal_alert, Signals.waited, Signals.does_signal_by, Nesting.gives_nesting, Nesting.nest_alert, Tasks.ends_other, Semaphores.awaited_by, Semaphores.leaving_queue, Semaphores.obtains, Semaphores.passes, Pending.causes, Bodies.does_plain_by, Bodies.does_signals_by, Bodies.does_ports_by, Bodies.does_interrupts_by, Bodies.does_word_by, Bodies.body_step, Bodies.does_in_body, Keeping.without_progress_of}
+use Rattle.taskscript.specs.declared.variable.Variable.TheVariants.{Private, Shared}
+use Rattle.taskscript.specs.{declared.word.Word.Word, declared.word.task_signals.SignalWord.SignalWord, declared.word.ports.PortWord.PortWord, declared.word.interrupts.InterruptWord.InterruptWord, declared.word.plain.PlainWord.PlainWord, declared.variable.Variable.Variable, Words.word_text, Commands.CommandData}
 use Rattle.execlist.specs.Order.{first}
 use Rattle.scheduler.specs.Schedule.{name_of, nested}
 use Rattle.forbid.specs.Nesting.{Nesting}
-use Rattle.iorequest.specs.declared.request.ReqState.{ReqState}
 use Rattle.iorequest.specs.declared.request.ReqState.TheVariants.{Idle, UnderWay, Quick, Replied}
-use Rattle.sigsem.specs.declared.semaphore.Obtained.{Obtained}
+use Rattle.iorequest.specs.declared.request.ReqState.{ReqState}
 use Rattle.sigsem.specs.declared.semaphore.Obtained.TheVariants.{Owner, Waits}
-use Rattle.execmodel.specs.Plain.{jumps}
-use Rattle.execmodel.specs.Signals.{signal_alert, waited, does_signal_by}
-use Rattle.execmodel.specs.Nesting.{gives_nesting, nest_alert}
-use Rattle.execmodel.specs.Tasks.{ends_other}
-use Rattle.execmodel.specs.Ports.{port_created, port_alert, messages_of, content_of, put_alert, reply_alert, looked, delivered, taken_by, replied_by, does_put_msg_by, does_get_msg_by, does_reply_msg_by, port_rules}
-use Rattle.execmodel.specs.Semaphores.{awaited_by, leaving_queue, obtains, passes}
+use Rattle.sigsem.specs.declared.semaphore.Obtained.{Obtained}
 use Rattle.exectrace.specs.Trace.{TraceLine, Done, Answers, Alert}
 use Rattle.exectrace.specs.Trace as trace
-use Rattle.execmodel.specs.Pending.{causes}
-use Rattle.execmodel.specs.Bodies.{does_plain_by, does_signals_by, does_ports_by, does_interrupts_by, does_word_by, body_step, does_in_body}
 use Rattle.std.proofs.lemmas.List.Elements.{All-nil, All-cons}
-use Rattle.taskscript.specs.declared.variable.Variable.{Variable}
-use Rattle.taskscript.specs.declared.variable.Variable.TheVariants.{Private, Shared}
-use Rattle.taskscript.specs.Words.{word_text}
 use Rattle.execmodel.proofs.Commands.{performed_scripts, IsAltered, rested, done_alters, silent_alters, signal_alters, put_alters, get_alters, reply_alters, cause_alters}
-use Rattle.execmodel.proofs.ShortLines.{IsShortText}
-use Rattle.execmodel.proofs.ShortCalls.{IsBrief, HasArguments}
-use Rattle.execmodel.proofs.ShortAlerts.{IsShortAlert, coded, short_codes}
+use Rattle.execmodel.proofs.{ShortLines.IsShortText, ShortCalls.IsBrief, ShortCalls.HasArguments, ShortAlerts.IsShortAlert, ShortAlerts.coded, ShortAlerts.short_codes, Keeping.goes_on_keeps, Keeping.stored_keeps, Keeping.kept_keeps}
 use Rattle.taskscript.specs.declared.word.Word.TheVariants as group
 use Rattle.taskscript.specs.declared.word.plain.PlainWord.TheVariants as plain
 use Rattle.taskscript.specs.declared.word.task_signals.SignalWord.TheVariants as signals
 use Rattle.taskscript.specs.declared.word.ports.PortWord.TheVariants as ports
 use Rattle.taskscript.specs.declared.word.interrupts.InterruptWord.TheVariants as causing
-use Rattle.execmodel.specs.Keeping.{without_progress_of}
-use Rattle.execmodel.proofs.Keeping.{goes_on_keeps, stored_keeps, kept_keeps}
-use Rattle.taskscript.specs.Commands.{CommandData}
 
 -- ---- programs
 

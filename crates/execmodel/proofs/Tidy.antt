@@ -1,33 +1,16 @@
 -- The requests stay in order with the ports and the timer, whatever a call does.
-use Rattle.std.proofs.Common.{◌≡◌, ◌≢◌, ℕ, Bool, true, false, List, [], ◌∷◌, ◌++◌, Option, None, Some, refl, sym, ap, ◌∙◌, subst}
-use Rattle.std.specs.Prelude.{not, cond, ◌&&◌, nat_eq, map, drop}
-use Rattle.std.specs.List.{list_any}
-use Rattle.std.specs.Option.{option_map}
-use Rattle.std.specs.Ordering.{nat_cmp, eq_by_cmp}
-use Rattle.memlist.specs.declared.region.Region.{Region}
-use Rattle.memlist.specs.Fit.{round}
-use Rattle.memlist.specs.Memory.{IsWellFormed}
+use Rattle.std.proofs.Common.{◌≡◌, ◌≢◌, ℕ, Bool, true, false, List, [], ◌∷◌, ◌++◌, Option, None, Some, refl, sym, ap, ◌∙◌, subst, not, cond, ◌&&◌, nat_eq, map, drop, option_map, nat_cmp}
+use Rattle.std.specs.{List.list_any, Ordering.eq_by_cmp}
+use Rattle.memlist.specs.{declared.region.Region.Region, Fit.round, Memory.IsWellFormed}
 use Rattle.memlist.proofs.Answered.{nat_eq-same, cases_eq}
 use Rattle.execlist.specs.Order.{without}
-use Rattle.iorequest.specs.declared.request.Request.{Request as TimerRequest}
-use Rattle.iorequest.specs.Request.{is_under_way}
+use Rattle.iorequest.specs.{declared.request.Request.Request as TimerRequest, Request.is_under_way}
 use Rattle.execmodel.specs.State.{Call, Object, ListHead, MsgPort, Message, Semaphore, Library, Request, Block, Heap, Waiting as Queued, Mark, State}
-use Rattle.execmodel.specs.Objects.{object_at, is_kind, replaced}
-use Rattle.execmodel.specs.Memory.{extents, block_at}
-use Rattle.execmodel.specs.Lists.{is_list, is_list_at, with_nodes, unlinked, left_by}
-use Rattle.execmodel.specs.Ports.{is_port, is_message, is_port_at, is_message_at, is_awaited_at, replies_to, messages_of, with_port, with_action, appended, taken_off}
 use Rattle.execmodel.specs.Semaphores.{is_semaphore, is_semaphore_at, with_semaphore, left_by_task, entered, queued, dropped, handed_on, released_once}
-use Rattle.execmodel.specs.Libraries.{is_library, is_library_at, with_library}
-use Rattle.execmodel.specs.Requests.{request_of, with_request}
-use Rattle.execmodel.proofs.Heaps.{rid, filled, object_placed_here, object_placed_there, object_rid_here, object_rid_there, true_is_not_false}
-use Rattle.execmodel.proofs.Queues.{IsAway, away_more, away_drop, away_without}
+use Rattle.execmodel.specs.{Objects.object_at, Objects.is_kind, Objects.replaced, Memory.extents, Memory.block_at, Lists.is_list, Lists.is_list_at, Lists.with_nodes, Lists.unlinked, Lists.left_by, Ports.is_port, Ports.is_message, Ports.is_port_at, Ports.is_message_at, Ports.is_awaited_at, Ports.replies_to, Ports.messages_of, Ports.with_port, Ports.with_action, Ports.appended, Ports.taken_off, Libraries.is_library, Libraries.is_library_at, Libraries.with_library, Requests.request_of, Requests.with_request}
 use Rattle.execmodel.proofs.Posts.{Post, APort, AMessage, ARequest, Other, post_in, post_of_object, post_at, messages_at, asked_at, is_a_port, is_mail, may_stand, AreInOrder, IsTidy, messages_are, port_is, port_there, message_there, request_there, post_elsewhere, post_here, post_remade, unchanged, queue_changes, content_changes, replaced_in_order}
-use Rattle.execmodel.proofs.Asking.{Asks, writes, answers, IsRewritten, written_here, written_elsewhere, ports_written, without_reply}
-use Rattle.execmodel.proofs.Formed.{placed_fresh, counted_formed, rid_formed}
-use Rattle.execmodel.proofs.Fifo.{both_false, is_away, first_none, port_stays}
-use Rattle.execmodel.proofs.Commands.{Touches, remains, fills, puts, gets}
-use Rattle.execmodel.proofs.Taking.{IsNew, Takes, nothing, places, recounts, yields}
 use Rattle.execmodel.proofs.Moves.{MayGo, IsUnneeded, list_other, semaphore_other, Moves, touches, takes, frees, relists, unlinks, sets, enters, queues, hands, opens, releases, counts, expunges, drops}
+use Rattle.execmodel.proofs.{Heaps.rid, Heaps.filled, Heaps.object_placed_here, Heaps.object_placed_there, Heaps.object_rid_here, Heaps.object_rid_there, Heaps.true_is_not_false, Queues.IsAway, Queues.away_more, Queues.away_drop, Queues.away_without, Asking.Asks, Asking.writes, Asking.answers, Asking.IsRewritten, Asking.written_here, Asking.written_elsewhere, Asking.ports_written, Asking.without_reply, Formed.placed_fresh, Formed.counted_formed, Formed.rid_formed, Fifo.both_false, Fifo.is_away, Fifo.first_none, Fifo.port_stays, Commands.Touches, Commands.remains, Commands.fills, Commands.puts, Commands.gets, Taking.IsNew, Taking.Takes, Taking.nothing, Taking.places, Taking.recounts, Taking.yields}
 
 -- ---- what nobody sees
 

@@ -3,27 +3,10 @@ use Rattle.std.proofs.Common.{◌≡◌, ℕ, List, [], Option, None, Some, refl
 use Rattle.execlist.specs.Disciplines.{by_arrival}
 use Rattle.memlist.specs.Memory.{IsWellFormed}
 use Rattle.memlist.proofs.Keeping.{untouched_well_formed}
-use Rattle.scheduler.specs.declared.Switch.{Switch}
-use Rattle.scheduler.specs.declared.Switch.TheVariants.{To, Idle}
-use Rattle.taskscript.specs.File.{MachineData, total_of}
-use Rattle.taskscript.specs.Machines.{IsMachine}
-use Rattle.taskscript.specs.declared.event.Event.{Event}
-use Rattle.execmodel.specs.State.{Call, Heap, Memory, Timer, Waiting as Queued, Mark, State, Outcome, on_schedule, booted, andthen}
-use Rattle.scheduler.specs.Dispatch.{switch_of, rescheduled}
-use Rattle.execmodel.specs.Memory.{extents}
-use Rattle.execmodel.specs.Bodies.{body_step}
-use Rattle.execmodel.specs.Requests.{finishes}
-use Rattle.execmodel.specs.Step.{announced, switches, ends, starts, run}
-use Rattle.execmodel.proofs.Heaps.{true_is_not_false}
-use Rattle.execmodel.proofs.Itself.{does_itself, call_works}
-use Rattle.execmodel.proofs.Stretches.{Relation, HoldsOfEach, of_starts, of_events}
-use Rattle.execmodel.proofs.Commands.{Alters}
-use Rattle.execmodel.proofs.Telling.{body_alters}
-use Rattle.execmodel.proofs.Posts.{AreInOrder, IsTidy, post_at}
-use Rattle.execmodel.proofs.Asking.{Finishing, finishing}
-use Rattle.execmodel.proofs.Formed.{touched_formed, moves_formed, asked_formed, taken_formed}
-use Rattle.execmodel.proofs.Tidy.{touched_order, moves_order, asked_order, taken_order}
-use Rattle.execmodel.proofs.Works.{Works, by_moves, by_asking, by_taking}
+use Rattle.scheduler.specs.{declared.Switch.Switch, declared.Switch.TheVariants.To, declared.Switch.TheVariants.Idle, Dispatch.switch_of, Dispatch.rescheduled}
+use Rattle.taskscript.specs.{File.MachineData, File.total_of, Machines.IsMachine, declared.event.Event.Event}
+use Rattle.execmodel.specs.{State.Call, State.Heap, State.Memory, State.Timer, State.Waiting as Queued, State.Mark, State.State, State.Outcome, State.on_schedule, State.booted, State.andthen, Memory.extents, Bodies.body_step, Requests.finishes, Step.announced, Step.switches, Step.ends, Step.starts, Step.run}
+use Rattle.execmodel.proofs.{Heaps.true_is_not_false, Itself.does_itself, Itself.call_works, Stretches.Relation, Stretches.HoldsOfEach, Stretches.of_starts, Stretches.of_events, Commands.Alters, Telling.body_alters, Posts.AreInOrder, Posts.IsTidy, Posts.post_at, Asking.Finishing, Asking.finishing, Formed.touched_formed, Formed.moves_formed, Formed.asked_formed, Formed.taken_formed, Tidy.touched_order, Tidy.moves_order, Tidy.asked_order, Tidy.taken_order, Works.Works, Works.by_moves, Works.by_asking, Works.by_taking}
 
 -- a switch leaves no mark, and the memory as it is
 pub announced_quiet : (c : Option Switch) (s : State) → ((announced c s).marks ≡ []) × ((announced c s).state ≡ s)

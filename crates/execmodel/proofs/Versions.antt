@@ -1,29 +1,12 @@
 -- Libraries are asked in version 2 of the rules alone; where they are not, what asks them changes nothing.
-use Rattle.std.proofs.Common.{◌≡◌, ℕ, Bool, true, false, List, [], ◌∷◌, Option, None, Some, refl, sym, ap, ◌∙◌}
-use Rattle.std.specs.Prelude.{not, ◌&&◌, if◌then◌else◌, nat_eq, is_some, length}
+use Rattle.std.proofs.Common.{◌≡◌, ℕ, Bool, true, false, List, [], ◌∷◌, Option, None, Some, refl, sym, ap, ◌∙◌, not, ◌&&◌, if◌then◌else◌, nat_eq, is_some, length}
 use Rattle.std.specs.List.{range_with_len}
 use Rattle.execlist.specs.Disciplines.{by_arrival}
-use Rattle.taskscript.specs.declared.word.Word.{Word}
-use Rattle.taskscript.specs.File.{MachineData}
-use Rattle.execmodel.specs.State.{Call, Object, Memory, State, andthen, on_schedule, booted}
+use Rattle.taskscript.specs.{declared.word.Word.Word, File.MachineData}
+use Rattle.execmodel.specs.{State.Call, State.Object, State.Memory, State.State, State.andthen, State.on_schedule, State.booted, Objects.is_allowed, Loaded.base_of, GivingWay.asked_each, GivingWay.after_asking, GivingWay.after_asking_for_object, Memory.place_for, Ports.is_port, Ports.port_size, Ports.after_asking_for_port, Libraries.library_at, Libraries.ready_to_load, Libraries.ready_to_open, Step.ends, Step.switches, Step.starts, Step.run, Laws.LibrariesAreAskedInVersionTwo, Laws.UnaskedMemoryStays, Laws.AskingChangesTheBlocks}
 use Rattle.scheduler.specs.Dispatch.{rescheduled}
-use Rattle.execmodel.specs.Objects.{is_allowed}
 use Rattle.execlib.specs.Libraries.{public_memory}
-use Rattle.execmodel.specs.Loaded.{base_of}
-use Rattle.execmodel.specs.GivingWay.{asked_each, after_asking, after_asking_for_object}
-use Rattle.execmodel.specs.Memory.{place_for}
-use Rattle.execmodel.specs.Ports.{is_port, port_size, after_asking_for_port}
-use Rattle.execmodel.specs.Libraries.{library_at, ready_to_load, ready_to_open}
-use Rattle.execmodel.specs.Step.{ends, switches, starts, run}
-use Rattle.execmodel.specs.Laws.{LibrariesAreAskedInVersionTwo, UnaskedMemoryStays, AskingChangesTheBlocks}
-use Rattle.execmodel.proofs.Heaps.{true_is_not_false}
-use Rattle.execmodel.proofs.Itself.{word_itself, word_keeps}
-use Rattle.execmodel.proofs.Stretches.{Relation, HoldsOfEach, of_events, of_starts}
-use Rattle.execmodel.proofs.Commands.{settings_of}
-use Rattle.execmodel.proofs.Telling.{body_alters}
-use Rattle.execmodel.proofs.Asking.{finishing}
-use Rattle.execmodel.proofs.GivingWay.{asking_keeps, asking_for_object_keeps, ready_keeps}
-use Rattle.execmodel.proofs.TidyLaw.{quietly, switches_quiet}
+use Rattle.execmodel.proofs.{Heaps.true_is_not_false, Itself.word_itself, Itself.word_keeps, Stretches.Relation, Stretches.HoldsOfEach, Stretches.of_events, Stretches.of_starts, Commands.settings_of, Telling.body_alters, Asking.finishing, GivingWay.asking_keeps, GivingWay.asking_for_object_keeps, GivingWay.ready_keeps, TidyLaw.quietly, TidyLaw.switches_quiet}
 
 -- ---- nothing is asked
 

@@ -1,27 +1,13 @@
 -- If tasks wait for semaphores: the one address that is found for a task is the only one if it waits.
-use Rattle.std.proofs.Common.{◌≡◌, ◌≢◌, ℕ, suc, ◌+◌, ◌<◌, ◌≤◌, Bool, true, false, List, [], ◌∷◌, Option, None, Some, refl, sym, ap, ◌∙◌, subst, arith}
-use Rattle.std.specs.Prelude.{cond, if◌then◌else◌, nat_eq, find, ◌==◌, ◌||◌}
-use Rattle.std.specs.List.{list_any}
-use Rattle.std.specs.Option.{option_map}
-use Rattle.std.specs.Ordering.{nat_cmp, eq_by_cmp}
-use Rattle.memlist.specs.declared.region.Region.{Region}
-use Rattle.memlist.specs.Memory.{IsWellFormed}
-use Rattle.memlist.proofs.Answered.{nat_eq-same, nat_eq-other, cases_eq, key_same, key_other}
-use Rattle.memlist.proofs.Keeping.{rising_sorted}
-use Rattle.memlist.proofs.Merged.{IsRising}
-use Rattle.memlist.proofs.Slots.{AllFrom}
+use Rattle.std.proofs.Common.{◌≡◌, ◌≢◌, ℕ, suc, ◌+◌, ◌<◌, ◌≤◌, Bool, true, false, List, [], ◌∷◌, Option, None, Some, refl, sym, ap, ◌∙◌, subst, arith, cond, if◌then◌else◌, nat_eq, find, ◌==◌, ◌||◌, option_map, nat_cmp}
+use Rattle.std.specs.{List.list_any, Ordering.eq_by_cmp}
+use Rattle.memlist.specs.{declared.region.Region.Region, Memory.IsWellFormed}
+use Rattle.memlist.proofs.{Answered.nat_eq-same, Answered.nat_eq-other, Answered.cases_eq, Answered.key_same, Answered.key_other, Keeping.rising_sorted, Merged.IsRising, Slots.AllFrom}
 use Rattle.taskq.specs.declared.TaskState.TheVariants.{Running}
 use Rattle.scheduler.specs.Schedule.{Schedule, status_of, is_at_semaphore}
-use Rattle.execmodel.specs.State.{Block, Heap}
-use Rattle.execmodel.specs.Memory.{extents, block_at}
-use Rattle.execmodel.specs.Semaphores.{waiters_in, waiters_of, waiters_of_object, has_waiter, awaited_by}
-use Rattle.execmodel.specs.Agreement.{Agrees}
+use Rattle.execmodel.specs.{State.Block, State.Heap, Memory.extents, Memory.block_at, Semaphores.waiters_in, Semaphores.waiters_of, Semaphores.waiters_of_object, Semaphores.has_waiter, Semaphores.awaited_by, Agreement.Agrees}
 use Rattle.execlist.specs.Lists.{times}
-use Rattle.execmodel.proofs.Heaps.{true_is_not_false}
-use Rattle.execmodel.proofs.Commands.{none_some}
-use Rattle.execmodel.proofs.Fifo.{both_false}
-use Rattle.execmodel.proofs.Agreement.{never_away, first_stands, later_stands, only_there, waits_at, running_state}
-use Rattle.execmodel.proofs.Passing.{IsNowhere, WaitsAtOne}
+use Rattle.execmodel.proofs.{Heaps.true_is_not_false, Commands.none_some, Fifo.both_false, Agreement.never_away, Agreement.first_stands, Agreement.later_stands, Agreement.only_there, Agreement.waits_at, Agreement.running_state, Passing.IsNowhere, Passing.WaitsAtOne}
 
 -- one who is found in a queue is there, and one who is not does not
 waiter_stands : (t : ℕ) (q : List ℕ) → list_any (λ other. other == t) q ≡ true → 0 < times t q

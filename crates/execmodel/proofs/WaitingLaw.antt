@@ -1,47 +1,16 @@
 -- The queues agree with the schedule in every state of every run, and tasks get a semaphore in the order in which they asked.
-use Rattle.std.proofs.Common.{◌≡◌, ℕ, suc, ◌<◌, Bool, true, false, List, [], ◌∷◌, ◌++◌, Option, None, Some, length, refl, sym, ap, ◌∙◌, subst}
-use Rattle.std.specs.Prelude.{not, if◌then◌else◌, ◌&&◌, map, replicate, slice_set}
-use Rattle.std.proofs.lemmas.List.{length-set, length-replicate}
-use Rattle.std.proofs.lemmas.Grind.{flat_map-append}
+use Rattle.std.proofs.Common.{◌≡◌, ℕ, suc, ◌<◌, Bool, true, false, List, [], ◌∷◌, ◌++◌, Option, None, Some, length, refl, sym, ap, ◌∙◌, subst, not, if◌then◌else◌, ◌&&◌, map, replicate, slice_set, length-set}
+use Rattle.std.proofs.lemmas.{List.length-replicate, Grind.flat_map-append}
 use Rattle.signals.specs.Signals.{after_post}
-use Rattle.taskq.specs.Tasks.{Tasks, is_live}
-use Rattle.taskq.specs.declared.TaskState.{TaskState}
 use Rattle.taskq.specs.declared.TaskState.TheVariants.{Absent, Running, Removed, Waiting}
-use Rattle.taskq.specs.declared.Why.TheVariants.{Signals}
+use Rattle.taskq.specs.{Tasks.Tasks, Tasks.is_live, declared.TaskState.TaskState, declared.Why.TheVariants.Signals}
 use Rattle.scheduler.specs.Schedule.{Schedule, status_of, signals_of, is_absent, awaits, begins, renewed, is_switching_allowed, is_quantum_over, leaves as leaves_for_good, removed, departs, ticked, ticked_for, waits_for, waits_at_semaphore, with_signals}
-use Rattle.scheduler.specs.declared.Switch.{Switch}
-use Rattle.scheduler.specs.declared.Switch.TheVariants.{To, Idle}
-use Rattle.taskscript.specs.File.{MachineData}
-use Rattle.taskscript.specs.Machines.{IsMachine}
-use Rattle.taskscript.specs.declared.event.Event.{Event}
-use Rattle.execmodel.specs.State.{Call, Mark, State, Outcome, on_schedule, begun, booted, andthen}
-use Rattle.scheduler.specs.Dispatch.{arrives, added, displaced, after_switch, rescheduled, switch_of, signalled}
-use Rattle.taskscript.specs.Commands.{CommandData}
-use Rattle.execmodel.specs.Calls.{next_call}
-use Rattle.execmodel.specs.Bodies.{body_step}
-use Rattle.execmodel.specs.Semaphores.{waiters_of}
-use Rattle.execmodel.specs.Step.{switches, ends, starts, events, run}
-use Rattle.execmodel.specs.Marks.{semaphore_turn, turns_at_semaphore}
-use Rattle.execlist.specs.Lists.{times}
-use Rattle.execlist.specs.Disciplines.{by_arrival}
-use Rattle.execmodel.specs.Laws.{QueuesAgreeWithTheSchedule, SemaphoresPassInOrder, times_waiting}
-use Rattle.execmodel.proofs.Queues.{Follows, IsOnce, follows_more, follows_once, in_order}
-use Rattle.execmodel.proofs.Itself.{does_itself, call_works, call_shifts}
-use Rattle.execmodel.proofs.Stretches.{Relation, HoldsOfEach, clock_gains, of_starts, of_events}
-use Rattle.execmodel.proofs.Commands.{IsCalm, Reaches, rests, posts}
-use Rattle.execmodel.proofs.Telling.{body_alters}
-use Rattle.execmodel.specs.Requests.{finishes}
-use Rattle.execmodel.proofs.Posts.{IsTidy}
-use Rattle.execmodel.proofs.Asking.{finishing, without_reply}
-use Rattle.execmodel.proofs.Works.{Works, by_moves, by_asking, by_taking}
-use Rattle.execmodel.proofs.TidyLaw.{tidies, rescheduled_tidy, booted_tidy, quietly, switches_quiet}
-use Rattle.execmodel.proofs.OwnersLaw.{called_idle}
-use Rattle.execmodel.proofs.Owners.{AllIdle, touched_idle, asked_idle}
-use Rattle.execmodel.proofs.Passing.{dropped_left, touched_pass, moves_pass, asked_pass, taken_pass}
-use Rattle.execmodel.proofs.Shifts.{Shifts, reaches, rearrives, adds, takes, sleeps, asks, wakes, leaves, removes}
+use Rattle.scheduler.specs.{declared.Switch.Switch, declared.Switch.TheVariants.To, declared.Switch.TheVariants.Idle, Dispatch.arrives, Dispatch.added, Dispatch.displaced, Dispatch.after_switch, Dispatch.rescheduled, Dispatch.switch_of, Dispatch.signalled}
+use Rattle.taskscript.specs.{File.MachineData, Machines.IsMachine, declared.event.Event.Event, Commands.CommandData}
+use Rattle.execmodel.specs.{State.Call, State.Mark, State.State, State.Outcome, State.on_schedule, State.begun, State.booted, State.andthen, Calls.next_call, Bodies.body_step, Semaphores.waiters_of, Step.switches, Step.ends, Step.starts, Step.events, Step.run, Marks.semaphore_turn, Marks.turns_at_semaphore, Laws.QueuesAgreeWithTheSchedule, Laws.SemaphoresPassInOrder, Laws.times_waiting, Requests.finishes}
+use Rattle.execlist.specs.{Lists.times, Disciplines.by_arrival}
 use Rattle.execmodel.proofs.Agreement.{AllAgree, all_absent, absent_agrees, alike_agrees, rearrives_agrees, added_agrees, signalled_agrees, stops_agrees, asks_agrees, wakes_agrees, removed_agrees, rescheduled_agrees, waits_at, running_state}
-use Rattle.execmodel.proofs.Waiting.{waits_at_one, runs_nowhere}
-use Rattle.execmodel.proofs.Versions.{word_settings}
+use Rattle.execmodel.proofs.{Queues.Follows, Queues.IsOnce, Queues.follows_more, Queues.follows_once, Queues.in_order, Itself.does_itself, Itself.call_works, Itself.call_shifts, Stretches.Relation, Stretches.HoldsOfEach, Stretches.clock_gains, Stretches.of_starts, Stretches.of_events, Commands.IsCalm, Commands.Reaches, Commands.rests, Commands.posts, Telling.body_alters, Posts.IsTidy, Asking.finishing, Asking.without_reply, Works.Works, Works.by_moves, Works.by_asking, Works.by_taking, TidyLaw.tidies, TidyLaw.rescheduled_tidy, TidyLaw.booted_tidy, TidyLaw.quietly, TidyLaw.switches_quiet, OwnersLaw.called_idle, Owners.AllIdle, Owners.touched_idle, Owners.asked_idle, Passing.dropped_left, Passing.touched_pass, Passing.moves_pass, Passing.asked_pass, Passing.taken_pass, Shifts.Shifts, Shifts.reaches, Shifts.rearrives, Shifts.adds, Shifts.takes, Shifts.sleeps, Shifts.asks, Shifts.wakes, Shifts.leaves, Shifts.removes, Waiting.waits_at_one, Waiting.runs_nowhere, Versions.word_settings}
 
 -- ---- there are as many states as programs
 

@@ -1,38 +1,18 @@
 -- What a call makes of the blocks and of the requests that wait: it makes one of a few things of the blocks, and the same requests wait; or a request
 -- asks something else, or is replied; or its reply is taken out of its port.
-use Rattle.std.proofs.Common.{[], ◌≡◌, ◌≢◌, ℕ, ◌+◌, ◌<◌, Bool, true, false, List, ◌∷◌, ◌++◌, Option, None, Some, refl, sym, ap, ◌∙◌, subst, arith}
-use Rattle.std.specs.Prelude.{ℤ, pos, negsuc, not, cond, ◌&&◌, ◌||◌, ◌==◌, if◌then◌else◌, nat_eq}
+use Rattle.std.proofs.Common.{[], ◌≡◌, ◌≢◌, ℕ, ◌+◌, ◌<◌, Bool, true, false, List, ◌∷◌, ◌++◌, Option, None, Some, refl, sym, ap, ◌∙◌, subst, arith, ℤ, pos, negsuc, not, cond, ◌&&◌, ◌||◌, ◌==◌, if◌then◌else◌, nat_eq, option_map}
 use Rattle.std.specs.List.{list_any}
-use Rattle.std.specs.Option.{option_map}
-use Rattle.memlist.proofs.Answered.{nat_eq-same, nat_eq-other, cases_eq, key_same, key_other}
-use Rattle.memlist.proofs.Keeping.{rising_sorted}
-use Rattle.memlist.proofs.Merged.{IsRising}
-use Rattle.memlist.proofs.Slots.{AllFrom}
+use Rattle.memlist.proofs.{Answered.nat_eq-same, Answered.nat_eq-other, Answered.cases_eq, Answered.key_same, Answered.key_other, Keeping.rising_sorted, Merged.IsRising, Slots.AllFrom}
 use Rattle.scheduler.specs.Schedule.{Schedule}
 use Rattle.msgport.specs.declared.action.Action.{Action}
-use Rattle.iorequest.specs.declared.request.Request.{Request as TimerRequest}
-use Rattle.iorequest.specs.declared.request.ReqState.{ReqState}
-use Rattle.iorequest.specs.declared.request.ReqState.TheVariants.{Replied}
-use Rattle.iorequest.specs.declared.request.Begun.{Begun}
 use Rattle.iorequest.specs.declared.request.Begun.TheVariants.{Finish, Queue, Until, NewTime}
 use Rattle.iorequest.specs.Request.{idle_request, is_under_way, is_to_wait, is_until, is_open, asks_time, sets_time, told, begun, finished, done_state, outcome, reply_port}
+use Rattle.iorequest.specs.{declared.request.Request.Request as TimerRequest, declared.request.ReqState.ReqState, declared.request.ReqState.TheVariants.Replied, declared.request.Begun.Begun}
 use Rattle.execmodel.specs.State.{Call, Object, Request, Block, Heap, Due, AtClock, AtSystem, Memory, Mark, out, put, State, Outcome, on_schedule, on_memory}
-use Rattle.execmodel.specs.Calls.{done, answered, waiting}
-use Rattle.execmodel.specs.Objects.{object_at, is_kind, place_for_object}
-use Rattle.execmodel.specs.GivingWay.{after_asking_for_object}
-use Rattle.execmodel.specs.Memory.{extents, block_at, placed, makes_object}
-use Rattle.execmodel.specs.Ports.{is_port_at, is_queued, has_message, messages_in, messages_of, messages_of_object, performed, port_alert, wait_alert}
 use Rattle.execmodel.specs.Requests.{is_request, is_request_at, request_size, request_of, request_of_object, with_request, is_command, resting_alert, delete_request_alert, set_io_alert, can_begin, begin_alert, send_alert, do_alert, state_alert, answering_port, where_port, acting_at, appended_at, finished_at, with_reply, ended, heap_begun, timer_begun, outcome_at, begun_at, answering_begun, replying_port, reply_taken, looks_for, begins_and_looks, aborts}
-use Rattle.execmodel.specs.Agreement.{once_if}
-use Rattle.execmodel.specs.Laws.{times_waiting}
-use Rattle.execmodel.proofs.Heaps.{true_is_not_false}
-use Rattle.execmodel.proofs.GivingWay.{asking_for_object_keeps}
-use Rattle.execmodel.proofs.Queues.{IsAway}
-use Rattle.execmodel.proofs.Posts.{Post, APort, post_at, messages_at, is_a_port, may_stand, IsTidy, messages_are, request_is, port_is, request_there}
+use Rattle.execmodel.specs.{Calls.done, Calls.answered, Calls.waiting, Objects.object_at, Objects.is_kind, Objects.place_for_object, GivingWay.after_asking_for_object, Memory.extents, Memory.block_at, Memory.placed, Memory.makes_object, Ports.is_port_at, Ports.is_queued, Ports.has_message, Ports.messages_in, Ports.messages_of, Ports.messages_of_object, Ports.performed, Ports.port_alert, Ports.wait_alert, Agreement.once_if, Laws.times_waiting}
 use Rattle.execmodel.proofs.Asking.{Asks, writes, IsLoose, IsRewritten, ports_written, request_written, written_again, waits_last, finished_rests, answering, reply_marks, reply_asks, ended_asks, without_reply}
-use Rattle.execmodel.proofs.Fifo.{is_away}
-use Rattle.execmodel.proofs.Commands.{none_some, passed_first, passed_other, is_port_there, performed_memory}
-use Rattle.execmodel.proofs.Moves.{Makes, MayGo, IsUnneeded, stays, both_true, mail_unneeded, object_makes}
+use Rattle.execmodel.proofs.{Heaps.true_is_not_false, GivingWay.asking_for_object_keeps, Queues.IsAway, Posts.Post, Posts.APort, Posts.post_at, Posts.messages_at, Posts.is_a_port, Posts.may_stand, Posts.IsTidy, Posts.messages_are, Posts.request_is, Posts.port_is, Posts.request_there, Fifo.is_away, Commands.none_some, Commands.passed_first, Commands.passed_other, Commands.is_port_there, Commands.performed_memory, Moves.Makes, Moves.MayGo, Moves.IsUnneeded, Moves.stays, Moves.both_true, Moves.mail_unneeded, Moves.object_makes}
 
 pub data Works (t : ℕ) (call : Call) (s : State) (o : Outcome) : Type 0 where
   by_moves : Makes t call s o → o.state.memory.timer.waiting ≡ s.memory.timer.waiting → Works t call s o

@@ -2,10 +2,8 @@
 use Rattle.std.specs.Prelude.{◌≡◌, ℕ, Bool, true, false, if◌then◌else◌, nat_eq, List}
 use Rattle.execlist.specs.Lists.{is_at, times}
 use Rattle.taskq.specs.Tasks.{is_ready}
-use Rattle.scheduler.specs.Schedule.{Schedule, status_of, is_at_semaphore}
-use Rattle.scheduler.specs.Sound.{is_running}
-use Rattle.execmodel.specs.Blocks.{Heap}
-use Rattle.execmodel.specs.Semaphores.{waiters_of}
+use Rattle.scheduler.specs.{Schedule.Schedule, Schedule.status_of, Schedule.is_at_semaphore, Sound.is_running}
+use Rattle.execmodel.specs.{Blocks.Heap, Semaphores.waiters_of}
 
 -- once if the test says so, and else not at all
 abbrev pub once_if : Bool → ℕ

@@ -3,8 +3,7 @@
 use Rattle.std.specs.Prelude.{ℕ, Bool, List}
 use Rattle.memlist.specs.declared.region.Region.{Region}
 use Rattle.execlist.specs.Lists.{Key}
-use Rattle.msgport.specs.Port.{Port}
-use Rattle.msgport.specs.declared.message.Message.{Message as Content}
+use Rattle.msgport.specs.{Port.Port, declared.message.Message.Message as Content}
 use Rattle.sigsem.specs.declared.semaphore.Sem.{Sem}
 use Rattle.iorequest.specs.declared.request.Request.{Request as TimerRequest}
 use Rattle.taskscript.specs.File.{LibraryData}

@@ -2,9 +2,7 @@
 use Rattle.std.specs.Prelude.{ℕ, [], unwrap_or}
 use Rattle.taskscript.specs.declared.word.interrupts.InterruptWord.{InterruptWord}
 use Rattle.taskscript.specs.declared.word.interrupts.InterruptWord.TheVariants as word
-use Rattle.execmodel.specs.State.{Call, State, Outcome}
-use Rattle.execmodel.specs.Calls.{Caller, ByTask, name_argument, done_by}
-use Rattle.execmodel.specs.Pending.{causes, softint_named}
+use Rattle.execmodel.specs.{State.Call, State.State, State.Outcome, Calls.Caller, Calls.ByTask, Calls.name_argument, Calls.done_by, Pending.causes, Pending.softint_named}
 
 -- Cause name: the software interrupt of that name is caused (autodoc exec.library/Cause)
 abbrev pub does_cause_by : Caller → Call → State → Outcome

@@ -1,12 +1,7 @@
 -- A call as a value: the alert that refuses it, what it makes of the blocks of memory, and what it answers. It changes nothing else, but that its
 -- caller goes on. Each word of lists is such a value, and each of memory.
-use Rattle.std.specs.Prelude.{ℕ, Bool, List, Option, None, Some}
-use Rattle.std.specs.Option.{unwrap_or}
-use Rattle.execmodel.specs.State.{Call, Object, Heap, Memory, State, Outcome, on_memory}
-use Rattle.execmodel.specs.Calls.{done, answered, unless}
-use Rattle.execmodel.specs.Places.{placed, freed}
-use Rattle.execmodel.specs.Objects.{place_for_object}
-use Rattle.execmodel.specs.GivingWay.{after_asking_for_object}
+use Rattle.std.specs.Prelude.{ℕ, Bool, List, Option, None, Some, unwrap_or}
+use Rattle.execmodel.specs.{State.Call, State.Object, State.Heap, State.Memory, State.State, State.Outcome, State.on_memory, Calls.done, Calls.answered, Calls.unless, Places.placed, Places.freed, Objects.place_for_object, GivingWay.after_asking_for_object}
 
 -- the alert that refuses the call, if one does; else the blocks after it, and what it answers, if it answers: all of the memory before the call
 pub record Deed : Type 0 where

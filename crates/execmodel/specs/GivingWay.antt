@@ -2,11 +2,8 @@
 -- project rule). In version 1 of the rules they do not.
 use Rattle.std.specs.Prelude.{ℕ, Bool, not, ◌&&◌, if◌then◌else◌, nat_eq, is_some, length, List, [], ◌∷◌, Option, None, Some}
 use Rattle.std.specs.List.{range_with_len}
-use Rattle.execmodel.specs.Blocks.{Object, Memory}
-use Rattle.execmodel.specs.Places.{place_for}
-use Rattle.execmodel.specs.Objects.{is_allowed}
+use Rattle.execmodel.specs.{Blocks.Object, Blocks.Memory, Places.place_for, Objects.is_allowed, Loaded.base_of, Loaded.removed}
 use Rattle.execlib.specs.Libraries.{public_memory}
-use Rattle.execmodel.specs.Loaded.{base_of, removed}
 
 -- a library, if it is loaded, is expunged under low memory as if it were removed: it is freed if it is not open, and else is to be expunged when it is
 -- closed for the last time

@@ -2,19 +2,13 @@
 use Rattle.std.specs.Prelude.{ℕ, ℤ, zero, suc, pos, false, if◌then◌else◌, List, [], ◌∷◌, Option, None, Some, length, map, filter, slice_index_or}
 use Rattle.std.specs.List.{range_with_len}
 use Rattle.exectrace.specs.Trace.{Serve, Server, Softint}
-use Rattle.execlist.specs.Order.{chosen, without}
-use Rattle.execlist.specs.Disciplines.{pri_at}
-use Rattle.softint.specs.Sources.{is_source}
-use Rattle.softint.specs.declared.source.Source.{Source}
+use Rattle.execlist.specs.{Order.chosen, Order.without, Disciplines.pri_at}
+use Rattle.softint.specs.{Sources.is_source, declared.source.Source.Source}
 use Rattle.softint.specs.declared.source.Source.TheVariants as source
-use Rattle.taskscript.specs.File.{SoftintData, ServerData}
-use Rattle.taskscript.specs.Sources.{source_text}
+use Rattle.taskscript.specs.{File.SoftintData, File.ServerData, Sources.source_text}
 use Rattle.taskscript.specs.declared.source.Source.TheVariants as named
 use Rattle.scheduler.specs.Schedule.{Schedule, ticked}
-use Rattle.execmodel.specs.State.{Bodies, State, Outcome, quiet, says, andthen, unless_stopped, on_schedule, on_pending}
-use Rattle.execmodel.specs.Pending.{source_named, caused_no_more, with_latch_of, next_source}
-use Rattle.execmodel.specs.Bodies.{runs_body}
-use Rattle.execmodel.specs.Requests.{finishes_all_due}
+use Rattle.execmodel.specs.{State.Bodies, State.State, State.Outcome, State.quiet, State.says, State.andthen, State.unless_stopped, State.on_schedule, State.on_pending, Pending.source_named, Pending.caused_no_more, Pending.with_latch_of, Pending.next_source, Bodies.runs_body, Requests.finishes_all_due}
 
 -- ---- software interrupts
 

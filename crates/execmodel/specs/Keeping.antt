@@ -1,29 +1,8 @@
 -- What the words of a group leave as it is. An alert stops the machine, whatever the word.
 use Rattle.std.specs.Prelude.{◌≡◌, ℕ, false, [], None}
-use Rattle.taskscript.specs.declared.word.plain.PlainWord.{PlainWord}
-use Rattle.taskscript.specs.declared.word.task_signals.SignalWord.{SignalWord}
-use Rattle.taskscript.specs.declared.word.nesting.NestingWord.{NestingWord}
-use Rattle.taskscript.specs.declared.word.tasks.TaskWord.{TaskWord}
-use Rattle.taskscript.specs.declared.word.lists.ListWord.{ListWord}
-use Rattle.taskscript.specs.declared.word.memory.MemoryWord.{MemoryWord}
-use Rattle.taskscript.specs.declared.word.ports.PortWord.{PortWord}
-use Rattle.taskscript.specs.declared.word.semaphores.SemaphoreWord.{SemaphoreWord}
-use Rattle.taskscript.specs.declared.word.interrupts.InterruptWord.{InterruptWord}
-use Rattle.taskscript.specs.declared.word.libraries.LibraryWord.{LibraryWord}
-use Rattle.taskscript.specs.declared.word.requests.RequestWord.{RequestWord}
+use Rattle.taskscript.specs.{declared.word.plain.PlainWord.PlainWord, declared.word.task_signals.SignalWord.SignalWord, declared.word.nesting.NestingWord.NestingWord, declared.word.tasks.TaskWord.TaskWord, declared.word.lists.ListWord.ListWord, declared.word.memory.MemoryWord.MemoryWord, declared.word.ports.PortWord.PortWord, declared.word.semaphores.SemaphoreWord.SemaphoreWord, declared.word.interrupts.InterruptWord.InterruptWord, declared.word.libraries.LibraryWord.LibraryWord, declared.word.requests.RequestWord.RequestWord}
 use Rattle.scheduler.specs.Schedule.{Schedule}
-use Rattle.execmodel.specs.State.{Call, Timer, Memory, Pending, Program, Scripts, State, Outcome, andthen, program_of, with_program}
-use Rattle.execmodel.specs.Plain.{does_plain}
-use Rattle.execmodel.specs.Signals.{does_signals}
-use Rattle.execmodel.specs.Nesting.{does_nesting}
-use Rattle.execmodel.specs.Tasks.{does_tasks}
-use Rattle.execmodel.specs.Lists.{does_lists}
-use Rattle.execmodel.specs.Memory.{does_memory}
-use Rattle.execmodel.specs.Ports.{does_ports}
-use Rattle.execmodel.specs.Semaphores.{does_semaphores}
-use Rattle.execmodel.specs.Causing.{does_interrupts}
-use Rattle.execmodel.specs.Libraries.{does_libraries}
-use Rattle.execmodel.specs.Requests.{does_requests, finishes_set}
+use Rattle.execmodel.specs.{State.Call, State.Timer, State.Memory, State.Pending, State.Program, State.Scripts, State.State, State.Outcome, State.andthen, State.program_of, State.with_program, Plain.does_plain, Signals.does_signals, Nesting.does_nesting, Tasks.does_tasks, Lists.does_lists, Memory.does_memory, Ports.does_ports, Semaphores.does_semaphores, Causing.does_interrupts, Libraries.does_libraries, Requests.does_requests, Requests.finishes_set}
 
 -- ---- parts blanked out
 

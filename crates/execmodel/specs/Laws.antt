@@ -1,52 +1,23 @@
 -- Laws of every run: of each machine that a file may state, and each list of events.
-use Rattle.std.specs.Prelude.{◌≡◌, ◌≢◌, ◌⊎◌, ℕ, zero, suc, ◌*◌, ◌≤◌, ◌<◌, ◌≤ℤ◌, map, sum_by, length, Bool, true, false, nat_eq, bit_and, count_by, All, List, [], ◌∷◌, ◌++◌, Option, None, Some, is_some, slice_get, codes}
+use Rattle.std.specs.Prelude.{◌≡◌, ◌≢◌, ◌⊎◌, ℕ, zero, suc, ◌*◌, ◌≤◌, ◌<◌, ◌≤ℤ◌, map, sum_by, length, Bool, true, false, nat_eq, bit_and, count_by, All, List, [], ◌∷◌, ◌++◌, Option, None, Some, is_some, slice_get, codes, option_map}
 use Rattle.exectrace.specs.Trace.{Argument, Value, Quoted, Switch, Serve, TraceLine, printed_line}
-use Rattle.taskscript.specs.declared.word.row.Kind.{Kind}
+use Rattle.taskscript.specs.declared.word.libraries.LibraryWord.TheVariants.{CloseLibrary, RemLibrary}
+use Rattle.taskscript.specs.{declared.word.row.Kind.Kind, Words.kinds, File.MachineData, Machines.IsMachine, declared.event.Event.Event, declared.word.Word.Word, declared.word.semaphores.SemaphoreWord.TheVariants.ReleaseSemaphore, declared.word.memory.MemoryWord.TheVariants.FreeMem, Events.ticks as event_ticks}
 use Rattle.taskscript.specs.declared.word.row.Kind.TheVariants as kind
-use Rattle.taskscript.specs.Words.{kinds}
-use Rattle.memlist.specs.declared.region.Region.{Region}
-use Rattle.memlist.specs.Pieces.{AreDisjoint, IsTiled}
-use Rattle.execlist.specs.Order.{chosen}
+use Rattle.memlist.specs.{declared.region.Region.Region, Pieces.AreDisjoint, Pieces.IsTiled}
+use Rattle.execlist.specs.{Order.chosen, Disciplines.pri_at, Lists.times}
 use Rattle.signals.specs.Signals.{has_signal}
-use Rattle.execlist.specs.Disciplines.{pri_at}
-use Rattle.taskq.specs.declared.TaskState.TheVariants.{Waiting}
-use Rattle.taskq.specs.declared.Why.TheVariants.{Signals}
+use Rattle.taskq.specs.{declared.TaskState.TheVariants.Waiting, declared.Why.TheVariants.Signals}
 use Rattle.scheduler.specs.Schedule.{Schedule, name_of, priority_of, status_of, signals_of, is_switching_allowed}
-use Rattle.softint.specs.declared.source.Source.{Source}
-use Rattle.softint.specs.declared.source.Source.TheVariants.{Vertb}
-use Rattle.softint.specs.Sources.{is_latched}
-use Rattle.taskscript.specs.File.{MachineData}
-use Rattle.taskscript.specs.Machines.{IsMachine}
-use Rattle.taskscript.specs.declared.event.Event.{Event}
-use Rattle.taskscript.specs.declared.word.Word.{Word}
+use Rattle.softint.specs.{declared.source.Source.Source, declared.source.Source.TheVariants.Vertb, Sources.is_latched}
 use Rattle.taskscript.specs.declared.word.Word.TheVariants as group
 use Rattle.taskscript.specs.declared.word.task_signals.SignalWord.TheVariants as signals
 use Rattle.taskscript.specs.declared.word.ports.PortWord.TheVariants as ports
 use Rattle.taskscript.specs.declared.word.requests.RequestWord.TheVariants as requests
-use Rattle.taskscript.specs.declared.word.semaphores.SemaphoreWord.TheVariants.{ReleaseSemaphore}
 use Rattle.execmodel.specs.State.{Call, Scripts, Object, Plain, Block, Heap, Memory, Waiting as Queued, Mark, State, Outcome, on_schedule, on_memory, on_pending, on_timer, booted}
-use Rattle.execmodel.specs.Calls.{argument, alerted, next_call, call_in_body}
-use Rattle.std.specs.Option.{option_map}
-use Rattle.taskscript.specs.declared.word.libraries.LibraryWord.TheVariants.{CloseLibrary, RemLibrary}
-use Rattle.taskscript.specs.declared.word.memory.MemoryWord.TheVariants.{FreeMem}
-use Rattle.execmodel.specs.Keeping.{without_blocks}
-use Rattle.execmodel.specs.GivingWay.{gives_way, after_asking, after_asking_for_object}
-use Rattle.execmodel.specs.Libraries.{is_library_at, number_of, count_of, is_delayed, ready_to_open}
-use Rattle.execmodel.specs.Memory.{block_at, extents, place_for, does_memory}
-use Rattle.execmodel.specs.Objects.{object_at}
-use Rattle.execmodel.specs.Ports.{is_port_at, messages_of, after_asking_for_port}
-use Rattle.execmodel.specs.Requests.{request_of}
+use Rattle.execmodel.specs.{Calls.argument, Calls.alerted, Calls.next_call, Calls.call_in_body, Keeping.without_blocks, GivingWay.gives_way, GivingWay.after_asking, GivingWay.after_asking_for_object, Libraries.is_library_at, Libraries.number_of, Libraries.count_of, Libraries.is_delayed, Libraries.ready_to_open, Memory.block_at, Memory.extents, Memory.place_for, Memory.does_memory, Objects.object_at, Ports.is_port_at, Ports.messages_of, Ports.after_asking_for_port, Requests.request_of, Semaphores.sem_of, Semaphores.waiters_of, Pending.allows_interrupts, Pending.next_softint, Pending.with_latch_of, Interrupts.interrupts, Interrupts.runs_softint, Interrupts.softint_at, Interrupts.server_at, Step.does, Step.ends, Step.acts, Step.step, Step.tick, Step.request, Step.settle, Step.switches, Step.all_added, Step.starts, Step.events, Step.run, Agreement.Agrees, Agreement.once_if, Queues.IsInOrder, Marks.turns_at_port, Marks.turns_at_semaphore}
 use Rattle.iorequest.specs.Request.{is_under_way, sets_time, time_of}
 use Rattle.timerdev.specs.Timing.{offset, ticked}
-use Rattle.execmodel.specs.Semaphores.{sem_of, waiters_of}
-use Rattle.execmodel.specs.Pending.{allows_interrupts, next_softint, with_latch_of}
-use Rattle.execmodel.specs.Interrupts.{interrupts, runs_softint, softint_at, server_at}
-use Rattle.execmodel.specs.Step.{does, ends, acts, step, tick, request, settle, switches, all_added, starts, events, run}
-use Rattle.execmodel.specs.Agreement.{Agrees, once_if}
-use Rattle.execlist.specs.Lists.{times}
-use Rattle.taskscript.specs.Events.{ticks as event_ticks}
-use Rattle.execmodel.specs.Queues.{IsInOrder}
-use Rattle.execmodel.specs.Marks.{turns_at_port, turns_at_semaphore}
 
 -- Something holds in every state that a run comes to. A state in the midst of an event is the last one of the run of other events: of those
 -- before, and of that one cut short.

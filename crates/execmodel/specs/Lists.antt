@@ -2,17 +2,11 @@
 -- lists, nor twice in one. An address if no object of the kind begins is the alert HANDLE; a node that is linked if it must not
 -- be, or the other way, is the alert LINK (project rule).
 use Rattle.std.specs.Prelude.{ℕ, zero, suc, ℤ, Bool, true, false, not, ◌-◌, ◌==◌, if◌then◌else◌, nat_eq, is_some, length, map, take, drop, find, unwrap_or, codes, List, [], ◌∷◌, ◌++◌, Option, None, Some, ⊤}
-use Rattle.std.specs.List.{list_any}
-use Rattle.std.specs.Int.{cast_signed, w32}
-use Rattle.execlist.specs.Order.{enqueue, first, without}
-use Rattle.execlist.specs.Lists.{Key, blank, last, name_is, part_after, part_before, put_after}
+use Rattle.std.specs.{List.list_any, Int.cast_signed, Int.w32}
+use Rattle.execlist.specs.{Order.enqueue, Order.first, Order.without, Lists.Key, Lists.blank, Lists.last, Lists.name_is, Lists.part_after, Lists.part_before, Lists.put_after}
 use Rattle.taskscript.specs.declared.word.lists.ListWord.{ListWord}
 use Rattle.taskscript.specs.declared.word.lists.ListWord.TheVariants as word
-use Rattle.execmodel.specs.State.{Call, Object, ListHead, Node, Block, Heap, State, Outcome}
-use Rattle.execmodel.specs.Calls.{argument, name_argument}
-use Rattle.execmodel.specs.Deeds.{Deed, performs, changes, takes, reads, frees, makes}
-use Rattle.execmodel.specs.Objects.{object_at, is_kind}
-use Rattle.execmodel.specs.Tasks.{is_priority}
+use Rattle.execmodel.specs.{State.Call, State.Object, State.ListHead, State.Node, State.Block, State.Heap, State.State, State.Outcome, Calls.argument, Calls.name_argument, Deeds.Deed, Deeds.performs, Deeds.changes, Deeds.takes, Deeds.reads, Deeds.frees, Deeds.makes, Objects.object_at, Objects.is_kind, Tasks.is_priority}
 
 -- ---- lists and nodes in memory
 

@@ -1,9 +1,7 @@
 -- Libraries that are loaded (RKM Libraries, Exec Libraries): each begins at an address, its base, and is removed there.
-use Rattle.std.specs.Prelude.{ℕ, Bool, true, false, if◌then◌else◌, nat_eq, find, map, Option}
-use Rattle.std.specs.Option.{option_map, option_map_or}
-use Rattle.execmodel.specs.Blocks.{Object, Library, Block, Heap, Memory, on_heap}
-use Rattle.execmodel.specs.Places.{freed}
-use Rattle.execmodel.specs.Objects.{object_at, is_kind, replaced}
+use Rattle.std.specs.Prelude.{ℕ, Bool, true, false, if◌then◌else◌, nat_eq, find, map, Option, option_map}
+use Rattle.std.specs.Option.{option_map_or}
+use Rattle.execmodel.specs.{Blocks.Object, Blocks.Library, Blocks.Block, Blocks.Heap, Blocks.Memory, Blocks.on_heap, Places.freed, Objects.object_at, Objects.is_kind, Objects.replaced}
 
 -- the object is a loaded library
 abbrev pub is_library : Object → Bool

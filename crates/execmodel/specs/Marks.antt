@@ -1,8 +1,6 @@
 -- What the marks of a run say of one port, and of one semaphore.
-use Rattle.std.specs.Prelude.{ℕ, if◌then◌else◌, nat_eq, List, [], ◌∷◌}
-use Rattle.std.specs.List.{flat_map}
-use Rattle.execmodel.specs.State.{Mark, put, got, out, asked, passed, left}
-use Rattle.execmodel.specs.Queues.{Turn, Came, Served, Left}
+use Rattle.std.specs.Prelude.{ℕ, if◌then◌else◌, nat_eq, List, [], ◌∷◌, flat_map}
+use Rattle.execmodel.specs.{State.Mark, State.put, State.got, State.out, State.asked, State.passed, State.left, Queues.Turn, Queues.Came, Queues.Served, Queues.Left}
 
 -- a turn, if it is at that address
 abbrev pub turn_at : ℕ → ℕ → Turn → List Turn

@@ -1,13 +1,11 @@
 -- Forbid and Disable (RKM Libraries, Exec Tasks: forbidding task switching). Each task has two counts of its own, which hold again
 -- when it runs again. A count out of its range is the alert NEST (project rule).
-use Rattle.std.specs.Prelude.{ℕ, Bool, not, if◌then◌else◌, codes, List, Option, None, Some, ⊤}
-use Rattle.std.specs.Option.{is_some}
+use Rattle.std.specs.Prelude.{ℕ, Bool, not, if◌then◌else◌, codes, List, Option, None, Some, ⊤, is_some}
 use Rattle.forbid.specs.Nesting.{Nesting, after_forbid, after_permit, after_disable, after_enable}
 use Rattle.scheduler.specs.Schedule.{nesting_of, nested}
 use Rattle.taskscript.specs.declared.word.nesting.NestingWord.{NestingWord}
 use Rattle.taskscript.specs.declared.word.nesting.NestingWord.TheVariants as word
-use Rattle.execmodel.specs.State.{Call, State, Outcome, on_schedule}
-use Rattle.execmodel.specs.Calls.{done, unless}
+use Rattle.execmodel.specs.{State.Call, State.State, State.Outcome, State.on_schedule, Calls.done, Calls.unless}
 
 -- the alert of such a call: the count has no room for it
 abbrev pub nest_alert : Bool → Option (List ℕ)

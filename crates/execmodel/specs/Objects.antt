@@ -1,9 +1,7 @@
 -- Objects: what begins at an address, and where a new object goes. An object takes a block of its own, with MEMF_PUBLIC (project rule).
-use Rattle.std.specs.Prelude.{ℕ, Bool, false, if◌then◌else◌, nat_eq, nat_lt, filter, length, Option, None, Some}
-use Rattle.std.specs.Option.{option_map}
+use Rattle.std.specs.Prelude.{ℕ, Bool, false, if◌then◌else◌, nat_eq, nat_lt, filter, length, Option, None, Some, option_map}
 use Rattle.execlib.specs.Libraries.{public_memory}
-use Rattle.execmodel.specs.Blocks.{Object, Block, Heap, Memory}
-use Rattle.execmodel.specs.Places.{block_at, place_for}
+use Rattle.execmodel.specs.{Blocks.Object, Blocks.Block, Blocks.Heap, Blocks.Memory, Places.block_at, Places.place_for}
 
 -- the object that begins at an address, if a block does
 abbrev pub object_at : ℕ → Heap → Option Object

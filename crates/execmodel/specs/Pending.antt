@@ -3,14 +3,11 @@
 -- said of either discipline. A source asks to be served by a latch: further requests before the serving are the same one.
 use Rattle.std.specs.Prelude.{ℕ, ℤ, Bool, not, ◌&&◌, ◌==◌, if◌then◌else◌, nat_lt, bytes_eq, length, map, List, Option, None}
 use Rattle.std.specs.List.{list_any, position_or_len}
-use Rattle.execlist.specs.Order.{without}
-use Rattle.execlist.specs.Disciplines.{Discipline, by_arrival, pri_at}
-use Rattle.softint.specs.Sources.{with_latch, highest}
-use Rattle.softint.specs.declared.source.Source.{Source}
+use Rattle.execlist.specs.{Order.without, Disciplines.Discipline, Disciplines.by_arrival, Disciplines.pri_at}
+use Rattle.softint.specs.{Sources.with_latch, Sources.highest, declared.source.Source.Source}
 use Rattle.softint.specs.declared.source.Source.TheVariants as source
-use Rattle.taskscript.specs.declared.source.Source.{Source as Named}
+use Rattle.taskscript.specs.{declared.source.Source.Source as Named, File.SoftintData}
 use Rattle.taskscript.specs.declared.source.Source.TheVariants as named
-use Rattle.taskscript.specs.File.{SoftintData}
 use Rattle.scheduler.specs.Schedule.{Schedule, is_interrupting_allowed}
 use Rattle.execmodel.specs.State.{Pending, State, on_pending}
 

@@ -1,11 +1,8 @@
 -- If blocks begin and if there is place for more (RKM Libraries, Exec Memory Allocation). The gaps of a region are what its blocks
 -- leave; they are stored nowhere.
 use Rattle.std.specs.Prelude.{ℕ, not, nat_eq, map, Option, None, Some}
-use Rattle.std.specs.Ordering.{nat_cmp}
-use Rattle.std.specs.FinMap.{find, put}
-use Rattle.std.specs.FinMap.Entries.{where_key}
-use Rattle.memlist.specs.Blocks.{Blocks}
-use Rattle.memlist.specs.Fit.{fit, round}
+use Rattle.std.specs.{Ordering.nat_cmp, FinMap.find, FinMap.put, FinMap.Entries.where_key}
+use Rattle.memlist.specs.{Blocks.Blocks, Fit.fit, Fit.round}
 use Rattle.execmodel.specs.Blocks.{Object, Block, Heap, Memory}
 
 -- the block that begins at an address

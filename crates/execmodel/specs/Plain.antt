@@ -2,8 +2,7 @@
 use Rattle.std.specs.Prelude.{ℕ, ◌+◌, ◌-◌, ◌%◌, ◌^◌, if◌then◌else◌, nat_eq, bit_and, bit_or, ⊤}
 use Rattle.taskscript.specs.declared.word.plain.PlainWord.{PlainWord}
 use Rattle.taskscript.specs.declared.word.plain.PlainWord.TheVariants as word
-use Rattle.execmodel.specs.State.{Call, State, Outcome, quiet, on_scripts}
-use Rattle.execmodel.specs.Calls.{Caller, ByTask, argument, done, silent_by, goes_on}
+use Rattle.execmodel.specs.{State.Call, State.State, State.Outcome, State.quiet, State.on_scripts, Calls.Caller, Calls.ByTask, Calls.argument, Calls.done, Calls.silent_by, Calls.goes_on}
 
 -- Set a: answers a
 abbrev pub does_set_by : Caller → Call → State → Outcome

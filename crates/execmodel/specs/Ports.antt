@@ -3,31 +3,18 @@
 -- greatest priority that have it. An address if no object of the kind begins is the alert HANDLE; a message or a port that is linked
 -- if it must not be, or the other way, is the alert LINK; a port in use, or not the caller's to wait at, is the alert PORT (project rule).
 use Rattle.std.specs.Prelude.{ℕ, ℤ, negsuc, ◌^◌, Bool, true, false, not, ◌&&◌, ◌==◌, if◌then◌else◌, nat_eq, is_some, map, filter, drop, unwrap_or, codes, List, [], ◌∷◌, ◌++◌, Option, None, Some, ⊤}
-use Rattle.std.specs.List.{list_any}
-use Rattle.std.specs.Int.{cast_signed, w32}
-use Rattle.execlist.specs.Order.{chosen, first}
-use Rattle.execlist.specs.Lists.{name_is}
-use Rattle.execlist.specs.Disciplines.{by_arrival}
+use Rattle.std.specs.{List.list_any, Int.cast_signed, Int.w32}
+use Rattle.execlist.specs.{Order.chosen, Order.first, Lists.name_is, Disciplines.by_arrival}
 use Rattle.signals.specs.Signals.{grant}
-use Rattle.scheduler.specs.Schedule.{Schedule, signals_of, allocates, clears_and_waits, frees, sets_signals}
-use Rattle.msgport.specs.declared.action.Action.{Action}
-use Rattle.msgport.specs.declared.action.Action.TheVariants as action
-use Rattle.msgport.specs.declared.action.PortAction.{PortAction}
+use Rattle.scheduler.specs.{Schedule.Schedule, Schedule.signals_of, Schedule.allocates, Schedule.clears_and_waits, Schedule.frees, Schedule.sets_signals, Dispatch.signalled}
 use Rattle.msgport.specs.declared.action.PortAction.TheVariants.{Signal, Cause, Ignore}
-use Rattle.msgport.specs.declared.message.Message.{Message as Content}
-use Rattle.msgport.specs.Port.{Port, acting, new_port, wait_bit}
-use Rattle.msgport.specs.Ports.{new_message, nt_freemsg, nt_message, nt_replymsg}
+use Rattle.msgport.specs.{declared.action.Action.Action, declared.action.PortAction.PortAction, declared.message.Message.Message as Content, Port.Port, Port.acting, Port.new_port, Port.wait_bit, Ports.new_message, Ports.nt_freemsg, Ports.nt_message, Ports.nt_replymsg}
+use Rattle.msgport.specs.declared.action.Action.TheVariants as action
 use Rattle.iorequest.specs.Request.{is_under_way}
 use Rattle.taskscript.specs.declared.word.ports.PortWord.{PortWord}
 use Rattle.taskscript.specs.declared.word.ports.PortWord.TheVariants as word
 use Rattle.execmodel.specs.State.{Call, Object, MsgPort, Message, Request, Block, Heap, PublicPort, Memory, State, Outcome, put, got, leaving, on_schedule, on_memory, on_heap}
-use Rattle.execmodel.specs.Calls.{Caller, ByTask, argument, name_argument, done, done_by, answered, answered_by, waiting, unless, unless_by}
-use Rattle.scheduler.specs.Dispatch.{signalled}
-use Rattle.execmodel.specs.Pending.{causes, softint_named}
-use Rattle.execmodel.specs.GivingWay.{after_asking_for_object}
-use Rattle.execmodel.specs.Memory.{makes_object, freed, placed}
-use Rattle.execmodel.specs.Objects.{object_at, is_kind, place_for_object, replaced}
-use Rattle.execmodel.specs.Tasks.{is_priority}
+use Rattle.execmodel.specs.{Calls.Caller, Calls.ByTask, Calls.argument, Calls.name_argument, Calls.done, Calls.done_by, Calls.answered, Calls.answered_by, Calls.waiting, Calls.unless, Calls.unless_by, Pending.causes, Pending.softint_named, GivingWay.after_asking_for_object, Memory.makes_object, Memory.freed, Memory.placed, Objects.object_at, Objects.is_kind, Objects.place_for_object, Objects.replaced, Tasks.is_priority}
 
 -- ---- ports and messages in memory
 

@@ -6,26 +6,16 @@ use Rattle.std.specs.Prelude.{ℕ, zero, suc, ℤ, pos, negsuc, ◌^◌, Bool, t
 use Rattle.std.specs.Int.{cast_unsigned, w32}
 use Rattle.exectrace.specs.Trace.{Timer}
 use Rattle.execlist.specs.Order.{without}
-use Rattle.msgport.specs.declared.action.Action.{Action}
+use Rattle.msgport.specs.{declared.action.Action.Action, Port.acting}
 use Rattle.msgport.specs.declared.action.Action.TheVariants as action
-use Rattle.msgport.specs.Port.{acting}
 use Rattle.scheduler.specs.Schedule.{clears_and_waits}
-use Rattle.iorequest.specs.declared.request.Request.{Request as TimerRequest}
-use Rattle.iorequest.specs.declared.request.ReqState.{ReqState}
 use Rattle.iorequest.specs.declared.request.ReqState.TheVariants.{Idle, UnderWay, Quick, Replied}
-use Rattle.iorequest.specs.declared.request.Begun.{Begun}
 use Rattle.iorequest.specs.declared.request.Begun.TheVariants.{Finish, Queue, Until, NewTime}
-use Rattle.iorequest.specs.Request.{idle_request, is_open, is_under_way, begun, finished, outcome, reply_port}
-use Rattle.iorequest.specs.Requests.{is_unit, unit_error}
+use Rattle.iorequest.specs.{declared.request.Request.Request as TimerRequest, declared.request.ReqState.ReqState, declared.request.Begun.Begun, Request.idle_request, Request.is_open, Request.is_under_way, Request.begun, Request.finished, Request.outcome, Request.reply_port, Requests.is_unit, Requests.unit_error}
 use Rattle.taskscript.specs.declared.word.requests.RequestWord.{RequestWord}
 use Rattle.taskscript.specs.declared.word.requests.RequestWord.TheVariants as word
 use Rattle.execmodel.specs.State.{Call, Object, Request, Heap, AtClock, AtSystem, Timer as Clock, Memory, State, Outcome, put, out, leaving, quiet, says, andthen, on_schedule, on_memory, on_heap, on_timer}
-use Rattle.execmodel.specs.Calls.{argument, name_argument, done, answered, waiting, unless}
-use Rattle.execmodel.specs.GivingWay.{after_asking_for_object}
-use Rattle.execmodel.specs.Memory.{makes_object, freed}
-use Rattle.execmodel.specs.Objects.{object_at, is_kind, replaced}
-use Rattle.execmodel.specs.Ports.{appended, is_port_at, is_queued, loses, messages_of, performed, port_alert, port_of, wait_alert, with_port}
-use Rattle.execmodel.specs.Semaphores.{is_tried_again}
+use Rattle.execmodel.specs.{Calls.argument, Calls.name_argument, Calls.done, Calls.answered, Calls.waiting, Calls.unless, GivingWay.after_asking_for_object, Memory.makes_object, Memory.freed, Objects.object_at, Objects.is_kind, Objects.replaced, Ports.appended, Ports.is_port_at, Ports.is_queued, Ports.loses, Ports.messages_of, Ports.performed, Ports.port_alert, Ports.port_of, Ports.wait_alert, Ports.with_port, Semaphores.is_tried_again}
 use Rattle.timerdev.specs.Timing.{begins_to_wait, due_next, looked_at, system_set, until_next, waits_no_more}
 
 -- ---- requests in memory

@@ -1,24 +1,17 @@
 -- Signal semaphores (RKM Libraries, Exec Semaphores). A semaphore has an owner or none, how often the owner has to release it, and the tasks
 -- that wait for it, in order of request. An address if no semaphore begins is the alert HANDLE; a semaphore that is owned if it must
 -- not be, or not owned by the caller, or obtained too often is the alert SEM (project rule).
-use Rattle.std.specs.Prelude.{ℕ, ◌==◌, Bool, true, false, not, if◌then◌else◌, is_some, drop, find, map, codes, List, [], ◌∷◌, ◌++◌, Option, None, Some, ⊤}
+use Rattle.std.specs.Prelude.{ℕ, ◌==◌, Bool, true, false, not, if◌then◌else◌, is_some, drop, find, map, codes, List, [], ◌∷◌, ◌++◌, Option, None, Some, ⊤, option_map}
 use Rattle.std.specs.List.{list_any}
-use Rattle.std.specs.Option.{option_map}
-use Rattle.execlist.specs.Order.{first, without}
-use Rattle.execlist.specs.Disciplines.{by_arrival}
-use Rattle.scheduler.specs.Schedule.{waits_at_semaphore}
-use Rattle.sigsem.specs.declared.semaphore.Sem.{Sem}
-use Rattle.sigsem.specs.declared.semaphore.Obtained.{Obtained}
+use Rattle.execlist.specs.{Order.first, Order.without, Disciplines.by_arrival}
+use Rattle.scheduler.specs.{Schedule.waits_at_semaphore, Dispatch.arrives}
 use Rattle.sigsem.specs.declared.semaphore.Obtained.TheVariants.{Owner, Waits}
 use Rattle.sigsem.specs.Semaphores.{free_sem, is_last, is_open, is_owned, is_owner, is_too_deep, once_less, once_more, outcome_for, owned_next}
+use Rattle.sigsem.specs.{declared.semaphore.Sem.Sem, declared.semaphore.Obtained.Obtained}
 use Rattle.taskscript.specs.declared.word.semaphores.SemaphoreWord.{SemaphoreWord}
 use Rattle.taskscript.specs.declared.word.semaphores.SemaphoreWord.TheVariants as word
 use Rattle.execmodel.specs.State.{Call, Scripts, Object, Semaphore, Block, Heap, State, Outcome, asked, passed, left, leaving, program_of, on_schedule, on_memory, on_heap}
-use Rattle.execmodel.specs.Calls.{argument, done, answered, waiting, unless}
-use Rattle.scheduler.specs.Dispatch.{arrives}
-use Rattle.execmodel.specs.GivingWay.{after_asking_for_object}
-use Rattle.execmodel.specs.Memory.{makes_object, freed}
-use Rattle.execmodel.specs.Objects.{object_at, is_kind, replaced}
+use Rattle.execmodel.specs.{Calls.argument, Calls.done, Calls.answered, Calls.waiting, Calls.unless, GivingWay.after_asking_for_object, Memory.makes_object, Memory.freed, Objects.object_at, Objects.is_kind, Objects.replaced}
 
 -- ---- semaphores in memory
 

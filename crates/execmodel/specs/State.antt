@@ -2,13 +2,9 @@
 -- queue is a sequence in order of arrival.
 use Rattle.std.specs.Prelude.{ℕ, Bool, false, if◌then◌else◌, nat_eq, List, [], ◌∷◌, ◌++◌, Option, None, map, length, replicate, slice_index_or, slice_set}
 use Rattle.exectrace.specs.Trace.{Argument, TraceLine}
-use Rattle.taskscript.specs.declared.word.Word.{Word}
-use Rattle.taskscript.specs.declared.variable.Variable.{Variable}
-use Rattle.taskscript.specs.Commands.{CommandData}
-use Rattle.taskscript.specs.File.{MachineData, SoftintData, ServerData, TaskData}
+use Rattle.taskscript.specs.{declared.word.Word.Word, declared.variable.Variable.Variable, Commands.CommandData, File.MachineData, File.SoftintData, File.ServerData, File.TaskData}
 use Rattle.scheduler.specs.Schedule.{Schedule, unstarted}
-use Rattle.softint.specs.Sources.{no_latches}
-use Rattle.softint.specs.declared.latches.Latches.{Latches}
+use Rattle.softint.specs.{Sources.no_latches, declared.latches.Latches.Latches}
 use Rattle.timerdev.specs.Timing.{new_timer}
 pub use Rattle.execmodel.specs.Blocks.{Object, Plain, ListHead, Node, MsgPort, Message, Semaphore, Library, Request, Block, Heap, PublicPort, Due, AtClock, AtSystem, Waiting, Timer, Memory, on_heap, on_timer}
 

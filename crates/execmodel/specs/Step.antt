@@ -3,33 +3,15 @@ use Rattle.std.specs.Prelude.{ℕ, zero, suc, true, if◌then◌else◌, List, [
 use Rattle.execlist.specs.Disciplines.{by_arrival}
 use Rattle.exectrace.specs.Trace.{Value, Done, Switch, Idle}
 use Rattle.exectrace.specs.Trace as trace
-use Rattle.taskscript.specs.declared.word.Word.{Word}
 use Rattle.taskscript.specs.declared.word.Word.TheVariants.{Plain, Signals, Nesting, Tasks, Lists, Memory, Ports, Semaphores, Interrupts, Libraries, Requests}
-use Rattle.taskscript.specs.declared.event.Event.{Event}
 use Rattle.taskscript.specs.declared.event.Event.TheVariants.{Run, Tick, Irq}
-use Rattle.taskscript.specs.File.{MachineData}
-use Rattle.scheduler.specs.Schedule.{Schedule, name_of, leaves}
-use Rattle.scheduler.specs.declared.Switch.{Switch as Choice}
+use Rattle.taskscript.specs.{declared.word.Word.Word, declared.event.Event.Event, File.MachineData}
+use Rattle.scheduler.specs.{Schedule.Schedule, Schedule.name_of, Schedule.leaves, declared.Switch.Switch as Choice, Dispatch.switch_of, Dispatch.rescheduled, Dispatch.added}
 use Rattle.scheduler.specs.declared.Switch.TheVariants as switch
 use Rattle.execmodel.specs.State.{Call, Scripts, State, Outcome, quiet, says, andthen, unless_stopped, program_of, on_schedule, on_memory, on_pending, on_timer, booted}
-use Rattle.scheduler.specs.Dispatch.{switch_of, rescheduled, added}
-use Rattle.execmodel.specs.Pending.{source_named, with_latch_of, next_softint}
-use Rattle.execmodel.specs.Interrupts.{interrupts, runs_softint}
-use Rattle.execmodel.specs.Calls.{next_call}
-use Rattle.execmodel.specs.Plain.{does_plain}
-use Rattle.execmodel.specs.Signals.{does_signals}
-use Rattle.execmodel.specs.Nesting.{does_nesting}
-use Rattle.execmodel.specs.Tasks.{does_tasks}
-use Rattle.execmodel.specs.Lists.{does_lists}
-use Rattle.execmodel.specs.Memory.{does_memory}
-use Rattle.execmodel.specs.Ports.{does_ports}
-use Rattle.execmodel.specs.Semaphores.{does_semaphores}
-use Rattle.execmodel.specs.Causing.{does_interrupts}
-use Rattle.execmodel.specs.Libraries.{does_libraries}
-use Rattle.execmodel.specs.Requests.{does_requests, finishes_set}
+use Rattle.execmodel.specs.{Pending.source_named, Pending.with_latch_of, Pending.next_softint, Interrupts.interrupts, Interrupts.runs_softint, Calls.next_call, Plain.does_plain, Signals.does_signals, Nesting.does_nesting, Tasks.does_tasks, Lists.does_lists, Memory.does_memory, Ports.does_ports, Semaphores.does_semaphores, Causing.does_interrupts, Libraries.does_libraries, Requests.does_requests, Requests.finishes_set}
 use Rattle.timerdev.specs.Timing.{ticked}
-use Rattle.softint.specs.declared.source.Source.{Source}
-use Rattle.softint.specs.declared.source.Source.TheVariants.{Vertb}
+use Rattle.softint.specs.{declared.source.Source.Source, declared.source.Source.TheVariants.Vertb}
 
 -- ---- settle
 

@@ -3,8 +3,7 @@ ghost use Rattle.std.specs.Prelude.{◌≡◌, true, List};
 ghost use Rattle.taskscript.specs.declared.event.Event.{Event};
 ghost use Rattle.execmodel.specs.Keeping.{PlainWordsChangeScripts, SignalWordsChangeSignalsAndStates, NestingWordsChangeNestings, TaskWordsChangeStatesPrioritiesAndObjects, ListWordsChangeTheMemory, MemoryWordsChangeTheMemory, PortWordsChangePortsSignalsAndStates, SemaphoreWordsChangeStatesAndObjects, InterruptWordsChangeWhatIsCaused, LibraryWordsChangeTheMemory, RequestWordsChangeRequestsPortsSignalsAndStates};
 ghost use Rattle.execmodel.specs.Laws.{FirstInFirstOut, EachByteHasOneOwner, FreeMemRefusesObjects, OwnersChangeAtTheLastRelease, FreeSemaphoresHaveNoWaiters, SemaphoresPassInOrder, QueuesAgreeWithTheSchedule, EachStateIsSettled, SwitchesGoToTheChosen, EachSwitchLineIsAChoice, OnlySwitchesSaySo, WaitersHaveReceivedNone, ReceivedSignalsStay, InterruptsKeepNestings, ThreeServingsAtMost, OpenLibrariesStay, LibrariesHaveOneBase, LibrariesAreAskedInVersionTwo, UnaskedLibrariesStay, UnaskedMemoryStays, AskingChangesTheBlocks, ReplyPortsLive, RequestsUnderWayWait, TheClockCountsTicks, SystemTimeGoesWithTheClock, CallsFitTheirWords, LinesAreShort, LibrariesGiveWayAsFarAsNeeded, OnlyClosedLibrariesGiveWay};
-ghost use Rattle.execmodel.specs.State.{State, Outcome, quiet, andthen, unless_stopped};
-ghost use Rattle.execmodel.specs.Step.{event, events};
+ghost use Rattle.execmodel.specs.{State.State, State.Outcome, State.quiet, State.andthen, State.unless_stopped, Step.event, Step.events};
 
 /// After an alert no event does anything: the state stays as it is, no line is printed and no mark is left. If an alert comes between
 /// two parts of an action, as in the midst of a body or of a settle, the second part does nothing.

@@ -1,12 +1,8 @@
 -- The time that is left to a machine after each of some turns.
-use Rattle.std.proofs.Common.{◌≡◌, ℕ, suc, ◌+◌, ◌*◌, ◌<◌, List, length, get_or, drop, ap, ◌∙◌, arith}
-use Rattle.std.specs.Prelude.{sum_by}
-use Rattle.std.proofs.Math.Nat.{suc-mul}
+use Rattle.std.proofs.Common.{◌≡◌, ℕ, suc, ◌+◌, ◌*◌, ◌<◌, List, length, get_or, drop, ap, ◌∙◌, arith, sum_by, suc-mul}
 use Rattle.std.proofs.lemmas.List.Sums.{sum_by-drop_more}
-use Rattle.taskscript.specs.Events.{ticks as ticks_of}
-use Rattle.taskscript.specs.declared.event.Event.{Event}
-use Rattle.execsim.specs.Agreement.{Seen}
-use Rattle.execsim.specs.Time.{HasTimeFor}
+use Rattle.taskscript.specs.{Events.ticks as ticks_of, declared.event.Event.Event}
+use Rattle.execsim.specs.{Agreement.Seen, Time.HasTimeFor}
 use Rattle.execsim.proofs.Clock.{time_for_fewer}
 
 pub more_time : (j k t : ℕ) → (j + 1) * k + t ≡ j * k + (k + t)

@@ -1,6 +1,5 @@
 -- What two calls of `arg` make of a command, here and in the programs that take the same two paths.
-use Rattle.std.proofs.Common.{◌≡◌, ◌<◌, ◌∙◌, Bool, ℕ, zero, suc, List, [], ◌∷◌, true, false, Option, refl, sym, ap, ap₂, subst, inl, inr, arith, slice_index, codes, is_some}
-use Rattle.std.specs.List.{All}
+use Rattle.std.proofs.Common.{◌≡◌, ◌<◌, ◌∙◌, Bool, ℕ, zero, suc, List, [], ◌∷◌, true, false, Option, refl, sym, ap, ap₂, subst, inl, inr, arith, slice_index, codes, is_some, All}
 use Rattle.clap.specs.Words.{IsPlainArg, Text, app_of, args_of, first_of, first_value, found_of, App, IsParsedFrom, groups_of, is_simple, is_simple_and_free, matches_of, rule_of, with_rule, AddsArg, HasMatchesOf}
 use Rattle.clap.specs.Built.{FitsChain, HasDistinctIds, TakesValue}
 use Rattle.clap.specs.declared.builder.arg.Arg.{Arg}

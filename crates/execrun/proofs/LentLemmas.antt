@@ -2,21 +2,11 @@
 use Rattle.std.proofs.Common.{◌≡◌, ℕ, Bool, List, [], ◌∷◌, None, Some, Result, Ok, Err, option_map, ap, sym, subst}
 use Rattle.std.proofs.KnownBytes.{Appends-nil}
 use Rattle.std.specs.Io.KnownBytes.{Appends, Keeps, WriteAppends}
-use Rattle.exectrace.specs.Sink.{Tape}
-use Rattle.exectrace.specs.declared.sinks.SinkState.{SinkState}
-use Rattle.exectrace.specs.declared.sinks.SinkState.TheVariants.{Good}
-use Rattle.taskscript.specs.File.{MachineData, file_of}
-use Rattle.taskscript.specs.Events.{script_of}
-use Rattle.taskscript.specs.declared.event.Event.{Event}
-use Rattle.taskscript.specs.declared.fault.FileFault.{FileFault}
-use Rattle.taskscript.specs.declared.fault.EventFault.{EventFault}
-use Rattle.execsim.specs.Headline.{Simulates}
-use Rattle.execsim.specs.declared.simulation.End.{End}
-use Rattle.execsim.specs.declared.simulation.SimFault.{SimFault}
+use Rattle.exectrace.specs.{Sink.Tape, declared.sinks.SinkState.SinkState, declared.sinks.SinkState.TheVariants.Good}
+use Rattle.taskscript.specs.{File.MachineData, File.file_of, Events.script_of, declared.event.Event.Event, declared.fault.FileFault.FileFault, declared.fault.EventFault.EventFault}
+use Rattle.execsim.specs.{Headline.Simulates, declared.simulation.End.End, declared.simulation.SimFault.SimFault}
 use Rattle.execsim.specs.declared.simulation.SimFault.TheVariants as fault
-use Rattle.execrun.specs.Lending.{named}
-use Rattle.execrun.specs.Running.{Held, WritesTrace, answer_of}
-use Rattle.execrun.specs.declared.fault.Fault.{Fault}
+use Rattle.execrun.specs.{Lending.named, Running.Held, Running.WritesTrace, Running.answer_of, declared.fault.Fault.Fault}
 
 pub Keeps-named : (name : ℕ) (old new : Held) → Keeps old new → Keeps (named name old) (named name new)
 Keeps-named name None new p = tt

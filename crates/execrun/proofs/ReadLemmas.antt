@@ -1,6 +1,5 @@
 -- What is reported of a text.
-use Rattle.std.proofs.Common.{◌≡◌, ℕ, List, Option, None, Some}
-use Rattle.std.specs.Prelude.{IfSome}
+use Rattle.std.proofs.Common.{◌≡◌, ℕ, List, Option, None, Some, IfSome}
 use Rattle.execrun.specs.Texts.{Opens}
 
 -- what is reported of a text is what a reader has before it

@@ -8,23 +8,13 @@ use Rattle.clap.specs.Kinds.{HasKind, Kinds}
 use Rattle.clap.specs.declared.error.Error.{Error}
 use Rattle.clap.specs.declared.error.kind.ErrorKind.TheVariants.{OutOfMemory}
 use Rattle.exectrace.specs.Sink.{Tape}
-use Rattle.taskscript.specs.File.{file_of}
-use Rattle.taskscript.specs.Events.{script_of}
-use Rattle.execsim.specs.Headline.{RunsWhole, Simulates}
-use Rattle.execsim.specs.declared.simulation.End.{End}
-use Rattle.execsim.specs.declared.simulation.End.TheVariants.{Ran}
+use Rattle.taskscript.specs.{File.file_of, Events.script_of}
+use Rattle.execsim.specs.{Headline.RunsWhole, Headline.Simulates, declared.simulation.End.End, declared.simulation.End.TheVariants.Ran, declared.simulation.SimFault.SimFault}
 use Rattle.execsim.specs.declared.simulation.End.TheVariants as end
-use Rattle.execsim.specs.declared.simulation.SimFault.{SimFault}
 use Rattle.execsim.specs.declared.simulation.SimFault.TheVariants as sim
-use Rattle.execrun.specs.CommandLine.{AreRight, two_paths}
-use Rattle.execrun.specs.Ending.{code_of, ending_after, status_of}
-use Rattle.execrun.specs.Fault.{fault_of}
 use Rattle.execrun.specs.Running.{EndsRun, Held, IsGivenIn, ReadsNothing, RunsGiven, RunsWords, WritesWhole, answer_of, good_sink}
-use Rattle.execrun.specs.Texts.{TextAt}
-use Rattle.execrun.specs.declared.ending.Ending.{Ending}
-use Rattle.execrun.specs.declared.ending.Ending.TheVariants.{Failed}
-use Rattle.execrun.specs.declared.fault.Fault.{Fault}
 use Rattle.execrun.specs.declared.fault.Fault.TheVariants.{Machine, Events, NoMemory, CannotRead, WriteFailed}
+use Rattle.execrun.specs.{CommandLine.AreRight, CommandLine.two_paths, Ending.code_of, Ending.ending_after, Ending.status_of, Fault.fault_of, Texts.TextAt, declared.ending.Ending.Ending, declared.ending.Ending.TheVariants.Failed, declared.fault.Fault.Fault}
 
 -- if words are right, clap fails when out of memory alone
 lacks_memory : (kinds : Kinds) (error : Error) → kinds ≡ [] → HasKind kinds error → kind_of error ≡ OutOfMemory

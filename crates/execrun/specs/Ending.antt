@@ -1,16 +1,11 @@
 -- The ends of the program: the status that represents each, and which of them go without a word on standard error.
-use Rattle.std.specs.Prelude.{⊤, ℕ, List, Option}
+use Rattle.std.specs.Prelude.{⊤, ℕ, List, Option, Result, Ok, Err}
 use Rattle.std.specs.Io.KnownBytes.{Appends, Keeps}
-use Rattle.std.specs.declared.result.Result.{Result}
-use Rattle.std.specs.declared.result.Result.TheVariants.{Ok, Err}
-use Rattle.execsim.specs.declared.simulation.End.{End}
 use Rattle.execsim.specs.declared.simulation.End.TheVariants.{Ran, Alerted}
-use Rattle.execrun.specs.Fault.{line_of}
-use Rattle.execrun.specs.declared.fault.Fault.{Fault}
+use Rattle.execsim.specs.declared.simulation.End.{End}
 use Rattle.execrun.specs.declared.fault.Fault.TheVariants.{Machine, Events}
-use Rattle.execrun.specs.declared.ending.Ending.{Ending}
+use Rattle.execrun.specs.{Fault.line_of, declared.fault.Fault.Fault, declared.ending.Ending.Ending, declared.ending.Status.Status}
 use Rattle.execrun.specs.declared.ending.Ending.TheVariants as ending
-use Rattle.execrun.specs.declared.ending.Status.{Status}
 use Rattle.execrun.specs.declared.ending.Status.TheVariants as status
 
 -- the end of the program after a simulation

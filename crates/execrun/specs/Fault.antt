@@ -4,10 +4,9 @@ use Rattle.taskscript.specs.declared.fault.FileFault.TheVariants as file
 use Rattle.taskscript.specs.declared.fault.EventFault.TheVariants as event
 use Rattle.execsim.specs.declared.simulation.SimFault.{SimFault}
 use Rattle.execsim.specs.declared.simulation.SimFault.TheVariants as sim
-use Rattle.execrun.specs.declared.fault.Fault.{Fault}
 use Rattle.execrun.specs.declared.fault.Fault.TheVariants.{Machine, Events, NoMemory, CannotRead, WriteFailed}
+use Rattle.execrun.specs.{declared.fault.Fault.Fault, Message.event_fault_text}
 use Rattle.taskscript.specs.Faults.{file_fault_name}
-use Rattle.execrun.specs.Message.{event_fault_text}
 
 -- memory that a reader was refused is memory that was refused
 abbrev pub fault_of : SimFault → Fault

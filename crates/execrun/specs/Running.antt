@@ -1,23 +1,12 @@
 -- What the program does with two paths: the files that it reads, the trace that it writes, and the end that comes of it.
-use Rattle.std.specs.Borrow.{Bor}
+use Rattle.std.specs.{Borrow.Bor, Io.KnownBytes.Appends, Io.KnownBytes.Keeps}
 use Rattle.std.specs.Prelude.{◌≡◌, ◌≤◌, ◌⊎◌, ℕ, Bool, true, false, List, length, codes, Option, Some, Result, Ok, Err}
-use Rattle.std.specs.Io.KnownBytes.{Appends, Keeps}
 use Rattle.clap.specs.Words.{Text, first_of, matches_of}
-use Rattle.exectrace.specs.Sink.{Tape}
-use Rattle.exectrace.specs.declared.sinks.SinkState.TheVariants.{Good}
-use Rattle.taskscript.specs.File.{file_of}
-use Rattle.taskscript.specs.Events.{script_of}
-use Rattle.execsim.specs.Headline.{RunsWhole, Simulates}
-use Rattle.execsim.specs.declared.simulation.End.{End}
-use Rattle.execsim.specs.declared.simulation.SimFault.{SimFault}
-use Rattle.execrun.specs.CommandLine.{AreGivenBy, two_paths}
-use Rattle.execrun.specs.Ending.{code_of, ending_after, status_of}
-use Rattle.execrun.specs.Fault.{fault_of}
-use Rattle.execrun.specs.Texts.{TextAt, IsTextAt}
-use Rattle.execrun.specs.declared.command_line.Paths.{Paths}
-use Rattle.execrun.specs.declared.ending.Ending.{Ending}
-use Rattle.execrun.specs.declared.fault.Fault.{Fault}
+use Rattle.exectrace.specs.{Sink.Tape, declared.sinks.SinkState.TheVariants.Good}
+use Rattle.taskscript.specs.{File.file_of, Events.script_of}
+use Rattle.execsim.specs.{Headline.RunsWhole, Headline.Simulates, declared.simulation.End.End, declared.simulation.SimFault.SimFault}
 use Rattle.execrun.specs.declared.fault.Fault.TheVariants.{NoMemory, CannotRead, WriteFailed}
+use Rattle.execrun.specs.{CommandLine.AreGivenBy, CommandLine.two_paths, Ending.code_of, Ending.ending_after, Ending.status_of, Fault.fault_of, Texts.TextAt, Texts.IsTextAt, declared.command_line.Paths.Paths, declared.ending.Ending.Ending, declared.fault.Fault.Fault}
 
 -- the bytes that a writer holds, if it reports them
 abbrev pub Held : Type 0

@@ -4,8 +4,7 @@ ghost use Rattle.std.specs.Io.KnownBytes.{Appends};
 ghost use Rattle.clap.specs.Words.{FailsBy, IsPlainArg, fault_of, kind_of, rule_of};
 ghost use Rattle.clap.specs.Built.{TakesValue};
 ghost use Rattle.clap.specs.Walk.{texts};
-ghost use Rattle.execrun.specs.CommandLine.{AreGivenBy, TakesTwoPaths, path_rule, two_paths};
-ghost use Rattle.execrun.specs.Running.{Grows};
+ghost use Rattle.execrun.specs.{CommandLine.AreGivenBy, CommandLine.TakesTwoPaths, CommandLine.path_rule, CommandLine.two_paths, Running.Grows};
 
 use crate::fault::Fault;
 use clap::error::ErrorKind;

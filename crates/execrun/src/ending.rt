@@ -1,8 +1,7 @@
 //! How the program ends: what it says on standard error, and its status.
 ghost use Rattle.std.specs.Prelude.{◌≡◌, IfSome, IsOk, OnOk, Some};
 ghost use Rattle.std.specs.Io.KnownBytes.{Appends};
-ghost use Rattle.execrun.specs.Fault.{line_of};
-ghost use Rattle.execrun.specs.Ending.{IsSilent, Says, code_of, ending_after, status_of};
+ghost use Rattle.execrun.specs.{Fault.line_of, Ending.IsSilent, Ending.Says, Ending.code_of, Ending.ending_after, Ending.status_of};
 
 use crate::fault::Fault;
 use execsim::End;

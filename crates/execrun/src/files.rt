@@ -1,7 +1,6 @@
 //! The text at a path.
 ghost use Rattle.std.specs.Prelude.{◌≡◌, ◌≤◌, ◌⊎◌, IfErr, IfOk, vec_len};
-ghost use Rattle.execrun.specs.Reading.{fault_at};
-ghost use Rattle.execrun.specs.Texts.{IsTextAt};
+ghost use Rattle.execrun.specs.{Reading.fault_at, Texts.IsTextAt};
 
 use crate::fault::Fault;
 use crate::texts::Texts;

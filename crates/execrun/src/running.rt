@@ -3,10 +3,8 @@ ghost use Rattle.std.specs.Prelude.{◌≡◌, ◌≢◌, ◌≤◌, ◌⊎◌};
 ghost use Rattle.std.specs.Io.KnownBytes.{Keeps};
 ghost use Rattle.clap.specs.Walk.{texts as words_of};
 ghost use Rattle.clap.specs.Words.{kind_of};
-ghost use Rattle.execrun.specs.CommandLine.{AreRefused, AreRight, AskForHelp, two_paths};
-ghost use Rattle.execrun.specs.Ending.{status_of};
-ghost use Rattle.execrun.specs.Texts.{nothing_told};
 ghost use Rattle.execrun.specs.Running.{EndsRun, Grows, IsOneOf, ReadsNothing, RunsFiles, RunsWords, WritesTrace, WritesWhole, answer_of};
+ghost use Rattle.execrun.specs.{CommandLine.AreRefused, CommandLine.AreRight, CommandLine.AskForHelp, CommandLine.two_paths, Ending.status_of, Texts.nothing_told};
 
 use crate::command_line::{Paths, paths_given, write_answer};
 use crate::ending::{Ending, Status, report};

@@ -1,22 +1,12 @@
 -- How the public calls follow from what the machine does without its failure to write.
-use Rattle.std.proofs.Common.{◌≡◌, ℕ, ◌+◌, Bool, true, false, refl, ap, sym, ◌∙◌, arith}
-use Rattle.std.specs.Prelude.{List, Result, Ok, Err, IsOk}
-use Rattle.exectrace.specs.Sink.{Tape}
-use Rattle.exectrace.specs.declared.sinks.SinkState.TheVariants.{Good}
-use Rattle.exectrace.specs.declared.sinks.WriteFault.{WriteFault}
+use Rattle.std.proofs.Common.{◌≡◌, ℕ, ◌+◌, Bool, true, false, refl, ap, sym, ◌∙◌, arith, List, Result, Ok, Err, IsOk}
+use Rattle.exectrace.specs.{Sink.Tape, declared.sinks.SinkState.TheVariants.Good, declared.sinks.WriteFault.WriteFault}
 use Rattle.exectrace.proofs.Pieces.{puts_written}
-use Rattle.taskscript.specs.File.{MachineData}
-use Rattle.taskscript.specs.declared.event.Event.{Event}
-use Rattle.taskscript.specs.declared.fault.FileFault.{FileFault}
-use Rattle.taskscript.specs.declared.fault.EventFault.{EventFault}
-use Rattle.execmodel.specs.State.{State, Outcome, andthen, booted}
-use Rattle.execmodel.specs.Step.{starts, events, run}
-use Rattle.execsim.specs.Agreement.{Seen, Agrees, FollowsWhileGood}
-use Rattle.execsim.specs.declared.machine.Flow.{Flow}
-use Rattle.execsim.specs.Reached.{IsReached}
-use Rattle.execsim.specs.Time.{HasTimeFor, IsKnown}
-use Rattle.execsim.proofs.Clock.{Gains, time_left}
+use Rattle.taskscript.specs.{File.MachineData, declared.event.Event.Event, declared.fault.FileFault.FileFault, declared.fault.EventFault.EventFault}
+use Rattle.execmodel.specs.{State.State, State.Outcome, State.andthen, State.booted, Step.starts, Step.events, Step.run}
 use Rattle.execsim.specs.Headline.{Shown, Acts, Finishes, Simulates, flow_of, end_of, end_for, ended}
+use Rattle.execsim.specs.{Agreement.Seen, Agreement.Agrees, Agreement.FollowsWhileGood, declared.machine.Flow.Flow, Reached.IsReached, Time.HasTimeFor, Time.IsKnown}
+use Rattle.execsim.proofs.Clock.{Gains, time_left}
 
 pub acts_by : {next : State → Outcome} {old new : Shown} {a b : Tape} {result : Result Flow WriteFault}
     → FollowsWhileGood next old.seen new.seen a b → a.state ≡ Good → Finishes new.seen.stopped new.failed b result → Acts next old new a b result

@@ -1,26 +1,11 @@
 -- Steps that print nothing, and one before them.
-use Rattle.std.proofs.Common.{◌≡◌, ◌<◌, ◌+◌, ℕ, zero, suc, List, [], None, Some, refl, ap, sym, ◌∙◌, subst, arith, add-one, inl, inr}
-use Rattle.std.specs.Prelude.{◌≤◌, length, Bool, false, true, Result, Ok, Err, IfOk}
-use Rattle.exectrace.specs.Sink.{Tape, Puts, Writes}
-use Rattle.exectrace.specs.Trace.{printed}
-use Rattle.exectrace.specs.declared.sinks.SinkState.TheVariants.{Good}
-use Rattle.exectrace.specs.declared.sinks.WriteFault.{WriteFault}
+use Rattle.std.proofs.Common.{◌≡◌, ◌<◌, ◌+◌, ℕ, zero, suc, List, [], None, Some, refl, ap, sym, ◌∙◌, subst, arith, add-one, inl, inr, ◌≤◌, length, Bool, false, true, Result, Ok, Err, IfOk}
+use Rattle.exectrace.specs.{Sink.Tape, Sink.Puts, Sink.Writes, Trace.printed, declared.sinks.SinkState.TheVariants.Good, declared.sinks.WriteFault.WriteFault}
 use Rattle.exectrace.proofs.Pieces.{puts_written}
 use Rattle.taskscript.specs.declared.event.Event.TheVariants.{Run}
-use Rattle.execmodel.specs.State.{Memory, Outcome, State, andthen}
-use Rattle.execmodel.specs.Step.{event, step, steps}
-use Rattle.execsim.specs.Actions.{softint_seen}
-use Rattle.execsim.specs.Advancing.{Advances, Ends, GoesSilently, IsSilent, StepsSilently}
-use Rattle.execsim.specs.Agreement.{Seen, Agrees, Follows}
-use Rattle.execsim.specs.Callers.{HasTask, Runs}
-use Rattle.execsim.specs.Changes.{ChangesScripts}
-use Rattle.execsim.specs.Headline.{Shown}
-use Rattle.execsim.specs.Resting.{IsSettled}
-use Rattle.execsim.specs.Time.{HasTimeFor, IsKnown}
-use Rattle.execsim.proofs.Clock.{steps_gain, time_left}
-use Rattle.execsim.proofs.Following.{while_good}
-use Rattle.execsim.proofs.Reached.{steps_reached}
-use Rattle.execsim.proofs.Settling.{idle_step, no_step, settled_scripts, step_then, then_step}
+use Rattle.execmodel.specs.{State.Memory, State.Outcome, State.State, State.andthen, Step.event, Step.step, Step.steps}
+use Rattle.execsim.specs.{Actions.softint_seen, Advancing.Advances, Advancing.Ends, Advancing.GoesSilently, Advancing.IsSilent, Advancing.StepsSilently, Agreement.Seen, Agreement.Agrees, Agreement.Follows, Callers.HasTask, Callers.Runs, Changes.ChangesScripts, Headline.Shown, Resting.IsSettled, Time.HasTimeFor, Time.IsKnown}
+use Rattle.execsim.proofs.{Clock.steps_gain, Clock.time_left, Following.while_good, Reached.steps_reached, Settling.idle_step, Settling.no_step, Settling.settled_scripts, Settling.step_then, Settling.then_step}
 
 -- ---- what changes
 

@@ -1,20 +1,13 @@
 -- How the machine follows the words of memory.
-use Rattle.std.proofs.Common.{◌≡◌, ℕ, true, false, Option, None, Some, refl, sym, ◌∙◌}
-use Rattle.std.specs.Prelude.{codes}
-use Rattle.std.specs.Option.{unwrap_or}
+use Rattle.std.proofs.Common.{◌≡◌, ℕ, true, false, Option, None, Some, refl, sym, ◌∙◌, codes, unwrap_or}
 use Rattle.exectrace.specs.Sink.{Tape}
 use Rattle.memlist.specs.Fit.{avail}
 use Rattle.taskscript.specs.declared.word.memory.MemoryWord.TheVariants as words
-use Rattle.execmodel.specs.State.{Call, Memory, Object, Plain, State, Outcome, on_memory}
-use Rattle.execmodel.specs.Calls.{argument, done, answered, alerted}
 use Rattle.execmodel.specs.Memory.{has_only, alloc_bits, can_be_asked, allocates, block_at, extents, is_named, place_for, placed, freed, alloc_alert, does_memory, memory_deed}
-use Rattle.execmodel.specs.Deeds.{performs}
-use Rattle.execmodel.specs.GivingWay.{after_asking}
-use Rattle.execmodel.proofs.Deeds.{allotting}
-use Rattle.execmodel.proofs.GivingWay.{asking_keeps}
+use Rattle.execmodel.specs.{State.Call, State.Memory, State.Object, State.Plain, State.State, State.Outcome, State.on_memory, Calls.argument, Calls.done, Calls.answered, Calls.alerted, Deeds.performs, GivingWay.after_asking}
+use Rattle.execmodel.proofs.{Deeds.allotting, GivingWay.asking_keeps}
 use Rattle.execsim.specs.Agreement.{Seen, Follows, queues_in_order}
-use Rattle.execsim.proofs.GivingWay.{asking-in_order}
-use Rattle.execsim.proofs.Following.{reads_memory, moves_memory, follows_as, follows_change}
+use Rattle.execsim.proofs.{GivingWay.asking-in_order, Following.reads_memory, Following.moves_memory, Following.follows_as, Following.follows_change}
 
 pub placed-in_order : (size : ℕ) (object : Object) (place : Option ℕ) (y : Memory)
     → placed size object place (queues_in_order y) ≡ queues_in_order (placed size object place y)

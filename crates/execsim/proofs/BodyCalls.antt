@@ -1,40 +1,19 @@
 -- How the machine follows the body of a software interrupt or of a server.
-use Rattle.std.proofs.Common.{◌≡◌, ℕ, zero, suc, ◌+◌, ◌-◌, true, false, List, [], ◌∷◌, take, Option, None, Some, refl, ap, sym, ◌∙◌, subst, add-one, map}
-use Rattle.std.specs.Prelude.{IfSome, codes, slice_get}
-use Rattle.std.specs.Option.{option_map, unwrap_or}
+use Rattle.std.proofs.Common.{◌≡◌, ℕ, zero, suc, ◌+◌, ◌-◌, true, false, List, [], ◌∷◌, take, Option, None, Some, refl, ap, sym, ◌∙◌, subst, add-one, map, IfSome, codes, slice_get, option_map, unwrap_or}
 use Rattle.std.proofs.lemmas.Option.{slice_get-map}
-use Rattle.exectrace.specs.Sink.{Tape, Puts}
-use Rattle.exectrace.specs.Trace.{printed_line, Quoted, Server, Softint, Value}
+use Rattle.exectrace.specs.{Sink.Tape, Sink.Puts, Trace.printed_line, Trace.Quoted, Trace.Server, Trace.Softint, Trace.Value, Short.short_argument, declared.lines.ShortArg.ShortArg}
 use Rattle.exectrace.specs.Trace as trace
-use Rattle.exectrace.specs.Short.{short_argument}
-use Rattle.exectrace.specs.declared.lines.ShortArg.{ShortArg}
 use Rattle.exectrace.specs.declared.lines.ShortArg.TheVariants as short
-use Rattle.taskscript.specs.declared.command.Command.{Command}
-use Rattle.taskscript.specs.declared.variable.Variable.{Variable}
 use Rattle.taskscript.specs.declared.word.Word.TheVariants.{Plain, Signals, Interrupts}
+use Rattle.taskscript.specs.{declared.command.Command.Command, declared.variable.Variable.Variable, declared.command.Argument.Argument, declared.word.plain.PlainWord.PlainWord, Words.word_text, Commands.CommandData, Commands.argument_view, Commands.command_view}
 use Rattle.taskscript.specs.declared.word.task_signals.SignalWord.TheVariants as signals
 use Rattle.taskscript.specs.declared.word.interrupts.InterruptWord.TheVariants as interrupts
-use Rattle.taskscript.specs.declared.command.Argument.{Argument}
 use Rattle.taskscript.specs.declared.command.Argument.TheVariants as arguments
-use Rattle.taskscript.specs.declared.word.plain.PlainWord.{PlainWord}
 use Rattle.taskscript.specs.declared.word.plain.PlainWord.TheVariants as plain
-use Rattle.taskscript.specs.Words.{word_text}
-use Rattle.taskscript.specs.Commands.{CommandData, argument_view, command_view}
-use Rattle.execmodel.specs.State.{Timer as Clock, Bodies, Call, Scripts, State, quiet, says, andthen, unless_stopped, on_scripts}
-use Rattle.execmodel.specs.Bodies.{body_step, does_in_body, does_plain_by, does_word_by, runs_body}
-use Rattle.execmodel.specs.Calls.{Caller, ByBody, argument, call_in_body, done_by, evaluated_in_body, name_in, number_in, silent_by, stored_shared}
-use Rattle.execmodel.specs.Causing.{does_cause_by}
-use Rattle.execmodel.specs.Pending.{softint_named}
-use Rattle.execmodel.specs.Signals.{is_mask, is_task, does_signal_by}
-use Rattle.execmodel.specs.Interrupts.{runs_server, server_at, softint_at}
-use Rattle.execsim.specs.declared.bodies.Body.{Body}
-use Rattle.execsim.specs.Actions.{caused, does_at_place, softint_body}
-use Rattle.execsim.specs.Agreement.{Seen, Agrees, Follows}
-use Rattle.execsim.specs.Views.{code_of_body}
-use Rattle.execsim.proofs.Caused.{caused_done, one_only}
+use Rattle.execmodel.specs.{State.Timer as Clock, State.Bodies, State.Call, State.Scripts, State.State, State.quiet, State.says, State.andthen, State.unless_stopped, State.on_scripts, Bodies.body_step, Bodies.does_in_body, Bodies.does_plain_by, Bodies.does_word_by, Bodies.runs_body, Calls.Caller, Calls.ByBody, Calls.argument, Calls.call_in_body, Calls.done_by, Calls.evaluated_in_body, Calls.name_in, Calls.number_in, Calls.silent_by, Calls.stored_shared, Causing.does_cause_by, Pending.softint_named, Signals.is_mask, Signals.is_task, Signals.does_signal_by, Interrupts.runs_server, Interrupts.server_at, Interrupts.softint_at}
+use Rattle.execsim.specs.{declared.bodies.Body.Body, Actions.caused, Actions.does_at_place, Actions.softint_body, Agreement.Seen, Agreement.Agrees, Agreement.Follows, Views.code_of_body}
 use Rattle.execsim.proofs.Following.{andthen-assoc, andthen-quiet, andthen-second, follows_as, follows_known, follows_nothing, follows_quietly, follows_says, follows_then, guarded_going, moves_scripts, reads_scripts}
-use Rattle.execsim.proofs.Keeping.{body_keeps}
-use Rattle.execsim.proofs.Signalling.{signal_sent}
+use Rattle.execsim.proofs.{Caused.caused_done, Caused.one_only, Keeping.body_keeps, Signalling.signal_sent}
 use Rattle.execlist.specs.Disciplines.{by_priority}
 use Rattle.scheduler.specs.Dispatch.{signalled}
 

@@ -1,16 +1,10 @@
 -- The names of the software interrupts of a file differ, so that each is once among the names that were put in, at its number.
-use Rattle.std.proofs.Common.{◌≡◌, ◌≢◌, ℕ, suc, ◌+◌, ◌<◌, Bool, true, false, cond, not, List, [], ◌∷◌, ◌++◌, length, map, take, get_or, None, Some, refl, sym, ap, ◌∙◌, arith}
-use Rattle.std.specs.Prelude.{◌||◌, nat_lt, bytes_eq}
-use Rattle.std.specs.List.{AllPairs, list_any, position, position_or_len}
-use Rattle.std.proofs.lemmas.Bool.{ltb-false}
-use Rattle.std.proofs.lemmas.List.{get_or-take, get_or_default, length-map, length-take-le, map_push, take-map, take_more}
+use Rattle.std.proofs.Common.{◌≡◌, ◌≢◌, ℕ, suc, ◌+◌, ◌<◌, Bool, true, false, cond, not, List, [], ◌∷◌, ◌++◌, length, map, take, get_or, None, Some, refl, sym, ap, ◌∙◌, arith, ◌||◌, nat_lt, bytes_eq, AllPairs, position, ltb-false, get_or-take, length-take-le}
+use Rattle.std.specs.List.{list_any, position_or_len}
+use Rattle.std.proofs.lemmas.{List.get_or_default, List.length-map, List.map_push, List.take-map, List.take_more, List.Sums.position_or_len_is, List.Sums.prefix_len-le-length, Slice.Eq.bytes_eq-Decides}
 use Rattle.std.proofs.Math.ListN.{get_or-map as default_map}
-use Rattle.std.proofs.lemmas.List.Sums.{position_or_len_is, prefix_len-le-length}
-use Rattle.std.proofs.lemmas.Slice.Eq.{bytes_eq-Decides}
-use Rattle.taskscript.specs.File.{SoftintData}
-use Rattle.taskscript.specs.Machines.{softint_names}
-use Rattle.execmodel.specs.Interrupts.{no_softint}
-use Rattle.execmodel.specs.Pending.{softint_named}
+use Rattle.taskscript.specs.{File.SoftintData, Machines.softint_names}
+use Rattle.execmodel.specs.{Interrupts.no_softint, Pending.softint_named}
 
 no_bytes : (n x : List ℕ) → n ≢ x → bytes_eq n x ≡ false
 no_bytes n x other = by_case (bytes_eq n x) refl where

@@ -1,10 +1,7 @@
 -- How the machine follows the plain words that calculate and jump.
-use Rattle.std.proofs.Common.{◌≡◌, ℕ, ◌+◌, ◌-◌, ◌%◌, ◌^◌, subst}
-use Rattle.std.specs.Prelude.{if◌then◌else◌, nat_eq, bit_and, bit_or}
+use Rattle.std.proofs.Common.{◌≡◌, ℕ, ◌+◌, ◌-◌, ◌%◌, ◌^◌, subst, if◌then◌else◌, nat_eq, bit_and, bit_or}
 use Rattle.exectrace.specs.Sink.{Tape}
-use Rattle.execmodel.specs.State.{Call}
-use Rattle.execmodel.specs.Calls.{Caller, argument, silent_by, goes_on}
-use Rattle.execmodel.specs.Plain.{does_set_by, does_add_by, does_sub_by, does_and_by, does_or_by, jumps, does_jump, does_jump_zero, does_jump_not_zero}
+use Rattle.execmodel.specs.{State.Call, Calls.Caller, Calls.argument, Calls.silent_by, Calls.goes_on, Plain.does_set_by, Plain.does_add_by, Plain.does_sub_by, Plain.does_and_by, Plain.does_or_by, Plain.jumps, Plain.does_jump, Plain.does_jump_zero, Plain.does_jump_not_zero}
 use Rattle.execsim.specs.Agreement.{Seen, Follows}
 use Rattle.execsim.proofs.Following.{moves_scripts, follows_quietly}
 

@@ -1,26 +1,14 @@
 -- How the machine follows the calls on interrupts.
-use Rattle.std.proofs.Common.{◌≡◌, ℕ, List, [], ◌∷◌, Some, ap, map, subst, sym, take, ◌∙◌}
-use Rattle.std.specs.Prelude.{codes, slice_get, unwrap_or}
-use Rattle.exectrace.specs.Short.{short_argument}
-use Rattle.exectrace.specs.Sink.{Puts, Tape}
-use Rattle.exectrace.specs.Trace.{Done, Quoted, printed_line}
+use Rattle.std.proofs.Common.{◌≡◌, ℕ, List, [], ◌∷◌, Some, ap, map, subst, sym, take, ◌∙◌, codes, slice_get, unwrap_or}
+use Rattle.exectrace.specs.{Short.short_argument, Sink.Puts, Sink.Tape, Trace.Done, Trace.Quoted, Trace.printed_line, declared.lines.ShortArg.ShortArg}
 use Rattle.exectrace.specs.Trace as trace
-use Rattle.exectrace.specs.declared.lines.ShortArg.{ShortArg}
 use Rattle.exectrace.specs.declared.lines.ShortArg.TheVariants as short
-use Rattle.taskscript.specs.Words.{word_text}
-use Rattle.taskscript.specs.declared.word.Word.TheVariants.{Interrupts}
+use Rattle.taskscript.specs.{Words.word_text, declared.word.Word.TheVariants.Interrupts}
 use Rattle.taskscript.specs.declared.word.interrupts.InterruptWord.TheVariants as interrupts
 use Rattle.scheduler.specs.Schedule.{name_of}
-use Rattle.execmodel.specs.State.{Call}
-use Rattle.execmodel.specs.Calls.{Caller, ByTask, done_by, goes_on, name_argument, name_in}
-use Rattle.execmodel.specs.Pending.{causes, softint_named}
-use Rattle.execmodel.specs.Causing.{does_cause_by}
-use Rattle.execsim.specs.Actions.{caused}
-use Rattle.execsim.specs.Agreement.{Seen, Follows, line_seen}
-use Rattle.execsim.specs.declared.call.Call.{Call as Made}
-use Rattle.execsim.specs.Views.{call_view}
-use Rattle.execsim.proofs.Endings.{follows_done}
-use Rattle.execsim.proofs.Following.{reads_bodies, moves_caused, follows_as, follows_change}
+use Rattle.execmodel.specs.{State.Call, Calls.Caller, Calls.ByTask, Calls.done_by, Calls.goes_on, Calls.name_argument, Calls.name_in, Pending.causes, Pending.softint_named, Causing.does_cause_by}
+use Rattle.execsim.specs.{Actions.caused, Agreement.Seen, Agreement.Follows, Agreement.line_seen, declared.call.Call.Call as Made, Views.call_view}
+use Rattle.execsim.proofs.{Endings.follows_done, Following.reads_bodies, Following.moves_caused, Following.follows_as, Following.follows_change}
 
 -- the software interrupt of a name is caused
 pub caused_done : {m n o : Seen} {a b : Tape} (c : Caller) (call : Call) (i : ℕ)

@@ -1,35 +1,15 @@
 -- How the machine follows a plain word that is done on its command, with no call between.
-use Rattle.std.proofs.Common.{◌≡◌, ℕ, ◌+◌, ◌-◌, ◌%◌, ◌^◌, List, [], ◌∷◌, None, Some, length, refl, ap, sym, ◌∙◌, map, take}
-use Rattle.std.proofs.Math.ListN.{length-set}
+use Rattle.std.proofs.Common.{◌≡◌, ℕ, ◌+◌, ◌-◌, ◌%◌, ◌^◌, List, [], ◌∷◌, None, Some, length, refl, ap, sym, ◌∙◌, map, take, length-set, option_map, Option, IfSome, codes, if◌then◌else◌, nat_eq, bit_and, bit_or, slice_get}
 use Rattle.std.proofs.lemmas.Option.{slice_get-map}
-use Rattle.std.specs.Option.{option_map}
-use Rattle.std.specs.Prelude.{Option, IfSome, codes, if◌then◌else◌, nat_eq, bit_and, bit_or, slice_get}
-use Rattle.exectrace.specs.Sink.{Puts, Tape}
-use Rattle.exectrace.specs.Short.{short_argument}
-use Rattle.exectrace.specs.Trace.{Done, printed_line}
+use Rattle.exectrace.specs.{Sink.Puts, Sink.Tape, Short.short_argument, Trace.Done, Trace.printed_line, declared.lines.ShortArg.ShortArg}
 use Rattle.exectrace.specs.Trace as trace
-use Rattle.exectrace.specs.declared.lines.ShortArg.{ShortArg}
-use Rattle.taskscript.specs.declared.command.Argument.{Argument}
-use Rattle.taskscript.specs.declared.command.Command.{Command}
-use Rattle.taskscript.specs.Commands.{ArgumentData, CommandData, argument_view, command_view}
-use Rattle.taskscript.specs.Words.{word_text}
-use Rattle.taskscript.specs.declared.variable.Variable.{Variable}
 use Rattle.taskscript.specs.declared.variable.Variable.TheVariants.{Private, Shared}
-use Rattle.taskscript.specs.declared.word.Word.TheVariants.{Plain}
+use Rattle.taskscript.specs.{declared.command.Argument.Argument, declared.command.Command.Command, Commands.ArgumentData, Commands.CommandData, Commands.argument_view, Commands.command_view, Words.word_text, declared.variable.Variable.Variable, declared.word.Word.TheVariants.Plain}
 use Rattle.taskscript.specs.declared.word.plain.PlainWord.TheVariants as word
 use Rattle.scheduler.specs.Schedule.{name_of}
-use Rattle.execmodel.specs.State.{Call, Scripts, State, program_of}
-use Rattle.execmodel.specs.Calls.{argument, call_of, done, evaluated, goes_on, next_call, number_in, silent, stored}
-use Rattle.execmodel.specs.Plain.{does_set, does_add, does_sub, does_and, does_or, jumps, does_jump, does_jump_zero, does_jump_not_zero, does_print}
-use Rattle.execmodel.specs.Step.{call_step, does, does_word, task_step}
-use Rattle.execsim.specs.Changes.{DoesBy, PutsPrint, changes}
-use Rattle.execsim.specs.Agreement.{Seen, Follows, line_seen}
-use Rattle.execsim.specs.declared.change.Change.{Change}
-use Rattle.execsim.proofs.Calling.{map-map_as, next-command}
-use Rattle.execsim.proofs.Caused.{one_only}
-use Rattle.execsim.proofs.Endings.{follows_done}
-use Rattle.execsim.proofs.Following.{moves_scripts, follows_as, follows_quietly}
-use Rattle.execsim.proofs.Stepping.{task_step_as}
+use Rattle.execmodel.specs.{State.Call, State.Scripts, State.State, State.program_of, Calls.argument, Calls.call_of, Calls.done, Calls.evaluated, Calls.goes_on, Calls.next_call, Calls.number_in, Calls.silent, Calls.stored, Plain.does_set, Plain.does_add, Plain.does_sub, Plain.does_and, Plain.does_or, Plain.jumps, Plain.does_jump, Plain.does_jump_zero, Plain.does_jump_not_zero, Plain.does_print, Step.call_step, Step.does, Step.does_word, Step.task_step}
+use Rattle.execsim.specs.{Changes.DoesBy, Changes.PutsPrint, Changes.changes, Agreement.Seen, Agreement.Follows, Agreement.line_seen, declared.change.Change.Change}
+use Rattle.execsim.proofs.{Calling.map-map_as, Calling.next-command, Caused.one_only, Endings.follows_done, Following.moves_scripts, Following.follows_as, Following.follows_quietly, Stepping.task_step_as}
 
 -- what is done next, if it is a command
 pub next_changes : (t : ℕ) (scripts : Scripts) (command : CommandData) (place : ℕ) (change : Option Change) → (program_of scripts t).kept ≡ None

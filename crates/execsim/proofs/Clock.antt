@@ -1,34 +1,19 @@
 -- The clock of the abstract machine gains what ticks bring, and nothing else moves it; so how much time is left is known.
-use Rattle.std.proofs.Common.{◌≡◌, ℕ, zero, suc, ◌+◌, ◌*◌, ◌^◌, ◌<◌, ◌≤◌, Bool, true, false, cond, List, [], ◌∷◌, length, take, get_or, Option, None, Some, subst, refl, ap, sym, ◌∙◌, arith}
-use Rattle.std.specs.Prelude.{sum_by}
-use Rattle.std.proofs.lemmas.List.Sums.{sum_by-cons, sum_by_more_le}
-use Rattle.std.proofs.lemmas.Nat.{mul-le}
+use Rattle.std.proofs.Common.{◌≡◌, ℕ, zero, suc, ◌+◌, ◌*◌, ◌^◌, ◌<◌, ◌≤◌, Bool, true, false, cond, List, [], ◌∷◌, length, take, get_or, Option, None, Some, subst, refl, ap, sym, ◌∙◌, arith, sum_by}
+use Rattle.std.proofs.lemmas.{List.Sums.sum_by-cons, List.Sums.sum_by_more_le, Nat.mul-le}
 use Rattle.execlist.specs.Disciplines.{by_arrival}
-use Rattle.exectrace.specs.Sink.{Tape}
-use Rattle.exectrace.specs.declared.sinks.SinkState.TheVariants.{Good}
-use Rattle.taskscript.specs.Events.{ticks as ticks_of}
-use Rattle.taskscript.specs.declared.event.Event.{Event}
+use Rattle.exectrace.specs.{Sink.Tape, declared.sinks.SinkState.TheVariants.Good}
 use Rattle.taskscript.specs.declared.event.Event.TheVariants.{Run, Tick, Irq}
-use Rattle.taskscript.specs.declared.word.Word.{Word}
+use Rattle.taskscript.specs.{Events.ticks as ticks_of, declared.event.Event.Event, declared.word.Word.Word}
 use Rattle.taskscript.specs.declared.word.Word.TheVariants as word
-use Rattle.softint.specs.declared.source.Source.{Source}
-use Rattle.softint.specs.declared.source.Source.TheVariants.{Vertb}
-use Rattle.scheduler.specs.declared.Switch.{Switch as Choice}
+use Rattle.softint.specs.{declared.source.Source.Source, declared.source.Source.TheVariants.Vertb}
+use Rattle.scheduler.specs.{declared.Switch.Switch as Choice, Dispatch.switch_of, Dispatch.rescheduled}
 use Rattle.scheduler.specs.declared.Switch.TheVariants as switch
-use Rattle.scheduler.specs.Dispatch.{switch_of, rescheduled}
-use Rattle.execmodel.specs.State.{Bodies, Call, Mark, Memory, State, Outcome, Timer as Clock, andthen, quiet, on_memory, on_schedule, on_timer}
-use Rattle.execmodel.specs.Keeping.{clock_alone}
-use Rattle.execmodel.specs.Pending.{source_named}
-use Rattle.execmodel.specs.Step.{ends, switches, announced, steps, request, tick, ticks, starts, event, events}
+use Rattle.execmodel.specs.{State.Bodies, State.Call, State.Mark, State.Memory, State.State, State.Outcome, State.Timer as Clock, State.andthen, State.quiet, State.on_memory, State.on_schedule, State.on_timer, Keeping.clock_alone, Pending.source_named, Step.ends, Step.switches, Step.announced, Step.steps, Step.request, Step.tick, Step.ticks, Step.starts, Step.event, Step.events}
 use Rattle.timerdev.specs.Timing.{ticked}
-use Rattle.execmodel.proofs.Itself.{does_itself, word_itself, word_keeps}
-use Rattle.execmodel.proofs.Stretches.{HoldsOfEach, HoldsOfInterrupts, of_request, of_starts, of_steps}
-use Rattle.execsim.specs.Agreement.{Seen, Agrees, FollowsWhileGood}
-use Rattle.execsim.specs.Reached.{IsReached, after_start}
-use Rattle.execsim.specs.Time.{HasTimeFor, IsInTime}
-use Rattle.execsim.proofs.Following.{good_before}
-use Rattle.execsim.proofs.Keeping.{finish_keeps, keeps_step}
-use Rattle.execsim.proofs.Reached.{ticks_reached, events_reached}
+use Rattle.execmodel.proofs.{Itself.does_itself, Itself.word_itself, Itself.word_keeps, Stretches.HoldsOfEach, Stretches.HoldsOfInterrupts, Stretches.of_request, Stretches.of_starts, Stretches.of_steps}
+use Rattle.execsim.specs.{Agreement.Seen, Agreement.Agrees, Agreement.FollowsWhileGood, Reached.IsReached, Reached.after_start, Time.HasTimeFor, Time.IsInTime}
+use Rattle.execsim.proofs.{Following.good_before, Keeping.finish_keeps, Keeping.keeps_step, Reached.ticks_reached, Reached.events_reached}
 
 -- ---- what moves the clock
 

@@ -1,12 +1,10 @@
 -- How the machine follows the end of a call.
 use Rattle.std.proofs.Common.{◌≡◌, ℕ, List, true, refl, ap, ◌∙◌}
-use Rattle.exectrace.specs.Sink.{Tape, Puts}
-use Rattle.exectrace.specs.Trace.{printed_line, Done, Answers, Waits, Alert}
+use Rattle.exectrace.specs.{Sink.Tape, Sink.Puts, Trace.printed_line, Trace.Done, Trace.Answers, Trace.Waits, Trace.Alert}
 use Rattle.exectrace.specs.Trace as trace
 use Rattle.taskscript.specs.Words.{word_text}
 use Rattle.scheduler.specs.Schedule.{name_of}
-use Rattle.execmodel.specs.State.{Call, State}
-use Rattle.execmodel.specs.Calls.{stored, goes_on, keeps, line_of, done, answered, waiting, silent, alerted}
+use Rattle.execmodel.specs.{State.Call, State.State, Calls.stored, Calls.goes_on, Calls.keeps, Calls.line_of, Calls.done, Calls.answered, Calls.waiting, Calls.silent, Calls.alerted}
 use Rattle.execsim.specs.Agreement.{Seen, Agrees, Follows, line_seen}
 use Rattle.execsim.proofs.Following.{reads_schedule, moves_scripts, moves_stopped, follows_saying, follows_quietly}
 

@@ -2,17 +2,15 @@
 use Rattle.std.proofs.Common.{◌≡◌, ◌≢◌, ℕ, List, [], ◌++◌, append_assoc, ◌⊎◌, inl, inr, refl, Bool, true, false, ap, sym, ◌∙◌, subst, append-nil}
 use Rattle.std.proofs.lemmas.Grind.{flat_map-append}
 use Rattle.execlist.specs.Disciplines.{by_arrival, by_priority}
-use Rattle.exectrace.specs.Sink.{Tape, Puts}
-use Rattle.exectrace.specs.declared.sinks.SinkState.{SinkState}
 use Rattle.exectrace.specs.declared.sinks.SinkState.TheVariants.{Good, Empty, Failed}
-use Rattle.exectrace.specs.Trace.{TraceLine, printed_line, printed}
+use Rattle.exectrace.specs.{Sink.Tape, Sink.Puts, declared.sinks.SinkState.SinkState, Trace.TraceLine, Trace.printed_line, Trace.printed}
 use Rattle.exectrace.proofs.Pieces.{puts_none, puts_nothing, puts_then, put_same}
 use Rattle.scheduler.specs.Schedule.{Schedule}
 use Rattle.execmodel.specs.State.{State, Bodies, Scripts, Memory, Pending, Outcome, Mark, leaving, quiet, says, andthen, unless_stopped, on_schedule, on_scripts, on_memory, on_pending}
 use Rattle.execmodel.specs.Pending.{causes, caused_no_more, with_caused, with_latch_of}
 use Rattle.softint.specs.declared.source.Source.{Source}
-use Rattle.execsim.specs.Actions.{caused}
 use Rattle.execsim.specs.Agreement.{Seen, Agrees, Follows, FollowsWhileGood, Moves, in_order, queues_in_order, caused_in_order}
+use Rattle.execsim.specs.Actions.{caused}
 use Rattle.execsim.proofs.Ordering.{caused-in_order, taken_off-in_order}
 
 -- What the state that is agreed with holds, by what the machine shows.

@@ -1,11 +1,9 @@
 -- How the machine follows the words of Forbid and Disable.
-use Rattle.std.proofs.Common.{◌≡◌, ℕ, Bool, Option, None, Some, refl}
-use Rattle.std.specs.Option.{is_some}
+use Rattle.std.proofs.Common.{◌≡◌, ℕ, Bool, Option, None, Some, refl, is_some}
 use Rattle.exectrace.specs.Sink.{Tape}
 use Rattle.forbid.specs.Nesting.{Nesting}
 use Rattle.scheduler.specs.Schedule.{Schedule, nesting_of, nested}
-use Rattle.execmodel.specs.State.{Call, on_schedule}
-use Rattle.execmodel.specs.Nesting.{done_or_nest, gives_nesting}
+use Rattle.execmodel.specs.{State.Call, State.on_schedule, Nesting.done_or_nest, Nesting.gives_nesting}
 use Rattle.execsim.specs.Agreement.{Seen, Follows, in_order}
 use Rattle.execsim.proofs.Following.{reads_schedule, moves_schedule, follows_as, follows_change}
 

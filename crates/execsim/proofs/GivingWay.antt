@@ -1,13 +1,8 @@
 -- How the machine follows if libraries are expunged under low memory to a block: the order of the public ports is of no account.
-use Rattle.std.proofs.Common.{◌≡◌, ℕ, Bool, true, false, cond, List, [], ◌∷◌, Option, None, Some, refl, ap, ◌∙◌}
-use Rattle.std.specs.Prelude.{◌&&◌, is_some, length, nat_eq, not}
+use Rattle.std.proofs.Common.{◌≡◌, ℕ, Bool, true, false, cond, List, [], ◌∷◌, Option, None, Some, refl, ap, ◌∙◌, ◌&&◌, is_some, length, nat_eq, not}
 use Rattle.std.specs.List.{range_with_len}
-use Rattle.execmodel.specs.State.{Memory, Object, on_heap}
-use Rattle.execmodel.specs.Places.{freed, place_for}
-use Rattle.execmodel.specs.Objects.{is_allowed}
+use Rattle.execmodel.specs.{State.Memory, State.Object, State.on_heap, Places.freed, Places.place_for, Objects.is_allowed, Loaded.base_of, Loaded.count_of, Loaded.removed, Loaded.with_library, GivingWay.after_asking, GivingWay.after_asking_for_object, GivingWay.asked_each, GivingWay.asked_one, GivingWay.gives_way, GivingWay.gives_way_at}
 use Rattle.execlib.specs.Libraries.{public_memory}
-use Rattle.execmodel.specs.Loaded.{base_of, count_of, removed, with_library}
-use Rattle.execmodel.specs.GivingWay.{after_asking, after_asking_for_object, asked_each, asked_one, gives_way, gives_way_at}
 use Rattle.execsim.specs.Agreement.{queues_in_order}
 
 -- a library is freed, or is open so often

@@ -1,31 +1,17 @@
 -- No body, and no request that finishes, changes what interrupts execute, or moves the clock.
-use Rattle.std.proofs.Common.{◌≡◌, ℕ, zero, suc, Bool, true, false, cond, List, [], ◌∷◌, Option, None, Some, refl, length, ◌∙◌}
-use Rattle.std.specs.Prelude.{nat_eq, pos}
+use Rattle.std.proofs.Common.{◌≡◌, ℕ, zero, suc, Bool, true, false, cond, List, [], ◌∷◌, Option, None, Some, refl, length, ◌∙◌, nat_eq, pos}
 use Rattle.exectrace.specs.Trace.{Timer}
-use Rattle.taskscript.specs.declared.word.Word.{Word}
+use Rattle.taskscript.specs.{declared.word.Word.Word, declared.word.plain.PlainWord.PlainWord, declared.word.task_signals.SignalWord.SignalWord, declared.word.ports.PortWord.PortWord, declared.word.interrupts.InterruptWord.InterruptWord, Commands.CommandData}
 use Rattle.taskscript.specs.declared.word.Word.TheVariants as word
-use Rattle.taskscript.specs.declared.word.plain.PlainWord.{PlainWord}
 use Rattle.taskscript.specs.declared.word.plain.PlainWord.TheVariants as plain
-use Rattle.taskscript.specs.declared.word.task_signals.SignalWord.{SignalWord}
 use Rattle.taskscript.specs.declared.word.task_signals.SignalWord.TheVariants as signals
-use Rattle.taskscript.specs.declared.word.ports.PortWord.{PortWord}
 use Rattle.taskscript.specs.declared.word.ports.PortWord.TheVariants as ports
-use Rattle.taskscript.specs.declared.word.interrupts.InterruptWord.{InterruptWord}
 use Rattle.taskscript.specs.declared.word.interrupts.InterruptWord.TheVariants as interrupts
-use Rattle.taskscript.specs.Commands.{CommandData}
-use Rattle.msgport.specs.declared.action.Action.{Action}
+use Rattle.msgport.specs.{declared.action.Action.Action, Port.acting}
 use Rattle.msgport.specs.declared.action.Action.TheVariants as action
-use Rattle.msgport.specs.Port.{acting}
 use Rattle.execlist.specs.Order.{first}
-use Rattle.execmodel.specs.Keeping.{clock_alone}
-use Rattle.execmodel.specs.State.{Bodies, Call, Timer as Clock, State, Outcome, quiet, says, andthen, unless_stopped, on_memory, on_heap}
-use Rattle.execmodel.specs.Bodies.{body_step, does_in_body, does_interrupts_by, does_plain_by, does_ports_by, does_signals_by, does_word_by, runs_body}
-use Rattle.execmodel.specs.Calls.{ByBody, argument, call_in_body, unless_by}
-use Rattle.execmodel.specs.Interrupts.{finishes_for, runs_server, server_at}
-use Rattle.execmodel.specs.Pending.{causes}
-use Rattle.execmodel.specs.Ports.{content_of, delivered, messages_of, performed, port_alert, port_of, posted, put_alert, replied_by, reply_alert, taken_by}
 use Rattle.execmodel.specs.Requests.{acting_at, answering_port, ended, ends_with, finishes, finishes_all_due, finishes_each, with_reply}
-use Rattle.execmodel.specs.Signals.{signal_alert}
+use Rattle.execmodel.specs.{Keeping.clock_alone, State.Bodies, State.Call, State.Timer as Clock, State.State, State.Outcome, State.quiet, State.says, State.andthen, State.unless_stopped, State.on_memory, State.on_heap, Bodies.body_step, Bodies.does_in_body, Bodies.does_interrupts_by, Bodies.does_plain_by, Bodies.does_ports_by, Bodies.does_signals_by, Bodies.does_word_by, Bodies.runs_body, Calls.ByBody, Calls.argument, Calls.call_in_body, Calls.unless_by, Interrupts.finishes_for, Interrupts.runs_server, Interrupts.server_at, Pending.causes, Ports.content_of, Ports.delivered, Ports.messages_of, Ports.performed, Ports.port_alert, Ports.port_of, Ports.posted, Ports.put_alert, Ports.replied_by, Ports.reply_alert, Ports.taken_by, Signals.signal_alert}
 use Rattle.timerdev.specs.Timing.{due_next}
 use Rattle.softint.specs.declared.source.Source.{Source}
 use Rattle.softint.specs.declared.source.Source.TheVariants as source

@@ -1,26 +1,13 @@
 -- How the machine follows the words of lists and nodes.
-use Rattle.std.proofs.Common.{◌≡◌, ℕ, [], Bool, false, true, Option, None, Some, List, refl, ap, sym, ◌∙◌}
-use Rattle.std.specs.Prelude.{Result, Ok, Err, IfOk, OnOk, OnErr, codes}
-use Rattle.std.specs.Int.{cast_signed, w32}
-use Rattle.std.specs.Option.{unwrap_or}
+use Rattle.std.proofs.Common.{◌≡◌, ℕ, [], Bool, false, true, Option, None, Some, List, refl, ap, sym, ◌∙◌, Result, Ok, Err, IfOk, OnOk, OnErr, codes, w32, unwrap_or}
+use Rattle.std.specs.Int.{cast_signed}
 use Rattle.exectrace.specs.Sink.{Tape}
-use Rattle.execmodel.specs.State.{Call, Heap, ListHead, Memory, Node, Object, State, Outcome, on_memory}
-use Rattle.execmodel.specs.Calls.{Caller, ByTask, unless, unless_by, argument, name_argument, done, answered, alerted, alerted_by}
-use Rattle.execmodel.specs.Memory.{allocates, makes_object, placed}
-use Rattle.execmodel.specs.GivingWay.{after_asking_for_object}
-use Rattle.execmodel.specs.Objects.{place_for_object}
+use Rattle.execmodel.specs.{State.Call, State.Heap, State.ListHead, State.Memory, State.Node, State.Object, State.State, State.Outcome, State.on_memory, Calls.Caller, Calls.ByTask, Calls.unless, Calls.unless_by, Calls.argument, Calls.name_argument, Calls.done, Calls.answered, Calls.alerted, Calls.alerted_by, Memory.allocates, Memory.makes_object, Memory.placed, GivingWay.after_asking_for_object, Objects.place_for_object, Deeds.makes, Lists.does_lists, Lists.is_list, Lists.is_node, Lists.list_deed, Lists.list_size, Lists.new_node_alert, Lists.node_size, Tasks.is_priority}
 use Rattle.taskscript.specs.declared.word.lists.ListWord.TheVariants as lists
-use Rattle.execmodel.specs.Deeds.{makes}
-use Rattle.execmodel.specs.Lists.{does_lists, is_list, is_node, list_deed, list_size, new_node_alert, node_size}
-use Rattle.execmodel.specs.Tasks.{is_priority}
 use Rattle.execmodel.proofs.Deeds.{making}
-use Rattle.execheap.specs.declared.refusal.Refusal.{Refusal}
-use Rattle.execheap.specs.Refusals.{alert_of, code_of}
-use Rattle.execsim.specs.Agreement.{Seen, Follows, queues_in_order}
-use Rattle.execsim.specs.Endings.{done_or_alerted, answered_or_alerted}
-use Rattle.execsim.proofs.Allocating.{placed-in_order}
-use Rattle.execsim.proofs.Following.{reads_memory, moves_memory, follows_as, follows_change}
-use Rattle.execsim.proofs.GivingWay.{asking_for_object-in_order}
+use Rattle.execheap.specs.{declared.refusal.Refusal.Refusal, Refusals.alert_of, Refusals.code_of}
+use Rattle.execsim.specs.{Agreement.Seen, Agreement.Follows, Agreement.queues_in_order, Endings.done_or_alerted, Endings.answered_or_alerted}
+use Rattle.execsim.proofs.{Allocating.placed-in_order, Following.reads_memory, Following.moves_memory, Following.follows_as, Following.follows_change, GivingWay.asking_for_object-in_order}
 
 -- ---- calls that may be refused
 

@@ -1,28 +1,16 @@
 -- How the machine follows the words of semaphores.
-use Rattle.std.proofs.Common.{◌≡◌, ℕ, Bool, true, false, List, [], Option, None, Some, refl, ap, sym}
-use Rattle.std.specs.Prelude.{Result, Ok, Err, IfOk, OnOk, OnErr, if◌then◌else◌}
-use Rattle.std.specs.Option.{unwrap_or}
+use Rattle.std.proofs.Common.{◌≡◌, ℕ, Bool, true, false, List, [], Option, None, Some, refl, ap, sym, Result, Ok, Err, IfOk, OnOk, OnErr, if◌then◌else◌, unwrap_or}
 use Rattle.execlist.specs.Disciplines.{by_arrival, by_priority}
 use Rattle.exectrace.specs.Sink.{Tape}
-use Rattle.scheduler.specs.Schedule.{Schedule, waits_at_semaphore}
-use Rattle.scheduler.specs.Dispatch.{arrives}
-use Rattle.sigsem.specs.Semaphores.{free_sem, is_open, outcome_for}
-use Rattle.sigsem.specs.declared.semaphore.Obtained.{Obtained}
-use Rattle.sigsem.specs.declared.semaphore.Obtained.TheVariants.{Waits}
-use Rattle.execmodel.specs.State.{Call, Heap, Memory, State, Outcome, Semaphore, asked, passed, on_schedule, on_memory, on_heap}
-use Rattle.execmodel.specs.Calls.{unless, argument, done, answered, waiting, alerted}
-use Rattle.execmodel.specs.Memory.{placed}
-use Rattle.execmodel.specs.GivingWay.{after_asking_for_object}
-use Rattle.execmodel.specs.Objects.{place_for_object}
-use Rattle.execmodel.specs.Semaphores as model
+use Rattle.scheduler.specs.{Schedule.Schedule, Schedule.waits_at_semaphore, Dispatch.arrives}
+use Rattle.sigsem.specs.{Semaphores.free_sem, Semaphores.is_open, Semaphores.outcome_for, declared.semaphore.Obtained.Obtained, declared.semaphore.Obtained.TheVariants.Waits}
 use Rattle.execmodel.specs.Semaphores.{attempted, heir, is_semaphore, is_tried_again, obtain_alert, obtained, obtains, passes, release_alert, released, sem_of, semaphore_size}
-use Rattle.execheap.specs.declared.refusal.Refusal.{Refusal}
-use Rattle.execheap.specs.Refusals.{alert_of, code_of}
-use Rattle.execsim.specs.Actions.{obtains_or_alerted, passes_or_alerted}
-use Rattle.execsim.specs.Agreement.{Seen, Follows, in_order}
+use Rattle.execmodel.specs.{State.Call, State.Heap, State.Memory, State.State, State.Outcome, State.Semaphore, State.asked, State.passed, State.on_schedule, State.on_memory, State.on_heap, Calls.unless, Calls.argument, Calls.done, Calls.answered, Calls.waiting, Calls.alerted, Memory.placed, GivingWay.after_asking_for_object, Objects.place_for_object}
+use Rattle.execmodel.specs.Semaphores as model
+use Rattle.execheap.specs.{declared.refusal.Refusal.Refusal, Refusals.alert_of, Refusals.code_of}
+use Rattle.execsim.specs.{Actions.obtains_or_alerted, Actions.passes_or_alerted, Agreement.Seen, Agreement.Follows, Agreement.in_order}
 use Rattle.execsim.proofs.Following.{reads_memory, reads_scripts, moves_memory, moves_schedule, follows_as, follows_change, follows_leaving}
-use Rattle.execsim.proofs.Listing.{follows_allowed, follows_made, follows_refused}
-use Rattle.execsim.proofs.Ordering.{arrives-in_order}
+use Rattle.execsim.proofs.{Listing.follows_allowed, Listing.follows_made, Listing.follows_refused, Ordering.arrives-in_order}
 
 -- ---- waiting
 

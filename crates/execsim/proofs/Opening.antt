@@ -1,21 +1,13 @@
 -- How the machine follows the words of libraries.
-use Rattle.std.proofs.Common.{◌≡◌, ◌≢◌, ℕ, [], false, Option, None, Some, List, refl, ap, sym, ◌∙◌}
-use Rattle.std.specs.Prelude.{Result, OnOk, OnErr, ◌-◌, ◌&&◌, nat_eq, unwrap_or}
+use Rattle.std.proofs.Common.{◌≡◌, ◌≢◌, ℕ, [], false, Option, None, Some, List, refl, ap, sym, ◌∙◌, Result, OnOk, OnErr, ◌-◌, ◌&&◌, nat_eq, unwrap_or}
 use Rattle.memlist.proofs.Answered.{nat_eq-other}
 use Rattle.exectrace.specs.Sink.{Tape}
-use Rattle.execmodel.specs.State.{Call, Library, Memory, on_memory}
-use Rattle.execmodel.specs.Calls.{argument, name_argument, answered, done, unless}
-use Rattle.execmodel.specs.Memory.{place_for}
-use Rattle.execlib.specs.Libraries.{public_memory}
 use Rattle.execmodel.specs.Libraries.{base_of, base_opened, base_or_place, close_alert, closed, count_of, does_close_library, does_open_library, entered_or_loaded, is_delayed, library_at, library_opened, library_to_open, opened, opening, ready_to_load, ready_to_open}
-use Rattle.execheap.specs.declared.refusal.Refusal.{Refusal}
-use Rattle.execheap.specs.Refusals.{alert_of}
-use Rattle.execsim.specs.Agreement.{Seen, Follows, queues_in_order}
-use Rattle.execsim.specs.Endings.{done_or_alerted}
-use Rattle.execsim.proofs.Allocating.{placed-in_order}
-use Rattle.execsim.proofs.Following.{reads_memory, moves_memory, follows_as, follows_change}
-use Rattle.execsim.proofs.GivingWay.{asking-in_order, freed_or-in_order}
-use Rattle.execsim.proofs.Listing.{heap_changed}
+use Rattle.execmodel.specs.{State.Call, State.Library, State.Memory, State.on_memory, Calls.argument, Calls.name_argument, Calls.answered, Calls.done, Calls.unless, Memory.place_for}
+use Rattle.execlib.specs.Libraries.{public_memory}
+use Rattle.execheap.specs.{declared.refusal.Refusal.Refusal, Refusals.alert_of}
+use Rattle.execsim.specs.{Agreement.Seen, Agreement.Follows, Agreement.queues_in_order, Endings.done_or_alerted}
+use Rattle.execsim.proofs.{Allocating.placed-in_order, Following.reads_memory, Following.moves_memory, Following.follows_as, Following.follows_change, GivingWay.asking-in_order, GivingWay.freed_or-in_order, Listing.heap_changed}
 
 -- ---- the order of the public ports is of no account
 

@@ -1,27 +1,20 @@
 -- The scheduler keeps its ready tasks in the order in which they are to run, and so are the caused software interrupts kept; the abstract
 -- machine has both in order of arrival: each change of a schedule or of the pending interrupts goes the same way in both.
-use Rattle.std.proofs.Common.{◌≡◌, ◌≢◌, ℕ, zero, suc, ◌+◌, ◌<◌, ℤ, List, [], ◌∷◌, length, get_or, slice_set, Bool, true, false, ◌&&◌, ◌||◌, nat_lt, cond, Option, None, Some, refl, ap, sym, ◌∙◌, subst, arith}
-use Rattle.std.specs.Prelude.{pos, not, if◌then◌else◌, ◌==◌, fold}
+use Rattle.std.proofs.Common.{◌≡◌, ◌≢◌, ℕ, zero, suc, ◌+◌, ◌<◌, ℤ, List, [], ◌∷◌, length, get_or, slice_set, Bool, true, false, ◌&&◌, ◌||◌, nat_lt, cond, Option, None, Some, refl, ap, sym, ◌∙◌, subst, arith, pos, not, if◌then◌else◌, ◌==◌, fold, eq-eqb, get_or-set_other}
 use Rattle.std.specs.List.{list_any}
-use Rattle.std.proofs.lemmas.Bool.{cond-true, eq-eqb}
-use Rattle.std.proofs.lemmas.List.{get_or-set_other}
-use Rattle.execlist.specs.Lists.{times}
-use Rattle.execlist.specs.Order.{order, first, enqueue, is_lower}
+use Rattle.std.proofs.lemmas.Bool.{cond-true}
+use Rattle.execlist.specs.{Lists.times, Order.order, Order.first, Order.enqueue, Order.is_lower, Disciplines.pri_at, Disciplines.by_arrival, Disciplines.by_priority}
 use Rattle.execlist.proofs.OrderLaws.{order_takes, order_leaves_out, first_of_order, order_reads_keys, order_rekeyed}
 use Rattle.taskq.specs.Tasks.{is_ready, is_live}
-use Rattle.execlist.specs.Disciplines.{pri_at, by_arrival, by_priority}
 use Rattle.signals.specs.Signals.{after_post}
 use Rattle.scheduler.specs.Schedule.{Schedule, status_of, signals_of, with_priority, with_signals, switch_for, renewed, begins, is_absent, leaves, departs, removed, awaits, is_interrupting_allowed, ticked_for, ticked}
-use Rattle.scheduler.specs.declared.Switch.{Switch}
-use Rattle.scheduler.specs.declared.Switch.TheVariants.{To, Idle}
 use Rattle.scheduler.specs.Dispatch.{arrives, switch_of, displaced, after_switch, rescheduled, added, reprioritized, signalled}
+use Rattle.scheduler.specs.{declared.Switch.Switch, declared.Switch.TheVariants.To, declared.Switch.TheVariants.Idle}
 use Rattle.taskscript.specs.File.{SoftintData}
 use Rattle.softint.specs.declared.source.Source.{Source}
 use Rattle.softint.specs.declared.source.Source.TheVariants as source
-use Rattle.execmodel.specs.State.{Pending}
-use Rattle.execmodel.specs.Interrupts.{serving_counted}
+use Rattle.execmodel.specs.{State.Pending, Interrupts.serving_counted, Pending.is_caused, Pending.softint_pri, Pending.with_caused}
 use Rattle.execmodel.specs.Pending as pending
-use Rattle.execmodel.specs.Pending.{is_caused, softint_pri, with_caused}
 use Rattle.execsim.specs.Agreement.{caused_in_order, in_order}
 
 -- a schedule with other ready tasks

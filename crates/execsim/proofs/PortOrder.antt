@@ -1,18 +1,13 @@
 -- The machine keeps its public ports in the order in which they are searched, the abstract machine in order of arrival: each change of them
 -- goes the same way in both, and each reading is the same.
-use Rattle.std.proofs.Common.{◌≡◌, ℕ, ℤ, ◌≤◌, List, [], ◌∷◌, length, Bool, true, false, cond, refl, ap, sym, ◌∙◌}
-use Rattle.std.specs.Prelude.{not, ◌||◌, ◌==◌, find, fold}
+use Rattle.std.proofs.Common.{◌≡◌, ℕ, ℤ, ◌≤◌, List, [], ◌∷◌, length, Bool, true, false, cond, refl, ap, sym, ◌∙◌, not, ◌||◌, ◌==◌, find, fold}
 use Rattle.std.specs.List.{list_any}
 use Rattle.std.proofs.lemmas.List.{get_or_past}
-use Rattle.execlist.specs.Order.{order, enqueue, is_lower}
+use Rattle.execlist.specs.{Order.order, Order.enqueue, Order.is_lower, Disciplines.by_priority}
 use Rattle.execlist.proofs.OrderLaws.{order_takes, order_leaves_out, found_in_order}
-use Rattle.execlist.specs.Disciplines.{by_priority}
-use Rattle.taskq.specs.Tasks.{is_live}
-use Rattle.taskq.specs.declared.TaskState.TheVariants.{Absent}
-use Rattle.scheduler.specs.Schedule.{Schedule, status_of, frees}
-use Rattle.scheduler.specs.Dispatch.{signalled}
-use Rattle.execmodel.specs.State.{Memory, PublicPort}
-use Rattle.execmodel.specs.Ports.{add_port_alert, delete_alert, found_port, is_called, is_public, made_private, made_public, port_or_none, priority_of_public, rem_port_alert, under}
+use Rattle.taskq.specs.{Tasks.is_live, declared.TaskState.TheVariants.Absent}
+use Rattle.scheduler.specs.{Schedule.Schedule, Schedule.status_of, Schedule.frees, Dispatch.signalled}
+use Rattle.execmodel.specs.{State.Memory, State.PublicPort, Ports.add_port_alert, Ports.delete_alert, Ports.found_port, Ports.is_called, Ports.is_public, Ports.made_private, Ports.made_public, Ports.port_or_none, Ports.priority_of_public, Ports.rem_port_alert, Ports.under}
 use Rattle.execheap.specs.Listing.{listed}
 use Rattle.execsim.specs.Agreement.{queues_in_order}
 

@@ -1,41 +1,21 @@
 -- How the machine follows the words of ports and messages.
-use Rattle.std.proofs.Common.{◌≡◌, ◌≢◌, ℕ, ◌^◌, true, false, cond, List, [], Option, None, Some, refl, ap, sym, ◌∙◌}
-use Rattle.std.specs.Prelude.{ℤ, negsuc, Bool, Result, Ok, Err, IfOk, OnOk, OnErr, codes, find, nat_eq, unwrap_or}
-use Rattle.std.specs.Int.{cast_signed, w32}
+use Rattle.std.proofs.Common.{◌≡◌, ◌≢◌, ℕ, ◌^◌, true, false, cond, List, [], Option, None, Some, refl, ap, sym, ◌∙◌, ℤ, negsuc, Bool, Result, Ok, Err, IfOk, OnOk, OnErr, codes, find, nat_eq, unwrap_or, w32}
+use Rattle.std.specs.Int.{cast_signed}
 use Rattle.memlist.proofs.Answered.{nat_eq-other}
 use Rattle.exectrace.specs.Sink.{Tape}
-use Rattle.execlist.specs.Order.{first}
-use Rattle.execlist.specs.Disciplines.{by_arrival, by_priority}
+use Rattle.execlist.specs.{Order.first, Disciplines.by_arrival, Disciplines.by_priority}
 use Rattle.signals.specs.Signals.{grant}
 use Rattle.scheduler.specs.Schedule.{Schedule, signals_of, allocates, clears_and_waits, frees, sets_signals, takes, waits_for}
 use Rattle.scheduler.specs.Dispatch.{signalled}
-use Rattle.msgport.specs.declared.action.Action.{Action}
+use Rattle.msgport.specs.{declared.action.Action.Action, declared.action.PortAction.TheVariants.Cause, Port.acting, Port.new_port, Ports.new_message, Ports.nt_freemsg, Ports.nt_message, Ports.nt_replymsg}
 use Rattle.msgport.specs.declared.action.Action.TheVariants as action
-use Rattle.msgport.specs.declared.action.PortAction.TheVariants.{Cause}
-use Rattle.msgport.specs.Port.{acting, new_port}
-use Rattle.msgport.specs.Ports.{new_message, nt_freemsg, nt_message, nt_replymsg}
-use Rattle.execmodel.specs.State.{Call, Message, MsgPort, Memory, State, Outcome, put, got, leaving, on_schedule, on_memory, on_heap}
-use Rattle.execmodel.specs.Calls.{Caller, unless, argument, name_argument, done, done_by, answered, answered_by, waiting, alerted}
-use Rattle.execmodel.specs.Memory.{freed, placed}
-use Rattle.execmodel.specs.GivingWay.{after_asking_for_object}
-use Rattle.execmodel.specs.Objects.{place_for_object}
-use Rattle.execmodel.specs.Lists.{or_none}
-use Rattle.execmodel.specs.Pending.{softint_named}
-use Rattle.execmodel.specs.Tasks.{is_priority}
-use Rattle.execmodel.specs.Ports as model
 use Rattle.execmodel.specs.Ports.{content_of, is_called, is_message, is_port, is_port_at, messages_of, message_size, port_of, port_or_none, port_size, posted, taken_off, typed}
-use Rattle.execheap.specs.declared.refusal.Refusal.{Refusal}
-use Rattle.execheap.specs.Listing.{listed, replied_by, replying}
-use Rattle.execheap.specs.Refusals.{alert_of, code_of}
-use Rattle.execsim.specs.Actions.{given_back_or_alerted, performed, performed_or_alerted_by}
-use Rattle.execsim.specs.Agreement.{Seen, Follows, Moves, in_order}
-use Rattle.execsim.specs.Endings.{answered_or_alerted_by, done_or_alerted}
+use Rattle.execmodel.specs.{State.Call, State.Message, State.MsgPort, State.Memory, State.State, State.Outcome, State.put, State.got, State.leaving, State.on_schedule, State.on_memory, State.on_heap, Calls.Caller, Calls.unless, Calls.argument, Calls.name_argument, Calls.done, Calls.done_by, Calls.answered, Calls.answered_by, Calls.waiting, Calls.alerted, Memory.freed, Memory.placed, GivingWay.after_asking_for_object, Objects.place_for_object, Lists.or_none, Pending.softint_named, Tasks.is_priority}
+use Rattle.execmodel.specs.Ports as model
+use Rattle.execheap.specs.{declared.refusal.Refusal.Refusal, Listing.listed, Listing.replied_by, Listing.replying, Refusals.alert_of, Refusals.code_of}
+use Rattle.execsim.specs.{Actions.given_back_or_alerted, Actions.performed, Actions.performed_or_alerted_by, Agreement.Seen, Agreement.Follows, Agreement.Moves, Agreement.in_order, Endings.answered_or_alerted_by, Endings.done_or_alerted}
 use Rattle.execsim.proofs.Following.{reads_schedule, reads_memory, reads_bodies, moves_schedule, moves_caused, moves_nowhere, moves_memory, follows_as, follows_change, follows_leaving}
-use Rattle.execsim.proofs.GivingWay.{asking_for_object-in_order}
-use Rattle.execsim.proofs.Listing.{follows_allowed, follows_allowed_by, follows_made, follows_refused, follows_refused_by, heap_changed, room-in_order}
-use Rattle.execsim.proofs.Ordering.{signalled-in_order}
-use Rattle.execsim.proofs.PortOrder.{add_port_alert-in_order, delete_alert-in_order, found-in_order, listed-in_order}
-use Rattle.execsim.proofs.Signalling.{allocates-in_order, frees-in_order, sets_signals-in_order}
+use Rattle.execsim.proofs.{GivingWay.asking_for_object-in_order, Listing.follows_allowed, Listing.follows_allowed_by, Listing.follows_made, Listing.follows_refused, Listing.follows_refused_by, Listing.heap_changed, Listing.room-in_order, Ordering.signalled-in_order, PortOrder.add_port_alert-in_order, PortOrder.delete_alert-in_order, PortOrder.found-in_order, PortOrder.listed-in_order, Signalling.allocates-in_order, Signalling.frees-in_order, Signalling.sets_signals-in_order}
 
 -- ---- ports made
 

@@ -1,30 +1,17 @@
 -- What holds of each state that a machine comes to, and so of what the machine shows.
-use Rattle.std.proofs.Common.{◌≡◌, ℕ, ◌<◌, ◌≤◌, List, [], ◌∷◌, length, Option, None, Some, Bool, true, false, ap, sym, ◌∙◌, subst, arith}
-use Rattle.std.specs.Prelude.{Result, Ok, Err, IfOk, IfSome, if◌then◌else◌}
-use Rattle.exectrace.specs.Sink.{Tape}
-use Rattle.exectrace.specs.declared.sinks.SinkState.TheVariants.{Good}
-use Rattle.taskscript.specs.declared.event.Event.{Event}
+use Rattle.std.proofs.Common.{◌≡◌, ℕ, ◌<◌, ◌≤◌, List, [], ◌∷◌, length, Option, None, Some, Bool, true, false, ap, sym, ◌∙◌, subst, arith, Result, Ok, Err, IfOk, IfSome, if◌then◌else◌}
+use Rattle.exectrace.specs.{Sink.Tape, declared.sinks.SinkState.TheVariants.Good}
 use Rattle.taskscript.specs.declared.event.Event.TheVariants.{Run, Tick}
-use Rattle.execlist.specs.Lists.{is_at, times}
-use Rattle.execlist.specs.Order.{first}
-use Rattle.execlist.specs.Disciplines.{pri_at}
-use Rattle.taskq.specs.declared.TaskState.TheVariants.{Running, Waiting}
-use Rattle.taskq.specs.declared.Why.TheVariants.{Sem}
+use Rattle.taskscript.specs.declared.event.Event.{Event}
+use Rattle.execlist.specs.{Lists.is_at, Lists.times, Order.first, Disciplines.pri_at}
+use Rattle.taskq.specs.{declared.TaskState.TheVariants.Running, declared.TaskState.TheVariants.Waiting, declared.Why.TheVariants.Sem}
 use Rattle.scheduler.specs.Schedule.{Schedule, is_at_semaphore, status_of}
-use Rattle.execmodel.specs.State.{Memory, Scripts, State, andthen}
-use Rattle.execmodel.specs.Step.{steps, ticks, starts, event, events}
-use Rattle.execmodel.specs.Agreement.{WaitsForNone}
-use Rattle.execmodel.specs.Semaphores.{heir, sem_of, waiters_of}
+use Rattle.execmodel.specs.{State.Memory, State.Scripts, State.State, State.andthen, Step.steps, Step.ticks, Step.starts, Step.event, Step.events, Agreement.WaitsForNone, Semaphores.heir, Semaphores.sem_of, Semaphores.waiters_of}
 use Rattle.sigsem.specs.Semaphores.{is_last}
-use Rattle.execmodel.proofs.Stretches.{of_event, of_starts}
-use Rattle.execmodel.proofs.WaitingLaw.{IsSound, Waits, waits, clocked, booted_sound}
-use Rattle.execmodel.proofs.Agreement.{untouched, at_semaphore_is, first_stands, running_state, waits_at as stands_where, waits_there}
+use Rattle.execmodel.proofs.{Stretches.of_event, Stretches.of_starts, WaitingLaw.IsSound, WaitingLaw.Waits, WaitingLaw.waits, WaitingLaw.clocked, WaitingLaw.booted_sound, Agreement.untouched, Agreement.at_semaphore_is, Agreement.first_stands, Agreement.running_state, Agreement.waits_at as stands_where, Agreement.waits_there}
 use Rattle.execheap.specs.declared.refusal.Refusal.{Refusal}
-use Rattle.execsim.specs.Agreement.{Seen, Agrees, FollowsWhileGood}
-use Rattle.execsim.specs.Reached.{IsReached, at_boot, after_start, after_event, QueuesAgree, IsInOrder}
-use Rattle.execsim.specs.Time.{IsKnown}
-use Rattle.execsim.proofs.Following.{good_before}
-use Rattle.execsim.proofs.Ordering.{times_in_order}
+use Rattle.execsim.specs.{Agreement.Seen, Agreement.Agrees, Agreement.FollowsWhileGood, Reached.IsReached, Reached.at_boot, Reached.after_start, Reached.after_event, Reached.QueuesAgree, Reached.IsInOrder, Time.IsKnown}
+use Rattle.execsim.proofs.{Following.good_before, Ordering.times_in_order}
 
 -- ---- more states that a machine comes to
 

@@ -2,9 +2,8 @@
 use Rattle.std.proofs.Common.{◌≡◌, ◌∙◌, ap, sym, ◌≤◌, ◌-◌, ◌++◌, ◌+◌, ℕ, List, Option, length, length-append, arith}
 use Rattle.std.proofs.KnownBytes.{Consumes-trans}
 use Rattle.std.specs.Io.KnownBytes.{Consumes}
-use Rattle.execsim.specs.Reading.{GaveBeforeFault, IsGivenBefore}
-use Rattle.execsim.specs.declared.reading.ReadFault.{ReadFault}
 use Rattle.execsim.specs.declared.reading.ReadFault.TheVariants.{Failed, TooLong, OutOfMemory}
+use Rattle.execsim.specs.{Reading.GaveBeforeFault, Reading.IsGivenBefore, declared.reading.ReadFault.ReadFault}
 
 -- what came before a fault counts from where the reading began
 given_in_all : (limit front n all : ℕ) (fault : ReadFault) → front ≤ limit → all ≡ front + n → IsGivenBefore (limit - front) fault n → IsGivenBefore limit fault all

@@ -1,45 +1,27 @@
 -- How the machine follows the words of requests, and the requests that finish.
-use Rattle.std.proofs.Common.{◌≡◌, ◌≢◌, ℕ, zero, suc, ◌≤◌, ◌<◌, ◌^◌, Bool, true, false, cond, not, ◌&&◌, ◌⊎◌, inl, inr, List, [], ◌∷◌, length, Option, None, Some, refl, ap, sym, ◌∙◌, subst, arith}
-use Rattle.std.specs.Prelude.{ℤ, pos, negsuc, ◌==◌, Result, Ok, Err, IfOk, OnOk, OnErr, codes, filter, map, nat_eq, nat_lt, if◌then◌else◌}
-use Rattle.std.specs.Option.{option_map, unwrap_or}
-use Rattle.std.specs.Int.{cast_unsigned, w32}
-use Rattle.std.proofs.lemmas.Bool.{lt-ltb, le-ltb, eq-eqb}
+use Rattle.std.proofs.Common.{◌≡◌, ◌≢◌, ℕ, zero, suc, ◌≤◌, ◌<◌, ◌^◌, Bool, true, false, cond, not, ◌&&◌, ◌⊎◌, inl, inr, List, [], ◌∷◌, length, Option, None, Some, refl, ap, sym, ◌∙◌, subst, arith, ℤ, pos, negsuc, ◌==◌, Result, Ok, Err, IfOk, OnOk, OnErr, codes, filter, map, nat_eq, nat_lt, if◌then◌else◌, option_map, unwrap_or, w32, lt-ltb, le-ltb, eq-eqb}
+use Rattle.std.specs.Int.{cast_unsigned}
 use Rattle.memlist.proofs.Answered.{nat_eq-other, nat_eq-same}
-use Rattle.exectrace.specs.Sink.{Tape, Puts}
-use Rattle.exectrace.specs.Trace.{printed, printed_line, Timer}
+use Rattle.exectrace.specs.{Sink.Tape, Sink.Puts, Trace.printed, Trace.printed_line, Trace.Timer}
 use Rattle.execlist.specs.Order.{chosen, chosen_or, is_lower}
 use Rattle.scheduler.specs.Schedule.{sets_signals}
 use Rattle.msgport.specs.declared.action.Action.{Action}
-use Rattle.iorequest.specs.declared.request.Request.{Request as TimerRequest}
-use Rattle.iorequest.specs.declared.request.ReqState.{ReqState}
 use Rattle.iorequest.specs.declared.request.ReqState.TheVariants.{Idle, UnderWay, Quick, Replied}
-use Rattle.iorequest.specs.declared.request.Begun.{Begun}
 use Rattle.iorequest.specs.declared.request.Begun.TheVariants.{Finish, NewTime, Queue, Until}
 use Rattle.iorequest.specs.Request.{begun, done_state, due_of, error_of, finished, idle_request, is_to_wait, is_under_way, is_until, is_way, sets_time, time_of}
-use Rattle.iorequest.specs.Requests.{unit_error}
+use Rattle.iorequest.specs.{declared.request.Request.Request as TimerRequest, declared.request.ReqState.ReqState, declared.request.Begun.Begun, Requests.unit_error}
 use Rattle.execmodel.specs.State.{Call, Heap, Memory, Object, Request, State, Outcome, Timer as Clock, Waiting, quiet, says, andthen, out, on_memory, on_heap, on_timer}
-use Rattle.execmodel.specs.Calls.{argument, name_argument, unless, done, answered, alerted}
-use Rattle.execmodel.specs.Memory.{freed, makes_object, placed}
-use Rattle.execmodel.specs.GivingWay.{after_asking_for_object}
-use Rattle.execmodel.specs.Objects.{is_kind, object_at, place_for_object, replaced}
-use Rattle.execmodel.specs.Ports.{loses, looked, performed, port_alert, port_of}
-use Rattle.execmodel.specs.Semaphores.{is_tried_again}
+use Rattle.execmodel.specs.Requests.{acting_at, answering_port, appended_at, begun_at, ended, error_word, finished_at, finishes, finishes_all_due, finishes_each, finishes_set, heap_begun, is_request, is_request_at, looks_for, replying_port, reply_taken, request_alert, request_of, request_of_object, request_size, resting_alert, set_io_alert, under_way, where_port, with_reply, with_request}
+use Rattle.execmodel.specs.{Calls.argument, Calls.name_argument, Calls.unless, Calls.done, Calls.answered, Calls.alerted, Memory.freed, Memory.makes_object, Memory.placed, GivingWay.after_asking_for_object, Objects.is_kind, Objects.object_at, Objects.place_for_object, Objects.replaced, Ports.loses, Ports.looked, Ports.performed, Ports.port_alert, Ports.port_of, Semaphores.is_tried_again}
 use Rattle.timerdev.specs.Timing.{due_next, has_come, is_system, looked_at, next_of, sooner, until_next}
 use Rattle.execmodel.specs.Requests as model
-use Rattle.execmodel.specs.Requests.{acting_at, answering_port, appended_at, begun_at, ended, error_word, finished_at, finishes, finishes_all_due, finishes_each, finishes_set, heap_begun, is_request, is_request_at, looks_for, replying_port, reply_taken, request_alert, request_of, request_of_object, request_size, resting_alert, set_io_alert, under_way, where_port, with_reply, with_request}
 use Rattle.execmodel.proofs.Heaps.{instead, object_replaced}
-use Rattle.execheap.specs.declared.awaited.Awaited.{Awaited}
-use Rattle.execheap.specs.declared.awaited.Awaited.TheVariants as awaited
-use Rattle.execheap.specs.declared.refusal.Refusal.{Refusal}
 use Rattle.execheap.specs.Listing.{aborted, aborting, acting_begun, acting_finished, awaited_for, ended_if, finishing, taken_by_state, taken_if_replied}
-use Rattle.execheap.specs.Refusals.{alert_of, code_of}
-use Rattle.execsim.specs.Actions.{aborts_or_alerted, finishes_all_until, finishes_with, performed as performed_seen, performed_or_alerted, tells_or_waits}
-use Rattle.execsim.specs.Agreement.{Seen, Agrees, Follows, queues_in_order}
-use Rattle.execsim.specs.Endings.{answered_or_alerted, done_or_alerted}
+use Rattle.execheap.specs.{declared.awaited.Awaited.Awaited, declared.refusal.Refusal.Refusal, Refusals.alert_of, Refusals.code_of}
+use Rattle.execheap.specs.declared.awaited.Awaited.TheVariants as awaited
+use Rattle.execsim.specs.{Actions.aborts_or_alerted, Actions.finishes_all_until, Actions.finishes_with, Actions.performed as performed_seen, Actions.performed_or_alerted, Actions.tells_or_waits, Agreement.Seen, Agreement.Agrees, Agreement.Follows, Agreement.queues_in_order, Endings.answered_or_alerted, Endings.done_or_alerted}
 use Rattle.execsim.proofs.Following.{reads_memory, reads_scripts, moves_memory, moves_schedule, follows_as, follows_change, follows_leaving, follows_nothing, follows_saying, follows_then}
-use Rattle.execsim.proofs.Listing.{follows_allowed, follows_made, follows_refused, heap_changed}
-use Rattle.execsim.proofs.Porting.{performed_moves}
-use Rattle.execsim.proofs.Signalling.{sets_signals-in_order}
+use Rattle.execsim.proofs.{Listing.follows_allowed, Listing.follows_made, Listing.follows_refused, Listing.heap_changed, Porting.performed_moves, Signalling.sets_signals-in_order}
 
 -- ---- changes that look at no order
 

@@ -1,20 +1,12 @@
 -- The chain of a source that the interrupts keep is that of the abstract machine.
-use Rattle.std.proofs.Common.{◌≡◌, ℕ, Bool, cond, List, [], ◌∷◌, length, map, get_or, refl, ap, sym, ◌∙◌}
+use Rattle.std.proofs.Common.{◌≡◌, ℕ, Bool, cond, List, [], ◌∷◌, length, map, get_or, refl, ap, sym, ◌∙◌, ℤ, filter}
 use Rattle.std.proofs.lemmas.List.{length-map}
 use Rattle.std.proofs.Math.ListN.{get_or-map as default_map}
-use Rattle.std.specs.Prelude.{ℤ, filter}
 use Rattle.std.specs.List.{range_with_len}
-use Rattle.execlist.specs.Order.{order}
+use Rattle.execlist.specs.{Order.order, Disciplines.pri_at}
 use Rattle.taskscript.specs.File.{ServerData}
-use Rattle.softint.specs.declared.interrupt.Server.{Server}
-use Rattle.softint.specs.declared.source.Source.{Source}
-use Rattle.softint.specs.declared.source.Source.TheVariants.{Ports}
-use Rattle.softint.specs.Interrupts.{Interrupts, chain, serves}
-use Rattle.execlist.specs.Disciplines.{pri_at}
-use Rattle.softint.specs.Sources.{is_source}
-use Rattle.execmodel.specs.State.{Bodies}
-use Rattle.execmodel.specs.Interrupts.{chain_of, no_server, server_pri, servers_of}
-use Rattle.execmodel.specs.Pending.{source_named}
+use Rattle.softint.specs.{declared.interrupt.Server.Server, declared.source.Source.Source, declared.source.Source.TheVariants.Ports, Interrupts.Interrupts, Interrupts.chain, Interrupts.serves, Sources.is_source}
+use Rattle.execmodel.specs.{State.Bodies, Interrupts.chain_of, Interrupts.no_server, Interrupts.server_pri, Interrupts.servers_of, Pending.source_named}
 use Rattle.execsim.specs.Views.{IsFor, interrupting}
 use Rattle.execsim.proofs.Calling.{map-map_as}
 use Rattle.execmodel.proofs.Chains.{chain_is_order}

@@ -1,29 +1,18 @@
 -- How the machine follows the causing, the requests and the serving of interrupts.
-use Rattle.std.proofs.Common.{◌≡◌, ℕ, zero, suc, ◌+◌, ◌≤◌, Bool, true, false, cond, not, ◌&&◌, ◌||◌, ◌==◌, nat_lt, List, [], ◌∷◌, length, drop, Option, None, Some, refl, ap, sym, ◌∙◌, subst, arith}
-use Rattle.std.specs.Prelude.{ℤ, if◌then◌else◌, is_some, slice_get}
+use Rattle.std.proofs.Common.{◌≡◌, ℕ, zero, suc, ◌+◌, ◌≤◌, Bool, true, false, cond, not, ◌&&◌, ◌||◌, ◌==◌, nat_lt, List, [], ◌∷◌, length, drop, Option, None, Some, refl, ap, sym, ◌∙◌, subst, arith, ℤ, if◌then◌else◌, is_some, slice_get, ne_eqb}
 use Rattle.std.specs.List.{list_any}
-use Rattle.std.proofs.lemmas.Bool.{ne_eqb}
-use Rattle.exectrace.specs.Sink.{Tape, Puts}
-use Rattle.exectrace.specs.Trace.{printed_line, Serve}
-use Rattle.execlist.specs.Lists.{times}
-use Rattle.execlist.specs.Order.{chosen, enqueue, first, without}
+use Rattle.exectrace.specs.{Sink.Tape, Sink.Puts, Trace.printed_line, Trace.Serve}
+use Rattle.execlist.specs.{Lists.times, Order.chosen, Order.enqueue, Order.first, Order.without, Disciplines.pri_at, Disciplines.by_priority}
 use Rattle.execlist.proofs.OrderLaws.{first_of_order}
 use Rattle.taskscript.specs.File.{ServerData}
 use Rattle.scheduler.specs.Schedule.{Schedule}
-use Rattle.softint.specs.declared.source.Source.{Source}
-use Rattle.softint.specs.Sources.{highest}
+use Rattle.softint.specs.{declared.source.Source.Source, Sources.highest, Interrupts.Interrupts}
 use Rattle.softint.specs.Interrupts as ints
-use Rattle.softint.specs.Interrupts.{Interrupts}
-use Rattle.execlist.specs.Disciplines.{pri_at, by_priority}
-use Rattle.execmodel.specs.State.{Bodies, Pending, Timer as Clock, State, Outcome, quiet, says, andthen, unless_stopped, on_pending, on_schedule}
 use Rattle.execmodel.specs.Interrupts.{by_choice, chain_of, serving_counted, finishes_for, interrupts, runs_chain, runs_server, server_at, server_pri, servers_of, serves, servings, text_of_source}
-use Rattle.execmodel.specs.Pending.{allows_interrupts, is_caused, next_softint, next_source, softint_pri, with_caused, with_latch_of}
-use Rattle.execsim.specs.Actions.{served, softint_seen, source_seen}
-use Rattle.execsim.specs.Agreement.{Seen, Agrees, Follows, Moves}
-use Rattle.execsim.specs.Views.{IsFor}
+use Rattle.execmodel.specs.{State.Bodies, State.Pending, State.Timer as Clock, State.State, State.Outcome, State.quiet, State.says, State.andthen, State.unless_stopped, State.on_pending, State.on_schedule, Pending.allows_interrupts, Pending.is_caused, Pending.next_softint, Pending.next_source, Pending.softint_pri, Pending.with_caused, Pending.with_latch_of}
+use Rattle.execsim.specs.{Actions.served, Actions.softint_seen, Actions.source_seen, Agreement.Seen, Agreement.Agrees, Agreement.Follows, Agreement.Moves, Views.IsFor}
 use Rattle.execsim.proofs.Following.{follows_as, follows_change, follows_known, follows_nothing, follows_says, follows_then, guarded_going, guarded_stopped, moves_latch, moves_schedule}
-use Rattle.execsim.proofs.Keeping.{finishing_keeps, server_keeps}
-use Rattle.execsim.proofs.Ordering.{allowed-in_order, counted-in_order}
+use Rattle.execsim.proofs.{Keeping.finishing_keeps, Keeping.server_keeps, Ordering.allowed-in_order, Ordering.counted-in_order}
 
 -- ---- causing
 

@@ -1,23 +1,14 @@
 -- What a settled machine does, and what leaves a machine settled.
-use Rattle.std.proofs.Common.{◌≡◌, ℕ, zero, suc, ◌+◌, Bool, true, false, cond, ◌&&◌, ◌||◌, Option, None, Some, refl, ap, sym, ◌∙◌, subst, add-one, arith}
-use Rattle.std.specs.Prelude.{if◌then◌else◌, is_some, nat_eq, int_lt, int_le, List, ◌++◌}
+use Rattle.std.proofs.Common.{◌≡◌, ℕ, zero, suc, ◌+◌, Bool, true, false, cond, ◌&&◌, ◌||◌, Option, None, Some, refl, ap, sym, ◌∙◌, subst, add-one, arith, if◌then◌else◌, is_some, nat_eq, int_lt, int_le, List, ◌++◌}
 use Rattle.exectrace.specs.Sink.{Tape}
-use Rattle.execlist.specs.Order.{first}
-use Rattle.execlist.specs.Disciplines.{by_priority, pri_at}
-use Rattle.scheduler.specs.Schedule.{Schedule, is_quantum_over, is_switching_allowed, priority_of, renewed, switch_for}
-use Rattle.scheduler.specs.declared.Switch.{Switch}
-use Rattle.scheduler.specs.declared.Switch.TheVariants.{To}
-use Rattle.scheduler.specs.Dispatch.{after_switch, rescheduled, switch_of}
+use Rattle.execlist.specs.{Order.first, Disciplines.by_priority, Disciplines.pri_at}
+use Rattle.scheduler.specs.{Schedule.Schedule, Schedule.is_quantum_over, Schedule.is_switching_allowed, Schedule.priority_of, Schedule.renewed, Schedule.switch_for, declared.Switch.Switch, declared.Switch.TheVariants.To, Dispatch.after_switch, Dispatch.rescheduled, Dispatch.switch_of}
 use Rattle.softint.specs.Sources.{highest}
-use Rattle.execmodel.specs.State.{Outcome, Scripts, State, andthen, quiet}
-use Rattle.execmodel.specs.Pending.{allows_interrupts}
-use Rattle.execmodel.specs.Step.{announced, settle, step, steps, task_step}
-use Rattle.execsim.specs.Actions.{softint_seen}
-use Rattle.execsim.specs.Agreement.{Seen, Follows, FollowsWhileGood}
-use Rattle.execsim.specs.Resting.{IsSettled}
+use Rattle.execmodel.specs.{State.Outcome, State.Scripts, State.State, State.andthen, State.quiet, Pending.allows_interrupts, Step.announced, Step.settle, Step.step, Step.steps, Step.task_step}
+use Rattle.execsim.specs.{Actions.softint_seen, Agreement.Seen, Agreement.Follows, Agreement.FollowsWhileGood, Resting.IsSettled}
 use Rattle.execsim.proofs.Following.{andthen-assoc, andthen-quiet, follows_as, follows_nothing, follows_then, guarded_going, while_good_as, while_good_then}
-use Rattle.execsim.proofs.Serving.{nothing_asks}
 use Rattle.execsim.proofs.Stepping.{acting_task, acts_going, announces_none, running_as, running_none, settle_going, step_as, switches_as}
+use Rattle.execsim.proofs.Serving.{nothing_asks}
 
 -- ---- settling once more
 

@@ -1,19 +1,15 @@
 -- How the machine follows the words of signals.
-use Rattle.std.proofs.Common.{◌≡◌, ℕ, ℤ, ◌-◌, true, false, Option, refl, ap, sym}
-use Rattle.std.specs.Prelude.{codes, nat_eq}
+use Rattle.std.proofs.Common.{◌≡◌, ℕ, ℤ, ◌-◌, true, false, Option, refl, ap, sym, codes, nat_eq, w32}
 use Rattle.exectrace.specs.Sink.{Tape}
-use Rattle.std.specs.Int.{cast_signed, cast_unsigned, w32}
+use Rattle.std.specs.Int.{cast_signed, cast_unsigned}
 use Rattle.execlist.specs.Disciplines.{by_arrival, by_priority}
 use Rattle.signals.specs.Signals.{taken_signals, grant, grant_number, is_own_signal, after_free}
 use Rattle.taskq.specs.Tasks.{is_live}
 use Rattle.scheduler.specs.Schedule.{Schedule, signals_of, come_for, after_wait, waits_for, takes, allocates, frees, sets_signals, status_of, with_signals}
 use Rattle.scheduler.specs.Dispatch.{signalled}
-use Rattle.execmodel.specs.State.{Call, on_schedule}
-use Rattle.execmodel.specs.Calls.{Caller, argument, done, done_by, answered, alerted, alerted_by}
-use Rattle.execmodel.specs.Signals.{is_task, is_mask, does_alloc_signal, does_free_signal, does_set_signal, does_signal_by, waited, does_wait}
+use Rattle.execmodel.specs.{State.Call, State.on_schedule, Calls.Caller, Calls.argument, Calls.done, Calls.done_by, Calls.answered, Calls.alerted, Calls.alerted_by, Signals.is_task, Signals.is_mask, Signals.does_alloc_signal, Signals.does_free_signal, Signals.does_set_signal, Signals.does_signal_by, Signals.waited, Signals.does_wait}
 use Rattle.execsim.specs.Agreement.{Seen, Follows, in_order}
-use Rattle.execsim.proofs.Following.{reads_schedule, reads_scripts, moves_schedule, follows_as, follows_change}
-use Rattle.execsim.proofs.Ordering.{by_test, signalled-in_order}
+use Rattle.execsim.proofs.{Following.reads_schedule, Following.reads_scripts, Following.moves_schedule, Following.follows_as, Following.follows_change, Ordering.by_test, Ordering.signalled-in_order}
 
 pub allocates-in_order : (t : ℕ) (n : ℤ) (y : Schedule) → allocates t n (in_order y) ≡ in_order (allocates t n y)
 unfolding allocates

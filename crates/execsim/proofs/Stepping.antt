@@ -1,33 +1,19 @@
 -- How the machine follows settling, steps and events.
-use Rattle.std.proofs.Common.{◌≡◌, ℕ, suc, ◌+◌, ◌<◌, List, [], ◌∷◌, ◌++◌, length, take, get_or, true, false, Option, None, Some, refl, ap, sym, ◌∙◌, subst, add-one}
+use Rattle.std.proofs.Common.{◌≡◌, ℕ, suc, ◌+◌, ◌<◌, List, [], ◌∷◌, ◌++◌, length, take, get_or, true, false, Option, None, Some, refl, ap, sym, ◌∙◌, subst, add-one, codes, if◌then◌else◌}
 use Rattle.std.proofs.lemmas.List.{take_more}
-use Rattle.std.specs.Prelude.{codes, if◌then◌else◌}
 use Rattle.execlist.specs.Disciplines.{by_arrival, by_priority}
-use Rattle.exectrace.specs.Sink.{Tape, Puts}
-use Rattle.exectrace.specs.Trace.{printed_line, Value, Done}
+use Rattle.exectrace.specs.{Sink.Tape, Sink.Puts, Trace.printed_line, Trace.Value, Trace.Done}
 use Rattle.exectrace.specs.Trace as trace
-use Rattle.taskscript.specs.declared.event.Event.{Event}
-use Rattle.taskscript.specs.declared.word.Word.{Word}
-use Rattle.taskscript.specs.declared.word.Word.TheVariants.{Requests}
-use Rattle.taskscript.specs.declared.word.requests.RequestWord.{RequestWord}
-use Rattle.scheduler.specs.Schedule.{name_of, leaves}
-use Rattle.scheduler.specs.declared.Switch.{Switch as Choice}
+use Rattle.taskscript.specs.{declared.event.Event.Event, declared.word.Word.Word, declared.word.Word.TheVariants.Requests, declared.word.requests.RequestWord.RequestWord}
+use Rattle.scheduler.specs.{Schedule.name_of, Schedule.leaves, declared.Switch.Switch as Choice, Dispatch.switch_of, Dispatch.rescheduled, Dispatch.added}
 use Rattle.scheduler.specs.declared.Switch.TheVariants as switch
-use Rattle.scheduler.specs.Dispatch.{switch_of, rescheduled, added}
-use Rattle.softint.specs.declared.source.Source.{Source}
-use Rattle.softint.specs.declared.source.Source.TheVariants.{Vertb}
-use Rattle.execmodel.specs.State.{Call, Scripts, State, quiet, andthen, program_of, on_schedule, on_memory, on_timer, on_pending, unless_stopped}
-use Rattle.execmodel.specs.Calls.{next_call}
-use Rattle.timerdev.specs.Timing.{ticked}
-use Rattle.execmodel.specs.Interrupts.{interrupts, runs_softint}
-use Rattle.execmodel.specs.Pending.{caused_no_more, with_latch_of}
-use Rattle.execmodel.specs.Requests.{does_requests, finishes_set}
+use Rattle.softint.specs.{declared.source.Source.Source, declared.source.Source.TheVariants.Vertb}
 use Rattle.execmodel.specs.Step.{announced, switches, settle, does, does_word, ends, call_step, task_step, softint_or_task_step, acting, acts, step, steps, request, tick, ticks, started, all_added, starts, event, events}
-use Rattle.execsim.specs.Actions.{running_task_step, softint_body, softint_seen}
-use Rattle.execsim.specs.Agreement.{Seen, Follows, FollowsWhileGood, Moves}
+use Rattle.execmodel.specs.{State.Call, State.Scripts, State.State, State.quiet, State.andthen, State.program_of, State.on_schedule, State.on_memory, State.on_timer, State.on_pending, State.unless_stopped, Calls.next_call, Interrupts.interrupts, Interrupts.runs_softint, Pending.caused_no_more, Pending.with_latch_of, Requests.does_requests, Requests.finishes_set}
+use Rattle.timerdev.specs.Timing.{ticked}
+use Rattle.execsim.specs.{Actions.running_task_step, Actions.softint_body, Actions.softint_seen, Agreement.Seen, Agreement.Follows, Agreement.FollowsWhileGood, Agreement.Moves}
 use Rattle.execsim.proofs.Following.{andthen-assoc, andthen-quiet, andthen-second, reads_schedule, reads_scripts, reads_stopped, moves_schedule, moves_memory, moves_latch, moves_taken_off, moves_nowhere, moves_then, follows_as, follows_nothing, follows_saying, follows_change, follows_then, follows_nothing_yet, while_good_as, while_good_then}
-use Rattle.execsim.proofs.Ordering.{by_test, switch_of-in_order, rescheduled-in_order, added-in_order, leaves-in_order}
-use Rattle.execsim.proofs.Serving.{softint_same}
+use Rattle.execsim.proofs.{Ordering.by_test, Ordering.switch_of-in_order, Ordering.rescheduled-in_order, Ordering.added-in_order, Ordering.leaves-in_order, Serving.softint_same}
 
 -- Settle
 

@@ -1,19 +1,11 @@
 -- How the machine follows the words that begin and end tasks, and the one of priorities.
-use Rattle.std.proofs.Common.{◌≡◌, ℕ, ◌-◌, true, false, List, Option, None, Some, refl, ap, sym, ◌∙◌, subst}
-use Rattle.std.specs.Prelude.{codes, if◌then◌else◌}
-use Rattle.std.specs.Int.{cast_signed, cast_unsigned, w32}
-use Rattle.exectrace.specs.Sink.{Tape, Puts}
-use Rattle.exectrace.specs.Trace.{printed}
-use Rattle.execlist.specs.Lists.{times}
-use Rattle.execlist.specs.Disciplines.{by_arrival, by_priority}
+use Rattle.std.proofs.Common.{◌≡◌, ℕ, ◌-◌, true, false, List, Option, None, Some, refl, ap, sym, ◌∙◌, subst, codes, if◌then◌else◌, w32}
+use Rattle.std.specs.Int.{cast_signed, cast_unsigned}
+use Rattle.exectrace.specs.{Sink.Tape, Sink.Puts, Trace.printed}
+use Rattle.execlist.specs.{Lists.times, Disciplines.by_arrival, Disciplines.by_priority}
 use Rattle.taskq.specs.Tasks.{is_ready}
-use Rattle.scheduler.specs.Schedule.{Schedule, status_of, priority_of, is_absent, leaves, removed, found}
-use Rattle.scheduler.specs.Dispatch.{added, reprioritized}
-use Rattle.execmodel.specs.State.{Call, State, Outcome, on_schedule, on_heap}
-use Rattle.execmodel.specs.Calls.{argument, name_argument, done, answered, alerted}
-use Rattle.execmodel.specs.Signals.{is_task}
-use Rattle.execmodel.specs.Semaphores.{awaited_by, dropped, leaving_queue}
-use Rattle.execmodel.specs.Tasks.{is_live_task, is_priority, is_caller, ends_other, does_set_task_pri, does_add_task, does_rem_task, found_number, does_find_task}
+use Rattle.scheduler.specs.{Schedule.Schedule, Schedule.status_of, Schedule.priority_of, Schedule.is_absent, Schedule.leaves, Schedule.removed, Schedule.found, Dispatch.added, Dispatch.reprioritized}
+use Rattle.execmodel.specs.{State.Call, State.State, State.Outcome, State.on_schedule, State.on_heap, Calls.argument, Calls.name_argument, Calls.done, Calls.answered, Calls.alerted, Signals.is_task, Semaphores.awaited_by, Semaphores.dropped, Semaphores.leaving_queue, Tasks.is_live_task, Tasks.is_priority, Tasks.is_caller, Tasks.ends_other, Tasks.does_set_task_pri, Tasks.does_add_task, Tasks.does_rem_task, Tasks.found_number, Tasks.does_find_task}
 use Rattle.execsim.specs.Agreement.{Seen, Agrees, Follows, in_order}
 use Rattle.execsim.proofs.Following.{reads_schedule, reads_scripts, moves_memory, moves_schedule, moves_schedule_seen, follows_as, follows_change}
 use Rattle.execsim.proofs.Ordering.{added-in_order, leaves-in_order, removed-in_order, reprioritized-in_order}

@@ -1,8 +1,7 @@
 -- An element of a list is written again.
 use Rattle.std.proofs.Common.{◌≡◌, ℕ, ◌+◌, ◌<◌, List, [], ◌∷◌, ◌++◌, Bool, true, false, not, length, take, map, slice_set, slice_index_or, refl, ap, sym, ◌∙◌, arith}
 use Rattle.std.proofs.Math.Seq.{map-set_same}
-use Rattle.std.proofs.lemmas.List.{get_or-map, length-map, map-set, take_more, take_more_set}
-use Rattle.std.proofs.lemmas.Simd.{map-map}
+use Rattle.std.proofs.lemmas.{List.get_or-map, List.length-map, List.map-set, List.take_more, List.take_more_set, Simd.map-map}
 
 -- the lists are the same by one element more
 pub one_more : {B : Type 0} (xs ys : List B) (i : ℕ) (y d : B) → i < length xs → i < length ys → take i xs ≡ take i ys → y ≡ slice_index_or ys i d

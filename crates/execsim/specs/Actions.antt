@@ -5,28 +5,17 @@ use Rattle.std.specs.Int.{cast_unsigned, w32}
 use Rattle.std.specs.Prelude.{ℕ, ◌^◌, false, if◌then◌else◌, length, List, Option, None, Some, Result, Ok, Err}
 use Rattle.exectrace.specs.Trace.{Serve, Softint, Timer}
 use Rattle.execlist.specs.Disciplines.{by_priority}
-use Rattle.scheduler.specs.Schedule.{frees}
-use Rattle.scheduler.specs.Dispatch.{signalled}
+use Rattle.scheduler.specs.{Schedule.frees, Dispatch.signalled}
 use Rattle.msgport.specs.declared.action.Action.{Action}
 use Rattle.msgport.specs.declared.action.Action.TheVariants as action
-use Rattle.softint.specs.Sources.{highest}
-use Rattle.softint.specs.declared.source.Source.{Source}
+use Rattle.softint.specs.{Sources.highest, declared.source.Source.Source}
 use Rattle.taskscript.specs.Commands.{CommandData}
-use Rattle.execmodel.specs.State.{Call, Pending, State, Outcome, quiet, says, andthen, unless_stopped, on_schedule}
-use Rattle.execmodel.specs.Bodies.{body_step, runs_body}
-use Rattle.execmodel.specs.Calls.{Caller, ByTask, done, done_by, answered, alerted, alerted_by}
-use Rattle.execmodel.specs.Requests.{finishes_until}
-use Rattle.execmodel.specs.Interrupts.{chain_of, serving_counted, finishes_for, runs_chain, softint_at, text_of_source}
-use Rattle.execmodel.specs.Pending.{allows_interrupts, softint_next, caused_no_more, with_caused, with_latch_of}
+use Rattle.execmodel.specs.{State.Call, State.Pending, State.State, State.Outcome, State.quiet, State.says, State.andthen, State.unless_stopped, State.on_schedule, Bodies.body_step, Bodies.runs_body, Calls.Caller, Calls.ByTask, Calls.done, Calls.done_by, Calls.answered, Calls.alerted, Calls.alerted_by, Requests.finishes_until, Interrupts.chain_of, Interrupts.serving_counted, Interrupts.finishes_for, Interrupts.runs_chain, Interrupts.softint_at, Interrupts.text_of_source, Pending.allows_interrupts, Pending.softint_next, Pending.caused_no_more, Pending.with_caused, Pending.with_latch_of, Semaphores.obtains, Semaphores.passes, Step.task_step}
 use Rattle.execmodel.specs.Ports as model
-use Rattle.execmodel.specs.Semaphores.{obtains, passes}
-use Rattle.execmodel.specs.Step.{task_step}
 use Rattle.sigsem.specs.declared.semaphore.Obtained.{Obtained}
 use Rattle.execsim.specs.Agreement.{Seen}
-use Rattle.execheap.specs.declared.awaited.Awaited.{Awaited}
+use Rattle.execheap.specs.{declared.awaited.Awaited.Awaited, declared.refusal.Refusal.Refusal, Refusals.code_of}
 use Rattle.execheap.specs.declared.awaited.Awaited.TheVariants as awaited
-use Rattle.execheap.specs.declared.refusal.Refusal.{Refusal}
-use Rattle.execheap.specs.Refusals.{code_of}
 
 -- software interrupt i is caused: it is to run after the caused ones of its priority
 abbrev pub caused : ℕ → Seen → Seen

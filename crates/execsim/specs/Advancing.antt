@@ -1,15 +1,9 @@
 -- Steps of which only the first may print.
 use Rattle.std.specs.Prelude.{◌≡◌, ◌+◌, ◌≤◌, ◌↔◌, ⊤, Bool, false, true, ℕ, zero, suc, [], Result, IfOk, IsOk, MatchResult}
-use Rattle.exectrace.specs.Sink.{Tape, Writes}
-use Rattle.exectrace.specs.Trace.{printed}
-use Rattle.exectrace.specs.declared.sinks.SinkState.TheVariants.{Good}
-use Rattle.exectrace.specs.declared.sinks.WriteFault.{WriteFault}
+use Rattle.exectrace.specs.{Sink.Tape, Sink.Writes, Trace.printed, declared.sinks.SinkState.TheVariants.Good, declared.sinks.WriteFault.WriteFault}
 use Rattle.taskscript.specs.declared.event.Event.TheVariants.{Run}
-use Rattle.execmodel.specs.State.{State}
-use Rattle.execmodel.specs.Step.{event, step, steps}
-use Rattle.execsim.specs.Agreement.{Seen, Agrees, Follows}
-use Rattle.execsim.specs.Changes.{ChangesScripts}
-use Rattle.execsim.specs.Headline.{Shown}
+use Rattle.execmodel.specs.{State.State, Step.event, Step.step, Step.steps}
+use Rattle.execsim.specs.{Agreement.Seen, Agreement.Agrees, Agreement.Follows, Changes.ChangesScripts, Headline.Shown}
 
 -- that many steps, each of which prints nothing
 abbrev pub IsSilent : ℕ → State → Type 0

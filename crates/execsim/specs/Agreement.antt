@@ -2,18 +2,12 @@
 -- tasks, its public ports and its caused software interrupts in order of arrival; the machine keeps each in order of priority. All else is
 -- equal.
 use Rattle.std.specs.Prelude.{◌≡◌, ◌≢◌, ℕ, Bool, List}
-use Rattle.exectrace.specs.Sink.{Tape, Puts}
-use Rattle.exectrace.specs.declared.sinks.SinkState.TheVariants.{Good}
-use Rattle.exectrace.specs.Trace.{printed}
+use Rattle.exectrace.specs.{Sink.Tape, Sink.Puts, declared.sinks.SinkState.TheVariants.Good, Trace.printed}
 use Rattle.exectrace.specs.Trace as trace
-use Rattle.taskscript.specs.Words.{word_text}
-use Rattle.taskscript.specs.File.{SoftintData}
-use Rattle.execlist.specs.Order.{order}
-use Rattle.execlist.specs.Disciplines.{pri_at}
+use Rattle.taskscript.specs.{Words.word_text, File.SoftintData}
+use Rattle.execlist.specs.{Order.order, Disciplines.pri_at}
 use Rattle.scheduler.specs.Schedule.{Schedule, name_of}
-use Rattle.execmodel.specs.State.{Bodies, Call, Memory, Pending, State, Scripts, Outcome}
-use Rattle.execmodel.specs.Pending.{softint_pri}
-use Rattle.execmodel.specs.Ports.{priority_of_public}
+use Rattle.execmodel.specs.{State.Bodies, State.Call, State.Memory, State.Pending, State.State, State.Scripts, State.Outcome, Pending.softint_pri, Ports.priority_of_public}
 
 -- what the layers of the machine show, a field for each
 pub record Seen : Type 0 where

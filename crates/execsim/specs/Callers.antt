@@ -1,8 +1,6 @@
 -- Who may make a call: a task of the machine, or a body.
 use Rattle.std.specs.Prelude.{◌≡◌, ◌<◌, ℕ, Some, length}
-use Rattle.execsim.specs.declared.call.Caller.{Caller}
-use Rattle.execsim.specs.Agreement.{Seen}
-use Rattle.execsim.specs.Views.{IsCaller}
+use Rattle.execsim.specs.{declared.call.Caller.Caller, Agreement.Seen, Views.IsCaller}
 
 -- the machine has a task of that number, counted from 0
 abbrev pub HasTask : ℕ → Seen → Type 0

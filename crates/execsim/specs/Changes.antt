@@ -1,14 +1,9 @@
 -- What a plain word changes, and what Print puts.
 use Rattle.std.specs.Prelude.{◌≡◌, ℕ, Some, length}
-use Rattle.exectrace.specs.Sink.{Puts, Tape}
-use Rattle.exectrace.specs.Trace.{Done, printed_line}
-use Rattle.taskscript.specs.declared.word.Word.TheVariants.{Plain}
-use Rattle.taskscript.specs.declared.word.plain.PlainWord.TheVariants.{Print}
-use Rattle.execmodel.specs.State.{Call, Scripts, State, Outcome, quiet, on_scripts}
-use Rattle.execmodel.specs.Calls.{goes_on, next_call, stored}
-use Rattle.execsim.specs.declared.change.Change.{Change}
-use Rattle.execmodel.specs.Step.{task_step}
-use Rattle.execsim.specs.Agreement.{Follows, Seen, line_seen}
+use Rattle.exectrace.specs.{Sink.Puts, Sink.Tape, Trace.Done, Trace.printed_line}
+use Rattle.taskscript.specs.{declared.word.Word.TheVariants.Plain, declared.word.plain.PlainWord.TheVariants.Print}
+use Rattle.execmodel.specs.{State.Call, State.Scripts, State.State, State.Outcome, State.quiet, State.on_scripts, Calls.goes_on, Calls.next_call, Calls.stored, Step.task_step}
+use Rattle.execsim.specs.{declared.change.Change.Change, Agreement.Follows, Agreement.Seen, Agreement.line_seen}
 
 -- a variable of task t, or none, is given a value, and the task goes on at the place of the change
 abbrev pub changes : ℕ → Change → State → Outcome

@@ -1,9 +1,7 @@
 -- How a call on an object ends, which may be refused.
 use Rattle.std.specs.Prelude.{ℕ, Result, Ok, Err}
-use Rattle.execmodel.specs.State.{Call, State, Outcome}
-use Rattle.execmodel.specs.Calls.{Caller, ByTask, done_by, answered_by, alerted_by}
-use Rattle.execheap.specs.declared.refusal.Refusal.{Refusal}
-use Rattle.execheap.specs.Refusals.{code_of}
+use Rattle.execmodel.specs.{State.Call, State.State, State.Outcome, Calls.Caller, Calls.ByTask, Calls.done_by, Calls.answered_by, Calls.alerted_by}
+use Rattle.execheap.specs.{declared.refusal.Refusal.Refusal, Refusals.code_of}
 
 -- a call that answers nothing: it is done, or stops the machine by its alert
 abbrev pub done_or_alerted_by : Result (Unit {0}) Refusal → Caller → Call → State → Outcome

@@ -1,24 +1,14 @@
 -- What the public calls promise: a started machine follows the abstract machine event by event, and `simulate` writes exactly the
 -- trace of its whole run.
 use Rattle.std.specs.Prelude.{◌≡◌, Bool, true, false, List, Result, Ok, Err, IfOk, IsOk, ◌↔◌, MatchResult}
-use Rattle.exectrace.specs.Sink.{Tape, TakesAll, Breaks, Writes}
-use Rattle.exectrace.specs.Trace.{printed}
-use Rattle.exectrace.specs.declared.sinks.SinkState.TheVariants.{Good}
-use Rattle.exectrace.specs.declared.sinks.WriteFault.{WriteFault}
-use Rattle.taskscript.specs.File.{MachineData}
-use Rattle.taskscript.specs.declared.event.Event.{Event}
-use Rattle.taskscript.specs.declared.fault.FileFault.{FileFault}
+use Rattle.exectrace.specs.{Sink.Tape, Sink.TakesAll, Sink.Breaks, Sink.Writes, Trace.printed, declared.sinks.SinkState.TheVariants.Good, declared.sinks.WriteFault.WriteFault}
+use Rattle.taskscript.specs.{File.MachineData, declared.event.Event.Event, declared.fault.FileFault.FileFault, declared.fault.EventFault.EventFault}
 use Rattle.taskscript.specs.declared.fault.FileFault.TheVariants as file_fault
-use Rattle.taskscript.specs.declared.fault.EventFault.{EventFault}
 use Rattle.taskscript.specs.declared.fault.EventFault.TheVariants as event_fault
-use Rattle.execmodel.specs.State.{State, Outcome}
-use Rattle.execmodel.specs.Step.{run}
-use Rattle.execsim.specs.Agreement.{Seen, Agrees}
-use Rattle.execsim.specs.declared.machine.Flow.{Flow}
+use Rattle.execmodel.specs.{State.State, State.Outcome, Step.run}
 use Rattle.execsim.specs.declared.machine.Flow.TheVariants.{Going, Alerted}
-use Rattle.execsim.specs.declared.simulation.End.{End}
+use Rattle.execsim.specs.{Agreement.Seen, Agreement.Agrees, declared.machine.Flow.Flow, declared.simulation.End.End, declared.simulation.SimFault.SimFault}
 use Rattle.execsim.specs.declared.simulation.End.TheVariants as end
-use Rattle.execsim.specs.declared.simulation.SimFault.{SimFault}
 use Rattle.execsim.specs.declared.simulation.SimFault.TheVariants as fault
 
 -- ---- one call of a machine

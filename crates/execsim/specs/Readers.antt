@@ -1,12 +1,8 @@
 -- What the readers of a machine answer, by what its layers show.
 use Rattle.std.specs.Prelude.{ℕ, nat_lt, ◌||◌, if◌then◌else◌, is_some, length, Option, None, Some}
-use Rattle.scheduler.specs.Schedule.{task_count}
-use Rattle.scheduler.specs.Status.{status_seen}
+use Rattle.scheduler.specs.{Schedule.task_count, Status.status_seen}
 use Rattle.execmodel.specs.State.{program_of}
-use Rattle.execsim.specs.declared.machine.readers.MachineView.{MachineView}
-use Rattle.execsim.specs.declared.machine.readers.TaskView.{TaskView}
-use Rattle.execsim.specs.Actions.{softint_seen}
-use Rattle.execsim.specs.Agreement.{Seen}
+use Rattle.execsim.specs.{declared.machine.readers.MachineView.MachineView, declared.machine.readers.TaskView.TaskView, Actions.softint_seen, Agreement.Seen}
 
 -- what is seen of task t
 abbrev pub task_view : ℕ → Seen → TaskView

@@ -1,9 +1,8 @@
 -- What reading up to a limit takes from a reader, and what a failed read is.
 use Rattle.std.specs.Prelude.{◌≡◌, ◌≤◌, ◌+◌, ◌++◌, ℕ, List, Option, length}
-use Rattle.std.specs.Io.KnownBytes.{Consumes}
-use Rattle.std.specs.declared.io.ErrorKind.{ErrorKind}
-use Rattle.execsim.specs.declared.reading.ReadFault.{ReadFault}
+use Rattle.std.specs.{Io.KnownBytes.Consumes, declared.io.ErrorKind.ErrorKind}
 use Rattle.execsim.specs.declared.reading.ReadFault.TheVariants.{Failed, TooLong, OutOfMemory}
+use Rattle.execsim.specs.declared.reading.ReadFault.{ReadFault}
 
 -- the number of a fault (project rule)
 abbrev pub read_fault_number : ReadFault → ℕ

@@ -2,8 +2,7 @@
 -- system time is ahead, is less than 2 to the power 54.
 use Rattle.std.specs.Prelude.{ℕ, ◌+◌, ◌*◌, ◌^◌, ◌≤◌}
 use Rattle.execmodel.specs.State.{State}
-use Rattle.execsim.specs.Agreement.{Seen, Agrees}
-use Rattle.execsim.specs.Reached.{IsReached}
+use Rattle.execsim.specs.{Agreement.Seen, Agreement.Agrees, Reached.IsReached}
 
 -- that many ticks may come
 abbrev pub HasTimeFor : ℕ → Seen → Type 0

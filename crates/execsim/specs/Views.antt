@@ -1,21 +1,13 @@
 -- What the calls and the bodies of the machine show.
 use Rattle.std.specs.Prelude.{◌≡◌, ◌<◌, ℕ, List, map, take}
 use Rattle.exectrace.specs.Short.{short_argument}
-use Rattle.taskscript.specs.Commands.{CommandData, command_view}
-use Rattle.taskscript.specs.File.{SoftintData, ServerData}
-use Rattle.softint.specs.declared.interrupt.Server.{Server as Interrupting}
-use Rattle.softint.specs.Interrupts.{Interrupts}
+use Rattle.taskscript.specs.{Commands.CommandData, Commands.command_view, File.SoftintData, File.ServerData}
+use Rattle.softint.specs.{declared.interrupt.Server.Server as Interrupting, Interrupts.Interrupts}
 use Rattle.execmodel.specs.State as model
-use Rattle.execmodel.specs.Calls.{ByTask, ByBody}
+use Rattle.execmodel.specs.{Calls.ByTask, Calls.ByBody, Interrupts.softint_at, Interrupts.server_at, Pending.source_named}
 use Rattle.execmodel.specs.Calls as calls
-use Rattle.execmodel.specs.Interrupts.{softint_at, server_at}
-use Rattle.execmodel.specs.Pending.{source_named}
-use Rattle.execsim.specs.declared.bodies.Softint.{Softint}
-use Rattle.execsim.specs.declared.bodies.Server.{Server}
-use Rattle.execsim.specs.declared.bodies.Body.{Body}
+use Rattle.execsim.specs.{declared.bodies.Softint.Softint, declared.bodies.Server.Server, declared.bodies.Body.Body, declared.call.Call.Call, declared.call.Caller.Caller}
 use Rattle.execsim.specs.declared.bodies.Body.TheVariants as body
-use Rattle.execsim.specs.declared.call.Call.{Call}
-use Rattle.execsim.specs.declared.call.Caller.{Caller}
 use Rattle.execsim.specs.declared.call.Caller.TheVariants as caller
 
 -- ---- calls

@@ -1,12 +1,8 @@
 //! What the software interrupts and the servers execute. Nothing changes it once the machine is made, until it is reset.
-ghost use Rattle.std.specs.Prelude.{◌≡◌, ◌≢◌, ◌<◌, All, IfOk, length, map, slice_index_or, true};
-ghost use Rattle.std.specs.List.{AllPairs};
-ghost use Rattle.taskscript.specs.Commands.{command_view};
-ghost use Rattle.taskscript.specs.Machines.{softint_names};
-ghost use Rattle.taskscript.specs.Numbering.{texts};
+ghost use Rattle.std.specs.Prelude.{◌≡◌, ◌≢◌, ◌<◌, All, IfOk, length, map, slice_index_or, true, AllPairs};
+ghost use Rattle.taskscript.specs.{Commands.command_view, Machines.softint_names, Numbering.texts};
 ghost use Rattle.taskscript.specs.Records as records;
-ghost use Rattle.execmodel.specs.Interrupts.{no_server, no_softint, server_at};
-ghost use Rattle.execmodel.specs.Pending.{softint_named};
+ghost use Rattle.execmodel.specs.{Interrupts.no_server, Interrupts.no_softint, Interrupts.server_at, Pending.softint_named};
 ghost use Rattle.execsim.specs.Views.{code_of_body, interrupting, name_of_body, server_view, softint_view};
 
 use crate::code::{copied_code, copy_code};
@@ -58,10 +54,8 @@ pub struct Bodies {
 }
 
 impl Model for Bodies {
-    ghost use Rattle.std.specs.Prelude.{◌≡◌, ◌≢◌, map};
-    ghost use Rattle.std.specs.List.{AllPairs};
-    ghost use Rattle.taskscript.specs.Machines.{softint_names};
-    ghost use Rattle.taskscript.specs.Numbering.{texts};
+    ghost use Rattle.std.specs.Prelude.{◌≡◌, ◌≢◌, map, AllPairs};
+    ghost use Rattle.taskscript.specs.{Machines.softint_names, Numbering.texts};
     ghost use Rattle.execmodel.specs.State as model;
     ghost use Rattle.execsim.specs.Views.{server_view, softint_view};
 

@@ -2,23 +2,14 @@
 //! its end at once, or to an alert.
 ghost use Rattle.std.specs.Prelude.{◌≡◌, ◌≤◌, ℕ, List, [], ◌∷◌, IfSome, None, Some, true, map, slice_get, take};
 ghost use Rattle.execlist.specs.Disciplines.{by_priority};
-ghost use Rattle.exectrace.specs.Short.{short_argument};
-ghost use Rattle.exectrace.specs.Sink.{Puts, Tape};
-ghost use Rattle.exectrace.specs.Shown.{shown_outcome};
-ghost use Rattle.exectrace.specs.Trace.{Quoted, Value, printed_line};
+ghost use Rattle.exectrace.specs.{Short.short_argument, Sink.Puts, Sink.Tape, Shown.shown_outcome, Trace.Quoted, Trace.Value, Trace.printed_line};
 ghost use Rattle.exectrace.specs.Trace as trace;
-ghost use Rattle.taskscript.specs.Words.{word_text};
+ghost use Rattle.taskscript.specs.{Words.word_text, Commands.argument_view, Commands.command_view};
 ghost use Rattle.scheduler.specs.Dispatch.{signalled};
-ghost use Rattle.execmodel.specs.Bodies.{does_in_body, does_interrupts_by, does_plain_by, does_ports_by, does_signals_by, runs_body};
-ghost use Rattle.execmodel.specs.State.{Scripts, State};
+ghost use Rattle.execmodel.specs.{Bodies.does_in_body, Bodies.does_interrupts_by, Bodies.does_plain_by, Bodies.does_ports_by, Bodies.does_signals_by, Bodies.runs_body, State.Scripts, State.State, Calls.ByBody, Calls.alerted_by, Calls.answered_by, Calls.argument, Calls.call_in_body, Calls.done_by, Calls.evaluated_in_body, Calls.number_in, Calls.silent_by, Calls.stored_shared};
 ghost use Rattle.execmodel.specs.State as model;
-ghost use Rattle.execmodel.specs.Calls.{ByBody, alerted_by, answered_by, argument, call_in_body, done_by, evaluated_in_body, number_in, silent_by, stored_shared};
 ghost use Rattle.execmodel.specs.Calls as calls;
-ghost use Rattle.execsim.specs.Actions.{caused, does_at_place};
-ghost use Rattle.execsim.specs.Agreement.{Follows, Seen};
-ghost use Rattle.execsim.specs.Callers.{HasTask};
-ghost use Rattle.taskscript.specs.Commands.{argument_view, command_view};
-ghost use Rattle.execsim.specs.Views.{call_view, code_of_body};
+ghost use Rattle.execsim.specs.{Actions.caused, Actions.does_at_place, Agreement.Follows, Agreement.Seen, Callers.HasTask, Views.call_view, Views.code_of_body};
 
 use crate::bodies::Body;
 use crate::call::{Call, Caller};

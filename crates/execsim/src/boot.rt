@@ -1,19 +1,14 @@
 //! The parts of a machine, made from its file, and the machine put together of them: of no more than four parts at once, since each part that
 //! can fail multiplies the proof.
 ghost use Rattle.std.specs.Prelude.{◌≡◌, ◌≤◌, [], All, length, map, nat_eq, IfOk};
-ghost use Rattle.taskscript.specs.Commands.{command_view};
-ghost use Rattle.taskscript.specs.Machines.{IsMachine};
-ghost use Rattle.taskscript.specs.Records.{library_view, server_view, softint_view, task_view};
+ghost use Rattle.taskscript.specs.{Commands.command_view, Machines.IsMachine, Records.library_view, Records.server_view, Records.softint_view, Records.task_view};
 ghost use Rattle.scheduler.specs.Schedule.{unstarted};
-ghost use Rattle.softint.specs.Interrupts.{IsPriority};
-ghost use Rattle.softint.specs.Sources.{no_latches};
+ghost use Rattle.softint.specs.{Interrupts.IsPriority, Sources.no_latches};
 ghost use Rattle.timerdev.specs.Timing.{new_timer};
 ghost use Rattle.execlib.specs.Libraries.{description_of};
 ghost use Rattle.execheap.specs.Numbered.{shown_library};
 ghost use Rattle.execmodel.specs.State.{State, booted, begun};
-ghost use Rattle.execsim.specs.Agreement.{Agrees};
-ghost use Rattle.execsim.specs.Time.{HasTimeFor};
-ghost use Rattle.execsim.specs.Views.{IsFor, interrupting};
+ghost use Rattle.execsim.specs.{Agreement.Agrees, Time.HasTimeFor, Views.IsFor, Views.interrupting};
 
 use crate::bodies::Bodies;
 use crate::code::copied_code;

@@ -1,14 +1,9 @@
 //! How a call of a task ends: done, answered, waiting, or refused by an alert; and how one ends whoever makes it. Whatever else the call does
 //! has been done before.
 ghost use Rattle.std.specs.Prelude.{◌≡◌};
-ghost use Rattle.exectrace.specs.Sink.{Puts, Tape};
-ghost use Rattle.exectrace.specs.Shown.{shown_outcome};
-ghost use Rattle.exectrace.specs.Trace.{printed_line};
+ghost use Rattle.exectrace.specs.{Sink.Puts, Sink.Tape, Shown.shown_outcome, Trace.printed_line};
 ghost use Rattle.execmodel.specs.Calls.{done, done_by, answered, answered_by, waiting, silent, silent_by, alerted, alerted_by};
-ghost use Rattle.execsim.specs.Callers.{HasTask, HasCaller};
-ghost use Rattle.execsim.specs.Agreement.{Follows, line_seen};
-ghost use Rattle.execsim.specs.Endings.{answered_or_alerted, answered_or_alerted_by, done_or_alerted};
-ghost use Rattle.execsim.specs.Views.{call_view, caller_view};
+ghost use Rattle.execsim.specs.{Callers.HasTask, Callers.HasCaller, Agreement.Follows, Agreement.line_seen, Endings.answered_or_alerted, Endings.answered_or_alerted_by, Endings.done_or_alerted, Views.call_view, Views.caller_view};
 ghost use Rattle.execheap.specs.Refusals.{code_of};
 
 use crate::call::{Call, Caller};

@@ -1,13 +1,8 @@
 //! The word Cause: a software interrupt is caused by its name.
-ghost use Rattle.std.specs.Prelude.{◌≡◌, [], ◌∷◌, option_copied, slice_get, take, true};
-ghost use Rattle.std.specs.Option.{option_map, unwrap_or};
+ghost use Rattle.std.specs.Prelude.{◌≡◌, [], ◌∷◌, option_copied, slice_get, take, true, option_map, unwrap_or};
 ghost use Rattle.exectrace.specs.Trace.{Quoted};
-ghost use Rattle.execmodel.specs.Calls.{ByTask, name_argument};
-ghost use Rattle.execmodel.specs.Pending.{softint_named};
-ghost use Rattle.execmodel.specs.Causing.{does_cause_by, does_interrupts};
-ghost use Rattle.execsim.specs.Callers.{HasTask, HasCaller};
-ghost use Rattle.execsim.specs.Agreement.{Follows};
-ghost use Rattle.execsim.specs.Views.{call_view, caller_view};
+ghost use Rattle.execmodel.specs.{Calls.ByTask, Calls.name_argument, Pending.softint_named, Causing.does_cause_by, Causing.does_interrupts};
+ghost use Rattle.execsim.specs.{Callers.HasTask, Callers.HasCaller, Agreement.Follows, Views.call_view, Views.caller_view};
 
 use crate::body_calls::is_cause;
 use crate::call::{Call, Caller};

@@ -1,15 +1,9 @@
 //! Plain words: a task does them on its command itself, with no call between.
 ghost use Rattle.std.specs.Prelude.{◌≡◌, ℕ, List, IfSome, IsTrue, None, Some, false, option_copied, slice_get, take};
-ghost use Rattle.exectrace.specs.Sink.{Puts, Tape};
-ghost use Rattle.exectrace.specs.Trace.{Done, printed_line};
-ghost use Rattle.taskscript.specs.declared.word.Word.TheVariants.{Plain};
-ghost use Rattle.execmodel.specs.State.{State};
-ghost use Rattle.execmodel.specs.Calls.{argument, call_of, evaluated, goes_on, next_call, number_in, stored};
-ghost use Rattle.execmodel.specs.Step.{call_step, does, task_step};
-ghost use Rattle.execsim.specs.Callers.{HasTask};
-ghost use Rattle.execsim.specs.Changes.{ChangesScripts, DoesBy, PutsPrint, changes};
-ghost use Rattle.execsim.specs.Agreement.{Follows, line_seen};
-ghost use Rattle.taskscript.specs.Commands.{argument_view, command_view};
+ghost use Rattle.exectrace.specs.{Sink.Puts, Sink.Tape, Trace.Done, Trace.printed_line};
+ghost use Rattle.taskscript.specs.{declared.word.Word.TheVariants.Plain, Commands.argument_view, Commands.command_view};
+ghost use Rattle.execmodel.specs.{State.State, Calls.argument, Calls.call_of, Calls.evaluated, Calls.goes_on, Calls.next_call, Calls.number_in, Calls.stored, Step.call_step, Step.does, Step.task_step};
+ghost use Rattle.execsim.specs.{Callers.HasTask, Changes.ChangesScripts, Changes.DoesBy, Changes.PutsPrint, Changes.changes, Agreement.Follows, Agreement.line_seen};
 
 use crate::kernel::Kernel;
 use crate::plain::{all_bits, common_bits, difference, place_at_zero, sum};

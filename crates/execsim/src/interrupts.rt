@@ -2,10 +2,8 @@
 //! served (RKM Libraries, Exec Interrupts).
 ghost use Rattle.std.specs.Prelude.{◌≡◌, is_some, true, slice_get};
 ghost use Rattle.softint.specs.Sources.{highest};
-ghost use Rattle.execmodel.specs.Interrupts.{chain_of, serving_counted, interrupts, runs_chain, runs_server, text_of_source};
-ghost use Rattle.execmodel.specs.Pending.{softint_named, source_named, with_latch_of};
-ghost use Rattle.execsim.specs.Actions.{caused, served, softint_body, softint_seen, source_seen, without_request, without_softint};
-ghost use Rattle.execsim.specs.Agreement.{Follows};
+ghost use Rattle.execmodel.specs.{Interrupts.chain_of, Interrupts.serving_counted, Interrupts.interrupts, Interrupts.runs_chain, Interrupts.runs_server, Interrupts.text_of_source, Pending.softint_named, Pending.source_named, Pending.with_latch_of};
+ghost use Rattle.execsim.specs.{Actions.caused, Actions.served, Actions.softint_body, Actions.softint_seen, Actions.source_seen, Actions.without_request, Actions.without_softint, Agreement.Follows};
 
 use crate::bodies::Body;
 use crate::kernel::Kernel;

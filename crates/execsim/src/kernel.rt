@@ -1,17 +1,10 @@
 //! The machine without its failure to write. The methods here touch its fields, and have one equation each.
-ghost use Rattle.std.specs.Prelude.{◌≡◌, ◌≤◌, ℕ, List, length, true, false, None, slice_index_or, slice_set, map, replicate, take};
-ghost use Rattle.std.specs.Option.{option_map};
+ghost use Rattle.std.specs.Prelude.{◌≡◌, ◌≤◌, ℕ, List, length, true, false, None, slice_index_or, slice_set, map, replicate, take, option_map};
 ghost use Rattle.exectrace.specs.Short.{short_argument};
 ghost use Rattle.scheduler.specs.Schedule.{name_of, task_count};
-ghost use Rattle.execmodel.specs.State.{booted, program_of, shared_variables};
-ghost use Rattle.execmodel.specs.Calls.{content, evaluated, stored, goes_on, keeps};
-ghost use Rattle.execmodel.specs.Signals.{is_task};
-ghost use Rattle.taskscript.specs.Commands.{argument_view};
-ghost use Rattle.taskscript.specs.Machines.{IsMachine};
-ghost use Rattle.execsim.specs.Agreement.{Agrees};
-ghost use Rattle.execsim.specs.Callers.{HasTask};
-ghost use Rattle.execsim.specs.Time.{HasTimeFor};
-ghost use Rattle.execsim.specs.Views.{IsFor, call_view};
+ghost use Rattle.execmodel.specs.{State.booted, State.program_of, State.shared_variables, Calls.content, Calls.evaluated, Calls.stored, Calls.goes_on, Calls.keeps, Signals.is_task};
+ghost use Rattle.taskscript.specs.{Commands.argument_view, Machines.IsMachine};
+ghost use Rattle.execsim.specs.{Agreement.Agrees, Callers.HasTask, Time.HasTimeFor, Views.IsFor, Views.call_view};
 
 use crate::bodies::Bodies;
 use crate::call::Call;
@@ -44,8 +37,7 @@ pub struct Kernel<S: ListSpace> {
 
 impl<S: ListSpace> Model for Kernel<S> {
     ghost use Rattle.std.specs.Prelude.{◌≡◌, ◌≤◌, length};
-    ghost use Rattle.execsim.specs.Agreement.{Seen};
-    ghost use Rattle.execsim.specs.Views.{IsFor};
+    ghost use Rattle.execsim.specs.{Agreement.Seen, Views.IsFor};
 
     ghost Value = { Seen };
 

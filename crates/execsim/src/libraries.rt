@@ -1,11 +1,8 @@
 //! Libraries: how they are opened, closed and removed. A loaded library is named by its base, the address of its block. The calls of `Heap`
 //! have the effects on memory.
 ghost use Rattle.std.specs.Prelude.{◌≡◌};
-ghost use Rattle.execmodel.specs.Libraries.{opening, opened, does_libraries};
-ghost use Rattle.execmodel.specs.Libraries.{does_open_library, does_close_library, does_rem_library, does_lib_open_cnt};
-ghost use Rattle.execsim.specs.Callers.{HasTask};
-ghost use Rattle.execsim.specs.Agreement.{Follows};
-ghost use Rattle.execsim.specs.Views.{call_view};
+ghost use Rattle.execmodel.specs.Libraries.{opening, opened, does_libraries, does_open_library, does_close_library, does_rem_library, does_lib_open_cnt};
+ghost use Rattle.execsim.specs.{Callers.HasTask, Agreement.Follows, Views.call_view};
 
 use crate::call::Call;
 use crate::kernel::Kernel;

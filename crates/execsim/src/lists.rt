@@ -1,19 +1,11 @@
 //! Lists and nodes: how they are made and freed, linked, unlinked and scanned. An object is named by the address of its block.
 //! The calls of `Heap` have the effects; a word hands its arguments on, and ends as the answer says.
-ghost use Rattle.std.specs.Prelude.{◌≡◌, [], IfOk, IsTrue};
+ghost use Rattle.std.specs.Prelude.{◌≡◌, [], IfOk, IsTrue, option_map, unwrap_or};
 ghost use Rattle.std.specs.Int.{cast_signed, w32};
-ghost use Rattle.std.specs.Option.{option_map, unwrap_or};
 ghost use Rattle.taskscript.specs.declared.word.lists.ListWord.TheVariants as lists;
-ghost use Rattle.execmodel.specs.State.{ListHead, Node};
-ghost use Rattle.execmodel.specs.Memory.{placed};
-ghost use Rattle.execmodel.specs.GivingWay.{after_asking_for_object};
-ghost use Rattle.execmodel.specs.Objects.{place_for_object};
-ghost use Rattle.execmodel.specs.Tasks.{is_priority};
-ghost use Rattle.execmodel.specs.Lists.{find_alert, found_node, is_list, is_node, list_size, node_size, does_lists};
+ghost use Rattle.execmodel.specs.{State.ListHead, State.Node, Memory.placed, GivingWay.after_asking_for_object, Objects.place_for_object, Tasks.is_priority, Lists.find_alert, Lists.found_node, Lists.is_list, Lists.is_node, Lists.list_size, Lists.node_size, Lists.does_lists};
 ghost use Rattle.execheap.specs.Refusals.{alert_of};
-ghost use Rattle.execsim.specs.Callers.{HasTask};
-ghost use Rattle.execsim.specs.Agreement.{Follows};
-ghost use Rattle.execsim.specs.Views.{call_view};
+ghost use Rattle.execsim.specs.{Callers.HasTask, Agreement.Follows, Views.call_view};
 
 use crate::call::Call;
 use crate::kernel::Kernel;

@@ -1,16 +1,9 @@
 //! The machine as its callers see it: made from a machine file, started once, and given one event after another.
 ghost use Rattle.std.specs.Prelude.{◌≡◌, ◌+◌, ℕ, true, false, sum_by, IfOk, IsOk};
-ghost use Rattle.exectrace.specs.Sink.{Writes};
-ghost use Rattle.exectrace.specs.Trace.{printed};
-ghost use Rattle.exectrace.specs.declared.sinks.SinkState.{SinkState};
+ghost use Rattle.exectrace.specs.{Sink.Writes, Trace.printed, declared.sinks.SinkState.SinkState};
 ghost use Rattle.taskscript.specs.Events.{ticks as ticks_of};
-ghost use Rattle.execmodel.specs.State.{State, booted, andthen};
-ghost use Rattle.execmodel.specs.Step.{starts, event, events};
-ghost use Rattle.execsim.specs.Advancing.{Advances, Ends};
-ghost use Rattle.execsim.specs.Agreement.{Agrees};
-ghost use Rattle.execsim.specs.Headline.{Acts, StaysFailed, Finishes, flow_of};
-ghost use Rattle.execsim.specs.Reached.{QueuesAgree};
-ghost use Rattle.execsim.specs.Time.{HasTimeFor};
+ghost use Rattle.execmodel.specs.{State.State, State.booted, State.andthen, Step.starts, Step.event, Step.events};
+ghost use Rattle.execsim.specs.{Advancing.Advances, Advancing.Ends, Agreement.Agrees, Headline.Acts, Headline.StaysFailed, Headline.Finishes, Headline.flow_of, Reached.QueuesAgree, Time.HasTimeFor};
 
 mod queues;
 mod readers;
@@ -49,9 +42,7 @@ pub struct Machine<S: ListSpace> {
 
 impl<S: ListSpace> Model for Machine<S> {
     ghost use Rattle.std.specs.Prelude.{◌≡◌, true, false};
-    ghost use Rattle.execsim.specs.Headline.{Shown};
-    ghost use Rattle.execsim.specs.Resting.{IsSettled};
-    ghost use Rattle.execsim.specs.Time.{IsKnown};
+    ghost use Rattle.execsim.specs.{Headline.Shown, Resting.IsSettled, Time.IsKnown};
 
     ghost Value = { Shown };
 

@@ -2,12 +2,8 @@
 ghost use Rattle.std.specs.Prelude.{◌≡◌, true, false};
 ghost use Rattle.memlist.specs.Fit.{avail};
 ghost use Rattle.taskscript.specs.declared.word.memory.MemoryWord.TheVariants as words;
-ghost use Rattle.execmodel.specs.State.{Plain};
-ghost use Rattle.execmodel.specs.GivingWay.{after_asking};
-ghost use Rattle.execmodel.specs.Memory.{block_at, can_be_asked, extents, freed, has_only, is_named, place_for, placed, does_memory};
-ghost use Rattle.execsim.specs.Callers.{HasTask};
-ghost use Rattle.execsim.specs.Agreement.{Follows};
-ghost use Rattle.execsim.specs.Views.{call_view};
+ghost use Rattle.execmodel.specs.{State.Plain, GivingWay.after_asking, Memory.block_at, Memory.can_be_asked, Memory.extents, Memory.freed, Memory.has_only, Memory.is_named, Memory.place_for, Memory.placed, Memory.does_memory};
+ghost use Rattle.execsim.specs.{Callers.HasTask, Agreement.Follows, Views.call_view};
 
 use crate::call::Call;
 use crate::kernel::Kernel;

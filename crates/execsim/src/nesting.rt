@@ -1,12 +1,9 @@
 //! Forbid and Disable of the running task.
-ghost use Rattle.std.specs.Prelude.{◌≡◌};
-ghost use Rattle.std.specs.Option.{is_some};
+ghost use Rattle.std.specs.Prelude.{◌≡◌, is_some};
 ghost use Rattle.forbid.specs.Nesting.{after_forbid, after_permit, after_disable, after_enable};
 ghost use Rattle.scheduler.specs.Schedule.{nesting_of, nested};
 ghost use Rattle.execmodel.specs.Nesting.{done_or_nest, does_forbid, does_permit, does_disable, does_enable, does_nesting};
-ghost use Rattle.execsim.specs.Callers.{HasTask, Runs};
-ghost use Rattle.execsim.specs.Agreement.{Follows};
-ghost use Rattle.execsim.specs.Views.{call_view};
+ghost use Rattle.execsim.specs.{Callers.HasTask, Callers.Runs, Agreement.Follows, Views.call_view};
 
 use crate::call::Call;
 use crate::kernel::Kernel;

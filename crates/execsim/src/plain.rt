@@ -2,9 +2,7 @@
 ghost use Rattle.std.specs.Prelude.{◌≡◌, ◌+◌, ◌-◌, ◌%◌, ◌^◌, bit_and, bit_or, if◌then◌else◌, nat_eq};
 ghost use Rattle.exectrace.specs.Sink.{Tape};
 ghost use Rattle.execmodel.specs.Plain.{does_set_by, does_add_by, does_sub_by, does_and_by, does_or_by, jumps, does_jump, does_jump_zero, does_jump_not_zero, does_print, does_plain};
-ghost use Rattle.execsim.specs.Callers.{HasTask, HasCaller};
-ghost use Rattle.execsim.specs.Agreement.{Follows};
-ghost use Rattle.execsim.specs.Views.{call_view, caller_view};
+ghost use Rattle.execsim.specs.{Callers.HasTask, Callers.HasCaller, Agreement.Follows, Views.call_view, Views.caller_view};
 
 use crate::call::{Call, Caller};
 use crate::kernel::Kernel;

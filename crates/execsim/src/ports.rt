@@ -1,27 +1,15 @@
 //! Ports and messages: how they are made and freed, made public, and how messages are put, replied, taken and waited for. An object is
 //! named by the address of its block. The calls of `Heap` have the effects on memory; what a message does to a task is done here.
-ghost use Rattle.std.specs.Prelude.{◌≡◌, ◌^◌, ◌<◌, ◌≤◌, negsuc, [], find, true, IfOk, IfSome, IsTrue, OnErr, OnOk, None, Some};
+ghost use Rattle.std.specs.Prelude.{◌≡◌, ◌^◌, ◌<◌, ◌≤◌, negsuc, [], find, true, IfOk, IfSome, IsTrue, OnErr, OnOk, None, Some, option_map, unwrap_or};
 ghost use Rattle.std.specs.Int.{cast_signed, w32};
-ghost use Rattle.std.specs.Option.{option_map, unwrap_or};
 ghost use Rattle.execlist.specs.Disciplines.{by_priority};
-ghost use Rattle.scheduler.specs.Schedule.{clears_and_waits, frees, signals_of};
-ghost use Rattle.scheduler.specs.Dispatch.{signalled};
+ghost use Rattle.scheduler.specs.{Schedule.clears_and_waits, Schedule.frees, Schedule.signals_of, Dispatch.signalled};
 ghost use Rattle.signals.specs.Signals.{grant, is_own_signal};
 ghost use Rattle.msgport.specs.Port.{new_port};
-ghost use Rattle.execmodel.specs.State.{MsgPort};
-ghost use Rattle.execmodel.specs.Memory.{placed};
-ghost use Rattle.execmodel.specs.GivingWay.{after_asking_for_object};
-ghost use Rattle.execmodel.specs.Objects.{place_for_object};
-ghost use Rattle.execmodel.specs.Tasks.{is_priority};
-ghost use Rattle.execmodel.specs.Ports.{add_port_alert, content_of, is_called, is_port, looked, loses, message_alert, port_or_none, port_size, does_ports};
-ghost use Rattle.execmodel.specs.Ports.{does_create_msg_port, does_delete_msg_port, does_add_port, does_rem_port, does_find_port, does_port_signal, does_port_cause, does_port_ignore};
-ghost use Rattle.execmodel.specs.Ports.{does_new_msg, does_free_msg, does_msg_word, does_set_msg_word, does_msg_type, does_put_msg_by, does_get_msg_by, does_wait_port, does_reply_msg_by};
-ghost use Rattle.execheap.specs.Listing.{listed};
-ghost use Rattle.execheap.specs.Refusals.{alert_of};
-ghost use Rattle.execsim.specs.Callers.{HasTask, Runs, HasCaller};
-ghost use Rattle.execsim.specs.Actions.{given_back_or_alerted, performed, performed_or_alerted_by};
-ghost use Rattle.execsim.specs.Agreement.{Follows};
-ghost use Rattle.execsim.specs.Views.{call_view, caller_view};
+ghost use Rattle.execmodel.specs.Ports.{add_port_alert, content_of, is_called, is_port, looked, loses, message_alert, port_or_none, port_size, does_ports, does_create_msg_port, does_delete_msg_port, does_add_port, does_rem_port, does_find_port, does_port_signal, does_port_cause, does_port_ignore, does_new_msg, does_free_msg, does_msg_word, does_set_msg_word, does_msg_type, does_put_msg_by, does_get_msg_by, does_wait_port, does_reply_msg_by};
+ghost use Rattle.execmodel.specs.{State.MsgPort, Memory.placed, GivingWay.after_asking_for_object, Objects.place_for_object, Tasks.is_priority};
+ghost use Rattle.execheap.specs.{Listing.listed, Refusals.alert_of};
+ghost use Rattle.execsim.specs.{Callers.HasTask, Callers.Runs, Callers.HasCaller, Actions.given_back_or_alerted, Actions.performed, Actions.performed_or_alerted_by, Agreement.Follows, Views.call_view, Views.caller_view};
 
 use crate::call::{Call, Caller};
 use crate::kernel::Kernel;

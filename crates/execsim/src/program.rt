@@ -1,9 +1,7 @@
 //! What a task executes: its commands, its own variables, and the call that it waits in.
-ghost use Rattle.std.specs.Prelude.{◌≡◌, ◌<◌, ◌≤◌, ◌+◌, map, length, true, Some, None, slice_get, slice_set, slice_index_or, option_copied};
-ghost use Rattle.std.specs.Option.{option_map};
+ghost use Rattle.std.specs.Prelude.{◌≡◌, ◌<◌, ◌≤◌, ◌+◌, map, length, true, Some, None, slice_get, slice_set, slice_index_or, option_copied, option_map};
 ghost use Rattle.exectrace.specs.Short.{short_argument};
-ghost use Rattle.execmodel.specs.Calls.{argument, name_argument};
-ghost use Rattle.execmodel.specs.State.{begun_with};
+ghost use Rattle.execmodel.specs.{Calls.argument, Calls.name_argument, State.begun_with};
 ghost use Rattle.taskscript.specs.Commands.{command_view};
 ghost use Rattle.execsim.specs.Views.{call_view};
 

@@ -1,7 +1,6 @@
 //! Reading a text whole, up to a limit.
 ghost use Rattle.std.specs.Prelude.{◌≡◌, ◌≤◌, ◌+◌, ◌-◌, IfErr, IfOk, IfSome, OnOk, vec_len};
-ghost use Rattle.std.specs.Io.KnownBytes.{IsAtEnd};
-ghost use Rattle.std.specs.IoError.{error_kind};
+ghost use Rattle.std.specs.{Io.KnownBytes.IsAtEnd, IoError.error_kind};
 ghost use Rattle.execsim.specs.Reading.{Adds, GaveBeforeFault, read_fault_number, read_fault_of};
 
 use std::alloc::Global;

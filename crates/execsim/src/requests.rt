@@ -3,21 +3,12 @@
 //! on memory; what a reply does to a task is done here.
 ghost use Rattle.std.specs.Prelude.{◌≡◌, ◌^◌, false, true, pos, unwrap_or, IfOk, OnErr, OnOk, if◌then◌else◌};
 ghost use Rattle.std.specs.Int.{cast_unsigned, w32};
-ghost use Rattle.iorequest.specs.Request.{is_under_way};
-ghost use Rattle.iorequest.specs.Requests.{unit_error};
-ghost use Rattle.execmodel.specs.State.{on_heap, on_memory, on_timer};
+ghost use Rattle.iorequest.specs.{Request.is_under_way, Requests.unit_error};
+ghost use Rattle.execmodel.specs.Requests.{does_requests, finishes_all_due, finishes_set, opened_for, request_alert, request_of, resting_alert, timer_unit, does_create_io_request, does_delete_io_request, does_open_device, does_close_device, does_set_io, does_do_io, does_send_io, does_check_io, does_wait_io, does_abort_io, does_io_secs, does_io_micros, does_io_error, does_io_flags};
+ghost use Rattle.execmodel.specs.{State.on_heap, State.on_memory, State.on_timer, Interrupts.finishes_for};
 ghost use Rattle.timerdev.specs.Timing.{due_next, looked_at, ticked, until_next};
-ghost use Rattle.execmodel.specs.Interrupts.{finishes_for};
-ghost use Rattle.execmodel.specs.Requests.{does_requests, finishes_all_due, finishes_set, opened_for, request_alert, request_of, resting_alert, timer_unit};
-ghost use Rattle.execmodel.specs.Requests.{does_create_io_request, does_delete_io_request, does_open_device, does_close_device, does_set_io, does_do_io, does_send_io};
-ghost use Rattle.execmodel.specs.Requests.{does_check_io, does_wait_io, does_abort_io, does_io_secs, does_io_micros, does_io_error, does_io_flags};
-ghost use Rattle.execheap.specs.Listing.{IsSignal, ended_if, finishing};
-ghost use Rattle.execheap.specs.Refusals.{alert_of};
-ghost use Rattle.execsim.specs.Callers.{HasTask, Runs};
-ghost use Rattle.execsim.specs.Actions.{aborts_or_alerted, finishes_all_until, finishes_with, tells_or_waits};
-ghost use Rattle.execsim.specs.Agreement.{Follows};
-ghost use Rattle.execsim.specs.Time.{HasTimeFor};
-ghost use Rattle.execsim.specs.Views.{call_view};
+ghost use Rattle.execheap.specs.{Listing.IsSignal, Listing.ended_if, Listing.finishing, Refusals.alert_of};
+ghost use Rattle.execsim.specs.{Callers.HasTask, Callers.Runs, Actions.aborts_or_alerted, Actions.finishes_all_until, Actions.finishes_with, Actions.tells_or_waits, Agreement.Follows, Time.HasTimeFor, Views.call_view};
 
 use crate::call::{Call, Caller};
 use crate::kernel::Kernel;

@@ -2,12 +2,7 @@
 //! plain word leaves a machine settled.
 ghost use Rattle.std.specs.Prelude.{◌≡◌, ◌≤◌, true, false, None, IsTrue};
 ghost use Rattle.execmodel.specs.Step.{step, steps};
-ghost use Rattle.execsim.specs.Actions.{softint_seen};
-ghost use Rattle.execsim.specs.Advancing.{GoesSilently, StepsSilently};
-ghost use Rattle.execsim.specs.Agreement.{Follows};
-ghost use Rattle.execsim.specs.Callers.{HasTask, Runs};
-ghost use Rattle.execsim.specs.Reached.{IsInOrder};
-ghost use Rattle.execsim.specs.Resting.{IsSettled};
+ghost use Rattle.execsim.specs.{Actions.softint_seen, Advancing.GoesSilently, Advancing.StepsSilently, Agreement.Follows, Callers.HasTask, Callers.Runs, Reached.IsInOrder, Resting.IsSettled};
 
 use crate::kernel::Kernel;
 use execlist::space::ListSpace;

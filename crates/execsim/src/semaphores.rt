@@ -2,24 +2,12 @@
 //! `Heap` have the effects on memory; which task waits and which is made ready is done here.
 ghost use Rattle.std.specs.Prelude.{◌≡◌, ◌<◌, [], if◌then◌else◌, IfOk, IfSome};
 ghost use Rattle.execlist.specs.Disciplines.{by_priority};
-ghost use Rattle.taskq.specs.declared.TaskState.{TaskState};
-ghost use Rattle.taskq.specs.declared.Why.{Why};
-ghost use Rattle.scheduler.specs.Schedule.{status_of, waits_at_semaphore};
-ghost use Rattle.scheduler.specs.Dispatch.{arrives};
+ghost use Rattle.taskq.specs.{declared.TaskState.TaskState, declared.Why.Why};
+ghost use Rattle.scheduler.specs.{Schedule.status_of, Schedule.waits_at_semaphore, Dispatch.arrives};
 ghost use Rattle.sigsem.specs.Semaphores.{free_sem};
-ghost use Rattle.execmodel.specs.State.{Semaphore};
-ghost use Rattle.execmodel.specs.Calls.{argument};
-ghost use Rattle.execmodel.specs.Memory.{placed};
-ghost use Rattle.execmodel.specs.GivingWay.{after_asking_for_object};
-ghost use Rattle.execmodel.specs.Objects.{place_for_object};
-ghost use Rattle.execmodel.specs.Semaphores.{is_semaphore, is_tried_again, semaphore_size, does_semaphores};
-ghost use Rattle.execmodel.specs.Semaphores.{does_new_sem, does_free_sem, does_obtain_semaphore, does_attempt_semaphore, does_release_semaphore};
-ghost use Rattle.execmodel.specs.Agreement.{WaitsForNone};
-ghost use Rattle.execsim.specs.Callers.{HasTask, Runs};
-ghost use Rattle.execsim.specs.Actions.{obtains_or_alerted, passes_or_alerted};
-ghost use Rattle.execsim.specs.Agreement.{Follows};
-ghost use Rattle.execsim.specs.Reached.{IsInOrder, QueuesAgree};
-ghost use Rattle.execsim.specs.Views.{call_view};
+ghost use Rattle.execmodel.specs.Semaphores.{is_semaphore, is_tried_again, semaphore_size, does_semaphores, does_new_sem, does_free_sem, does_obtain_semaphore, does_attempt_semaphore, does_release_semaphore};
+ghost use Rattle.execmodel.specs.{State.Semaphore, Calls.argument, Memory.placed, GivingWay.after_asking_for_object, Objects.place_for_object, Agreement.WaitsForNone};
+ghost use Rattle.execsim.specs.{Callers.HasTask, Callers.Runs, Actions.obtains_or_alerted, Actions.passes_or_alerted, Agreement.Follows, Reached.IsInOrder, Reached.QueuesAgree, Views.call_view};
 
 use crate::call::Call;
 use crate::kernel::Kernel;

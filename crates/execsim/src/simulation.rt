@@ -1,8 +1,7 @@
 //! The whole way: from the bytes of a machine file and of an event text to the bytes of a trace.
 ghost use Rattle.std.specs.Prelude.{◌≡◌};
 ghost use Rattle.exectrace.specs.declared.sinks.SinkState.{SinkState};
-ghost use Rattle.taskscript.specs.File.{file_of};
-ghost use Rattle.taskscript.specs.Events.{script_of};
+ghost use Rattle.taskscript.specs.{File.file_of, Events.script_of};
 ghost use Rattle.execsim.specs.Headline.{Simulates, ended};
 
 use crate::machine::{Flow, Machine};

@@ -1,7 +1,6 @@
 //! How the tasks are between two events, as text: who runs, and the call of each task that waits.
 ghost use Rattle.exectrace.specs.Sink.{Puts};
-ghost use Rattle.execsim.specs.Callers.{HasTask};
-ghost use Rattle.execsim.specs.Standing.{runs_text, standing_text, wait_text, waits_text};
+ghost use Rattle.execsim.specs.{Callers.HasTask, Standing.runs_text, Standing.standing_text, Standing.wait_text, Standing.waits_text};
 ghost use Rattle.scheduler.specs.Schedule.{task_count};
 
 use crate::kernel::Kernel;

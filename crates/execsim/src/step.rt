@@ -1,24 +1,13 @@
 //! Steps and settling: all interleaving comes from the list of events.
 ghost use Rattle.std.specs.Prelude.{◌≡◌, ◌<◌, ◌≤◌, false, is_some, length, sum_by, Some, None, IfSome, IsTrue, if◌then◌else◌};
 ghost use Rattle.execlist.specs.Disciplines.{by_priority};
-ghost use Rattle.exectrace.specs.Sink.{Puts};
-ghost use Rattle.exectrace.specs.Trace.{printed_line};
-ghost use Rattle.exectrace.specs.declared.sinks.SinkState.{SinkState};
+ghost use Rattle.exectrace.specs.{Sink.Puts, Trace.printed_line, declared.sinks.SinkState.SinkState};
 ghost use Rattle.taskscript.specs.Events.{ticks as ticks_of};
-ghost use Rattle.scheduler.specs.Schedule.{IsToOneOf};
+ghost use Rattle.scheduler.specs.{Schedule.IsToOneOf, Dispatch.switch_of, Dispatch.rescheduled, Dispatch.added};
 ghost use Rattle.softint.specs.Sources.{highest};
-ghost use Rattle.scheduler.specs.Dispatch.{switch_of, rescheduled, added};
-ghost use Rattle.execmodel.specs.State.{andthen, on_schedule, program_of, unless_stopped};
-ghost use Rattle.execmodel.specs.Calls.{next_call};
 ghost use Rattle.execmodel.specs.Step.{announced, switches, settle, does, ends, acts, acting, step, steps, request, tick, ticks, starts, all_added, event, events, task_step};
-ghost use Rattle.execmodel.specs.Interrupts.{interrupts};
-ghost use Rattle.execsim.specs.Callers.{HasTask, Runs};
-ghost use Rattle.execsim.specs.Actions.{running_task_step};
-ghost use Rattle.execsim.specs.Agreement.{Follows, FollowsWhileGood, Moves};
-ghost use Rattle.execsim.specs.Reached.{IsInOrder};
-ghost use Rattle.execsim.specs.Resting.{IsSettled};
-ghost use Rattle.execsim.specs.Time.{HasTimeFor, IsInTime, IsKnown};
-ghost use Rattle.execsim.specs.Views.{call_view};
+ghost use Rattle.execmodel.specs.{State.andthen, State.on_schedule, State.program_of, State.unless_stopped, Calls.next_call, Interrupts.interrupts};
+ghost use Rattle.execsim.specs.{Callers.HasTask, Callers.Runs, Actions.running_task_step, Agreement.Follows, Agreement.FollowsWhileGood, Agreement.Moves, Reached.IsInOrder, Resting.IsSettled, Time.HasTimeFor, Time.IsInTime, Time.IsKnown, Views.call_view};
 
 use crate::call::Call;
 use crate::interrupts::source_named;

@@ -2,13 +2,10 @@
 ghost use Rattle.std.specs.Prelude.{◌≡◌, ◌-◌, true, nat_eq};
 ghost use Rattle.std.specs.Int.{cast_signed, cast_unsigned, w32};
 ghost use Rattle.execlist.specs.Disciplines.{by_priority};
-ghost use Rattle.scheduler.specs.Schedule.{signals_of, come_for, after_wait, allocates, frees, sets_signals};
-ghost use Rattle.scheduler.specs.Dispatch.{signalled};
+ghost use Rattle.scheduler.specs.{Schedule.signals_of, Schedule.come_for, Schedule.after_wait, Schedule.allocates, Schedule.frees, Schedule.sets_signals, Dispatch.signalled};
 ghost use Rattle.signals.specs.Signals.{grant, grant_number, is_own_signal};
 ghost use Rattle.execmodel.specs.Signals.{is_mask, does_alloc_signal, does_free_signal, does_set_signal, does_signal_by, does_wait, does_signals};
-ghost use Rattle.execsim.specs.Callers.{HasTask, Runs, HasCaller};
-ghost use Rattle.execsim.specs.Agreement.{Follows};
-ghost use Rattle.execsim.specs.Views.{call_view, caller_view};
+ghost use Rattle.execsim.specs.{Callers.HasTask, Callers.Runs, Callers.HasCaller, Agreement.Follows, Views.call_view, Views.caller_view};
 
 use crate::call::{Call, Caller};
 use crate::kernel::Kernel;

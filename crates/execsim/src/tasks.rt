@@ -1,18 +1,11 @@
 //! How tasks are begun and ended, and their priorities.
-ghost use Rattle.std.specs.Prelude.{◌≡◌, ◌≢◌, ◌<◌, ◌≤◌, ℕ, length, Some, IsTrue, if◌then◌else◌};
+ghost use Rattle.std.specs.Prelude.{◌≡◌, ◌≢◌, ◌<◌, ◌≤◌, ℕ, length, Some, IsTrue, if◌then◌else◌, option_map};
 ghost use Rattle.std.specs.Int.{cast_signed, cast_unsigned, w32};
-ghost use Rattle.std.specs.Option.{option_map};
-ghost use Rattle.execlist.specs.Lists.{times};
-ghost use Rattle.execlist.specs.Disciplines.{by_priority};
+ghost use Rattle.execlist.specs.{Lists.times, Disciplines.by_priority};
 ghost use Rattle.taskq.specs.Tasks.{is_live, is_ready};
-ghost use Rattle.scheduler.specs.Schedule.{status_of, priority_of, is_absent, leaves, removed};
-ghost use Rattle.scheduler.specs.Dispatch.{added, reprioritized};
-ghost use Rattle.execmodel.specs.State.{on_heap};
-ghost use Rattle.execmodel.specs.Semaphores.{dropped};
-ghost use Rattle.execmodel.specs.Tasks.{is_live_task, is_priority, is_caller, found_number, does_set_task_pri, does_add_task, does_rem_task, does_find_task, does_tasks};
-ghost use Rattle.execsim.specs.Callers.{HasTask, Runs};
-ghost use Rattle.execsim.specs.Agreement.{Follows};
-ghost use Rattle.execsim.specs.Views.{call_view};
+ghost use Rattle.scheduler.specs.{Schedule.status_of, Schedule.priority_of, Schedule.is_absent, Schedule.leaves, Schedule.removed, Dispatch.added, Dispatch.reprioritized};
+ghost use Rattle.execmodel.specs.{State.on_heap, Semaphores.dropped, Tasks.is_live_task, Tasks.is_priority, Tasks.is_caller, Tasks.found_number, Tasks.does_set_task_pri, Tasks.does_add_task, Tasks.does_rem_task, Tasks.does_find_task, Tasks.does_tasks};
+ghost use Rattle.execsim.specs.{Callers.HasTask, Callers.Runs, Agreement.Follows, Views.call_view};
 
 use crate::call::Call;
 use crate::kernel::Kernel;

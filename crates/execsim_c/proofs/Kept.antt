@@ -1,5 +1,5 @@
 -- The machine values of a handle, and the two ways that it is: at null with no session, or at the block of one. Assumes `Logic`.
-use Rattle.std.proofs.Common.{◌≡◌, ℕ, List, [], ◌∷◌, ◌++◌, refl, subst, lit<}
+use Rattle.std.proofs.Common.{◌≡◌, ℕ, List, [], ◌∷◌, ◌++◌, refl, subst, lit<, None, Some}
 use mathlib.Core.Bool.{true, ◌&&◌}
 use lib.Dec.{T}
 use seplogic.Ra.Ura.{Ura}
@@ -22,14 +22,10 @@ use denote.Struct.Struct.{within}
 use denote.Struct.Owning.{shape, to}
 use Rattle.core.proofs.alloc.Calls.{Al, handle_tells}
 use Rattle.core.proofs.cell.Inside.{Good}
-use Rattle.std.specs.Ptr.{points_to}
-use Rattle.std.specs.declared.option.Option.TheVariants.{None, Some}
-use Rattle.std.specs.Box.Ownership.{box_owns}
-use Rattle.std.proofs.ResultValues.{and_tt}
+use Rattle.std.specs.{Ptr.points_to, Box.Ownership.box_owns, contracts.impls.GlobalAllocator.TheImpl.ghosts}
+use Rattle.std.proofs.{ResultValues.and_tt, GlobalToken.dealloc_token-Testable}
 use Rattle.std.specs.contracts.alloc.Global as heap
 use Rattle.std.proofs.alloc.Global.TheLaws as heap_laws
-use Rattle.std.specs.contracts.impls.GlobalAllocator.TheImpl.{ghosts}
-use Rattle.std.proofs.GlobalToken.{dealloc_token-Testable}
 use Rattle.execsim_c.specs.Held.{Kept, held}
 use Rattle.execsim_c.specs.contracts.session.Session as session
 use Rattle.execsim_c.specs.contracts.handle.MachineHandle as C

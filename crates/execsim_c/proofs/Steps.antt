@@ -1,21 +1,13 @@
 -- Events that a machine does one after another.
-use Rattle.std.proofs.Common.{◌≡◌, ◌∙◌, ℕ, ◌+◌, ◌<◌, ◌≤◌, List, [], ◌∷◌, ◌++◌, take, drop, get_or, length, refl, ap, ap₂, sym, subst, sum_by}
-use Rattle.std.specs.Prelude.{Ok}
+use Rattle.std.proofs.Common.{◌≡◌, ◌∙◌, ℕ, ◌+◌, ◌<◌, ◌≤◌, List, [], ◌∷◌, ◌++◌, take, drop, get_or, length, refl, ap, ap₂, sym, subst, sum_by, Ok, append-nil, take_all}
 use Rattle.std.specs.Io.KnownBytes.{Appends}
-use Rattle.std.proofs.lemmas.List.{append-nil, take_more, drop_more, take_all}
-use Rattle.std.proofs.lemmas.List.Concat.{flat_map-append}
-use Rattle.std.proofs.lemmas.List.Sums.{sum_by-cons}
-use Rattle.exectrace.specs.Sink.{Tape}
-use Rattle.exectrace.specs.Trace.{TraceLine, printed, printed_line}
+use Rattle.std.proofs.lemmas.{List.take_more, List.drop_more, List.Concat.flat_map-append, List.Sums.sum_by-cons}
+use Rattle.exectrace.specs.{Sink.Tape, Trace.TraceLine, Trace.printed, Trace.printed_line}
 use Rattle.exectrace.proofs.Pieces.{Appends-none, Appends-then}
-use Rattle.taskscript.specs.Events.{ticks as ticks_of}
-use Rattle.taskscript.specs.declared.event.Event.{Event}
-use Rattle.execmodel.specs.State.{State, Outcome, Mark, andthen}
-use Rattle.execmodel.specs.Step.{event, events}
+use Rattle.taskscript.specs.{Events.ticks as ticks_of, declared.event.Event.Event}
+use Rattle.execmodel.specs.{State.State, State.Outcome, State.Mark, State.andthen, Step.event, Step.events}
 use Rattle.execmodel.proofs.Moments.{events_more}
-use Rattle.execsim.specs.Agreement.{Seen, Agrees}
-use Rattle.execsim.specs.Headline.{Shown, Acts}
-use Rattle.execsim.specs.declared.machine.Flow.{Flow}
+use Rattle.execsim.specs.{Agreement.Seen, Agreement.Agrees, Headline.Shown, Headline.Acts, declared.machine.Flow.Flow}
 use Rattle.execsim_c.specs.Stepping.{Does}
 
 quietly : (o : Outcome) → record { state = o.state; lines = o.lines ++ []; marks = o.marks ++ [] } ≡ o

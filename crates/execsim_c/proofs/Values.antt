@@ -18,10 +18,9 @@ use denote.Param.{layout}
 use denote.Param.Laws.{Laws}
 use denote.Struct.Struct.{within}
 use denote.Struct.Owning.{shape}
-use Rattle.std.specs.declared.alloc.Allocator.{Ghosts}
+use Rattle.std.specs.{declared.alloc.Allocator.Ghosts, Box.Ownership.box_owns}
 use Rattle.core.proofs.alloc.Calls.{Al, handle_tells}
 use Rattle.core.proofs.cell.Inside.{Good}
-use Rattle.std.specs.Box.Ownership.{box_owns}
 use Rattle.std.proofs.ResultValues.{and_tt}
 use Rattle.execsim_c.specs.contracts.loose.Loose as loose
 

@@ -1,16 +1,11 @@
 -- What a caller finds in its buffer after a run.
 use Rattle.std.specs.Prelude.{◌≡◌, ℕ, ◌<◌, ◌≤◌, List, length, take, Result, Ok, Err}
 use Rattle.exectrace.specs.Trace.{printed}
-use Rattle.taskscript.specs.File.{MachineData}
-use Rattle.taskscript.specs.declared.event.Event.{Event}
-use Rattle.taskscript.specs.declared.fault.FileFault.{FileFault}
+use Rattle.taskscript.specs.{File.MachineData, declared.event.Event.Event, declared.fault.FileFault.FileFault, declared.fault.EventFault.EventFault}
 use Rattle.taskscript.specs.declared.fault.FileFault.TheVariants as file_fault
-use Rattle.taskscript.specs.declared.fault.EventFault.{EventFault}
 use Rattle.taskscript.specs.declared.fault.EventFault.TheVariants as event_fault
 use Rattle.execmodel.specs.Step.{run}
-use Rattle.execsim.specs.Headline.{end_of}
-use Rattle.execsim.specs.declared.simulation.End.{End}
-use Rattle.execsim.specs.declared.simulation.SimFault.{SimFault}
+use Rattle.execsim.specs.{Headline.end_of, declared.simulation.End.End, declared.simulation.SimFault.SimFault}
 use Rattle.execsim.specs.declared.simulation.SimFault.TheVariants as fault
 
 -- both texts are read, and their run prints these bytes and ends so

@@ -1,14 +1,9 @@
 -- What the calls of a machine that C keeps come to.
 use Rattle.std.specs.Prelude.{◌≡◌, ℕ, Bool, List, [], ◌++◌, drop, length, Some, Result, Ok}
-use Rattle.taskscript.specs.File.{MachineData}
-use Rattle.taskscript.specs.declared.event.Event.{Event}
-use Rattle.taskscript.specs.declared.fault.FileFault.{FileFault}
-use Rattle.taskscript.specs.declared.fault.EventFault.{EventFault}
+use Rattle.taskscript.specs.{File.MachineData, declared.event.Event.Event, declared.fault.FileFault.FileFault, declared.fault.EventFault.EventFault}
 use Rattle.execmodel.specs.Step.{events}
 use Rattle.execsim.specs.Headline.{Shown}
-use Rattle.execsim_c.specs.Held.{Kept}
-use Rattle.execsim_c.specs.Stepping.{IsStarted, Does}
-use Rattle.execsim_c.specs.declared.session.Session.{Session}
+use Rattle.execsim_c.specs.{Held.Kept, Stepping.IsStarted, Stepping.Does, declared.session.Session.Session}
 
 -- the machine file is read, and the handle has its machine, which has started
 pub record Opens (file : Result MachineData FileFault) (now : Kept) (stopped : Bool) : Type 0 where

@@ -2,12 +2,8 @@
 use base.Fml.{Fml, ftrue, ffalse}
 use base.Stored.{Coded}
 use denote.RawPtr.{Ptr, block_ptr, null_ptr}
-use Rattle.std.specs.Box.Ownership.{box_owns}
-use Rattle.std.specs.Coded.{coded_option}
-use Rattle.std.specs.Global.{Global}
-use Rattle.std.specs.contracts.impls.GlobalAllocator.TheImpl.{ghosts}
-use Rattle.std.specs.declared.option.Option.{Option}
 use Rattle.std.specs.declared.option.Option.TheVariants.{None, Some}
+use Rattle.std.specs.{Box.Ownership.box_owns, Coded.coded_option, Global.Global, contracts.impls.GlobalAllocator.TheImpl.ghosts, declared.option.Option.Option}
 use Rattle.execsim_c.specs.contracts.session.Session.{the_row}
 
 abbrev pub Kept : Type 0

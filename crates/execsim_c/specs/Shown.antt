@@ -1,13 +1,10 @@
 -- What C is shown of a machine and of a task: numbers.
 use Rattle.std.specs.Prelude.{ℕ, ◌+◌, ◌*◌, ◌-◌, ◌^◌, Bool, true, false, Option, None, Some}
-use Rattle.taskq.specs.declared.TaskState.{TaskState}
 use Rattle.taskq.specs.declared.TaskState.TheVariants.{Absent, Ready, Running, Waiting, Removed}
-use Rattle.taskq.specs.declared.Why.TheVariants.{Signals, Sem}
+use Rattle.taskq.specs.{declared.TaskState.TaskState, declared.Why.TheVariants.Signals, declared.Why.TheVariants.Sem}
 use Rattle.softint.specs.declared.latches.Latches.{Latches}
-use Rattle.execsim.specs.declared.machine.readers.MachineView.{MachineView}
-use Rattle.execsim.specs.declared.machine.readers.TaskView.{TaskView}
-use Rattle.execsim_c.specs.declared.shown.MachineShown.{MachineShown}
-use Rattle.execsim_c.specs.declared.shown.TaskShown.{TaskShown}
+use Rattle.execsim.specs.{declared.machine.readers.MachineView.MachineView, declared.machine.readers.TaskView.TaskView}
+use Rattle.execsim_c.specs.{declared.shown.MachineShown.MachineShown, declared.shown.TaskShown.TaskShown}
 
 -- a task's number; the greatest number of 64 bits for none
 abbrev pub number_shown : Option ℕ → ℕ

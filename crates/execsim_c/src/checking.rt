@@ -1,7 +1,6 @@
 //! What is found in two texts and in their run.
 ghost use Rattle.std.specs.Prelude.{◌≡◌, ◌≢◌, ◌≤◌, ◌↔◌, IfOk, false, true};
-ghost use Rattle.taskscript.specs.File.{file_of};
-ghost use Rattle.taskscript.specs.Events.{script_of};
+ghost use Rattle.taskscript.specs.{File.file_of, Events.script_of};
 ghost use Rattle.execsim_c.specs.Checking.{Judges};
 
 use crate::names::{EVENTS, MACHINE};

@@ -1,6 +1,5 @@
 //! What a C program has of a machine between its calls: a pointer, and in the proofs the machine that lies there.
-ghost use Rattle.std.specs.Prelude.{◌≡◌, None, Some};
-ghost use Rattle.std.specs.Option.{option_map};
+ghost use Rattle.std.specs.Prelude.{◌≡◌, None, Some, option_map};
 ghost use Rattle.execsim_c.specs.Held.{Kept, held, kept_coded};
 
 use crate::loose::Loose;

@@ -20,8 +20,7 @@ mod status;
 mod stepping;
 
 ghost use Rattle.std.specs.Prelude.{◌≡◌, ◌≤◌};
-ghost use Rattle.taskscript.specs.File.{file_of};
-ghost use Rattle.taskscript.specs.Events.{script_of};
+ghost use Rattle.taskscript.specs.{File.file_of, Events.script_of};
 ghost use Rattle.execsim.specs.declared.simulation.End.{End};
 ghost use Rattle.execsim_c.specs.Buffers.{Holds, Exceeds, RefusesEvents, RefusesFile};
 

@@ -1,9 +1,7 @@
 //! What C reads of a machine that it keeps, between any two calls. Nothing of the machine changes.
-ghost use Rattle.std.specs.Prelude.{◌≡◌, None, Some};
-ghost use Rattle.std.specs.Option.{option_map};
+ghost use Rattle.std.specs.Prelude.{◌≡◌, None, Some, option_map};
 ghost use Rattle.execsim.specs.Readers.{machine_view, task_seen};
-ghost use Rattle.execsim_c.specs.Handles.{Sees};
-ghost use Rattle.execsim_c.specs.Shown.{machine_shown, task_shown};
+ghost use Rattle.execsim_c.specs.{Handles.Sees, Shown.machine_shown, Shown.task_shown};
 
 use crate::handle::MachineHandle;
 use crate::put::hand_over;

@@ -1,13 +1,8 @@
 //! A machine that C keeps between calls: it is opened, does events, gives its lines, and is closed.
 ghost use Rattle.std.specs.Prelude.{◌≡◌, ◌+◌, ◌⊎◌, IfOk, MatchResult, None, Ok, Err, Some, false, sum_by, true};
-ghost use Rattle.taskscript.specs.Events.{script_of, ticks as ticks_of};
-ghost use Rattle.taskscript.specs.File.{file_of};
-ghost use Rattle.taskscript.specs.declared.fault.FileFault.{FileFault};
-ghost use Rattle.taskscript.specs.declared.fault.EventFault.{EventFault};
+ghost use Rattle.taskscript.specs.{Events.script_of, Events.ticks as ticks_of, File.file_of, declared.fault.FileFault.FileFault, declared.fault.EventFault.EventFault};
 ghost use Rattle.execmodel.specs.Step.{events};
-ghost use Rattle.execsim_c.specs.Buffers.{RefusesFile};
-ghost use Rattle.execsim_c.specs.Handles.{Goes, Opens, Takes};
-ghost use Rattle.execsim_c.specs.Stepping.{Does, IsStarted};
+ghost use Rattle.execsim_c.specs.{Buffers.RefusesFile, Handles.Goes, Handles.Opens, Handles.Takes, Stepping.Does, Stepping.IsStarted};
 
 use crate::handle::MachineHandle;
 use crate::put::put;

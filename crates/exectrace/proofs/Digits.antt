@@ -1,11 +1,8 @@
 -- The digits of a printed value write that value.
-use Rattle.std.proofs.Common.{◌≡◌, ℕ, Bool, true, ◌+◌, ◌*◌, ◌/◌, ◌%◌, ◌^◌, ◌<◌, List, [], ◌∷◌, refl, sym, ap, subst, ◌∙◌, zero-add, arith, drop, eqb-true, ◌==◌, codes, slice_index_or}
-use Rattle.std.specs.Char.{digit_value}
-use Rattle.std.specs.List.{range_with_len}
-use Rattle.std.specs.Str.Parse.{digits_value}
-use Rattle.std.proofs.lemmas.List.FromFn.{get_or-range_with_len}
-use Rattle.std.proofs.lemmas.List.Sums.{AllPass-from_list_all}
-use Rattle.std.proofs.Math.Nat.{div-add-mod, div-div-eq-div-mul, div-one, div-eq_of_lt}
+use Rattle.std.proofs.Common.{◌≡◌, ℕ, Bool, true, ◌+◌, ◌*◌, ◌/◌, ◌%◌, ◌^◌, ◌<◌, List, [], ◌∷◌, refl, sym, ap, subst, ◌∙◌, zero-add, arith, drop, eqb-true, ◌==◌, codes, slice_index_or, div-one}
+use Rattle.std.specs.{Char.digit_value, List.range_with_len, Str.Parse.digits_value}
+use Rattle.std.proofs.lemmas.{List.FromFn.get_or-range_with_len, List.Sums.AllPass-from_list_all}
+use Rattle.std.proofs.Math.Nat.{div-add-mod, div-div-eq-div-mul, div-eq_of_lt}
 use Rattle.exectrace.specs.Trace.{digit_at, hex_digit, value_text}
 
 -- whether the digit for a number represents that number

@@ -1,13 +1,9 @@
 -- How writes follow one another: to a writer's bytes, at a break, and for calls that do not fail.
-use Rattle.std.proofs.Common.{◌≡◌, ◌≢◌, ℕ, zero, suc, ◌+◌, ◌-◌, ◌<◌, ◌≤◌, List, [], ◌∷◌, ◌++◌, length, take, drop, refl, sym, subst, ap, ◌∙◌, append_assoc, length-drop, length-append, arith, ◌⊎◌, inl, inr, get_or, map, ◌↔◌, true, false, Option, Some, None, Result, Ok, Err, IsOk}
-use Rattle.std.proofs.lemmas.List.{take-append-drop, append-nil, take_rest, take_more, map-append}
-use Rattle.std.proofs.lemmas.Grind.{flat_map-append}
-use Rattle.std.specs.List.{flat_map}
-use Rattle.std.proofs.Math.Seq.{take-add}
+use Rattle.std.proofs.Common.{◌≡◌, ◌≢◌, ℕ, zero, suc, ◌+◌, ◌-◌, ◌<◌, ◌≤◌, List, [], ◌∷◌, ◌++◌, length, take, drop, refl, sym, subst, ap, ◌∙◌, append_assoc, length-drop, length-append, arith, ◌⊎◌, inl, inr, get_or, map, ◌↔◌, true, false, Option, Some, None, Result, Ok, Err, IsOk, take-append-drop, append-nil, flat_map, take-add}
+use Rattle.std.proofs.lemmas.{List.take_rest, List.take_more, List.map-append, Grind.flat_map-append}
 use Rattle.std.specs.Io.KnownBytes.{Appends}
-use Rattle.exectrace.specs.declared.sinks.SinkState.{SinkState}
 use Rattle.exectrace.specs.declared.sinks.SinkState.TheVariants.{Good, Empty, Failed}
-use Rattle.exectrace.specs.Sink.{empties, after_taking, Tape, TakesAll, Breaks, Puts, Writes, Adds}
+use Rattle.exectrace.specs.{declared.sinks.SinkState.SinkState, Sink.empties, Sink.after_taking, Sink.Tape, Sink.TakesAll, Sink.Breaks, Sink.Puts, Sink.Writes, Sink.Adds}
 
 -- The bytes that a writer holds.
 

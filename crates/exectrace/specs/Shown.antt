@@ -1,13 +1,10 @@
 -- The line of the definitions that a `Line` represents.
 use Rattle.std.specs.Prelude.{map}
-use Rattle.exectrace.specs.declared.lines.Line.{Line}
-use Rattle.exectrace.specs.declared.lines.Line.TheVariants as line
-use Rattle.exectrace.specs.declared.lines.Arg.{Arg}
-use Rattle.exectrace.specs.declared.lines.Arg.TheVariants as arg
-use Rattle.exectrace.specs.declared.lines.CallLine.{CallLine}
-use Rattle.exectrace.specs.declared.lines.CallOutcome.{CallOutcome}
-use Rattle.exectrace.specs.declared.lines.CallOutcome.TheVariants as outcome
 use Rattle.exectrace.specs.Trace.{Argument, Value, Quoted, Outcome, Done, Answers, Waits, TraceLine, Switch, Idle, Call, Serve, Timer, Server, Softint, Alert}
+use Rattle.exectrace.specs.{declared.lines.Line.Line, declared.lines.Arg.Arg, declared.lines.CallLine.CallLine, declared.lines.CallOutcome.CallOutcome}
+use Rattle.exectrace.specs.declared.lines.Line.TheVariants as line
+use Rattle.exectrace.specs.declared.lines.Arg.TheVariants as arg
+use Rattle.exectrace.specs.declared.lines.CallOutcome.TheVariants as outcome
 
 abbrev pub shown_argument : Arg → Argument
 shown_argument (arg.Value n) = Value n

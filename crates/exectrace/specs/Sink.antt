@@ -1,10 +1,8 @@
 -- What a sink is, and what a call writes to one.
-use Rattle.std.specs.Prelude.{◌≡◌, ◌≢◌, ℕ, zero, suc, ◌+◌, ◌<◌, ◌≤◌, ◌⊎◌, List, ◌++◌, length, take, MatchResult}
-use Rattle.std.specs.declared.option.Option.{Option}
-use Rattle.std.specs.declared.result.Result.{Result}
+use Rattle.std.specs.Prelude.{◌≡◌, ◌≢◌, ℕ, zero, suc, ◌+◌, ◌<◌, ◌≤◌, ◌⊎◌, List, ◌++◌, length, take, MatchResult, Option, Result}
 use Rattle.std.specs.Io.KnownBytes.{Appends, Keeps}
-use Rattle.exectrace.specs.declared.sinks.SinkState.{SinkState}
 use Rattle.exectrace.specs.declared.sinks.SinkState.TheVariants.{Good, Empty, Failed}
+use Rattle.exectrace.specs.declared.sinks.SinkState.{SinkState}
 
 -- what a sink reports: the bytes that it has taken, if they are known, and its state
 pub record Tape : Type 0 where

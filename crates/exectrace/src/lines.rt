@@ -1,8 +1,6 @@
 //! A line of a trace, and its parts.
-ghost use Rattle.std.specs.Prelude.{◌≡◌, ◌≤◌, ◌+◌, ◌*◌, if◌then◌else◌, length, count_by, map, codes, ◌++◌};
-ghost use Rattle.std.specs.List.{flat_map};
-ghost use Rattle.exectrace.specs.Trace.{Argument, argument_text, printed_line, quoted_count, is_quoted};
-ghost use Rattle.exectrace.specs.Shown.{shown, shown_argument};
+ghost use Rattle.std.specs.Prelude.{◌≡◌, ◌≤◌, ◌+◌, ◌*◌, if◌then◌else◌, length, count_by, map, codes, ◌++◌, flat_map};
+ghost use Rattle.exectrace.specs.{Trace.Argument, Trace.argument_text, Trace.printed_line, Trace.quoted_count, Trace.is_quoted, Shown.shown, Shown.shown_argument};
 
 use arrayvec::{ArrayString, ArrayVec};
 

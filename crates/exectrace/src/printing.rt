@@ -2,13 +2,9 @@
 //!
 //! Each `put` writes to a good sink, and does nothing on one that is not good: the sink's own state remembers that a
 //! write failed, so one call can follow another with no test between, and `written` reports at the end.
-ghost use Rattle.std.specs.Prelude.{◌≡◌, ◌<◌, ◌≤◌, ◌/◌, ◌%◌, [], IsTrue, length, map, codes, ◌++◌};
-ghost use Rattle.std.specs.List.{flat_map};
-ghost use Rattle.exectrace.specs.Sink.{Adds, Puts, Writes};
+ghost use Rattle.std.specs.Prelude.{◌≡◌, ◌<◌, ◌≤◌, ◌/◌, ◌%◌, [], IsTrue, length, map, codes, ◌++◌, flat_map};
 ghost use Rattle.exectrace.specs.Trace.{printed_line, value_text, hex_digit, quoted_count, Switch, Idle, Call, Serve, Timer, Server, Softint, Alert, Value, Quoted, argument_text, outcome_text};
-ghost use Rattle.exectrace.specs.Shown.{shown, shown_argument, shown_outcome, shown_call};
-ghost use Rattle.exectrace.specs.Short.{short_argument};
-ghost use Rattle.exectrace.specs.declared.sinks.SinkState.{SinkState};
+ghost use Rattle.exectrace.specs.{Sink.Adds, Sink.Puts, Sink.Writes, Shown.shown, Shown.shown_argument, Shown.shown_outcome, Shown.shown_call, Short.short_argument, declared.sinks.SinkState.SinkState};
 
 use crate::draft::{Draft, ROOM};
 use crate::lines::{Arg, CallLine, CallOutcome, Line, Name, ShortArg};

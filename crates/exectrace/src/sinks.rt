@@ -1,9 +1,7 @@
 //! What takes bytes, and how all bytes of a text are handed over.
 //! Nothing here allocates; what a std writer takes for itself is its own.
-ghost use Rattle.std.specs.Prelude.{◌≡◌, ◌≢◌, ℕ, ◌↔◌, IsTrue, IsOk, ◌<◌, ◌≤◌, List, length};
-ghost use Rattle.std.specs.declared.option.Option.{Option};
-ghost use Rattle.exectrace.specs.Sink.{empties, Tape, Takes, Puts, Writes};
-ghost use Rattle.exectrace.specs.declared.sinks.SinkState.{SinkState};
+ghost use Rattle.std.specs.Prelude.{◌≡◌, ◌≢◌, ℕ, ◌↔◌, IsTrue, IsOk, ◌<◌, ◌≤◌, List, length, Option};
+ghost use Rattle.exectrace.specs.{Sink.empties, Sink.Tape, Sink.Takes, Sink.Puts, Sink.Writes, declared.sinks.SinkState.SinkState};
 
 use std::io::Write;
 use thiserror::Error;

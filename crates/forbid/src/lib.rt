@@ -3,8 +3,7 @@
 #![tactic(auto)]
 
 ghost use Rattle.std.specs.Prelude.{◌≡◌, Some, None, OnOk, OnErr, IfErr};
-ghost use Rattle.forbid.specs.Nesting.{Nesting, initial_nesting, after_forbid, after_permit, after_disable, after_enable, may_switch, may_interrupt};
-ghost use Rattle.forbid.specs.declared.NestFault.TheVariants.{TooDeep, NotNested};
+ghost use Rattle.forbid.specs.{Nesting.Nesting, Nesting.initial_nesting, Nesting.after_forbid, Nesting.after_permit, Nesting.after_disable, Nesting.after_enable, Nesting.may_switch, Nesting.may_interrupt, declared.NestFault.TheVariants.TooDeep, declared.NestFault.TheVariants.NotNested};
 
 use std::marker::Model;
 use thiserror::Error;

@@ -1,14 +1,9 @@
 -- The counts of the requests under way, after a number of the pool holds something else.
-use Rattle.std.proofs.Common.{◌≡◌, ◌≢◌, ℕ, zero, suc, ◌+◌, ◌-◌, ◌<◌, ◌≤◌, Bool, true, false, List, [], ◌∷◌, length, slice_index_or, refl, sym, ap, ◌∙◌, subst, arith, inl, inr, Option, Some, None, get_or-set_same, get_or-set_other, length-set, ◌⊎◌, nat_eq, ◌&&◌, slice_set, sum_by, if◌then◌else◌, is_some, unwrap_or}
+use Rattle.std.proofs.Common.{◌≡◌, ◌≢◌, ℕ, zero, suc, ◌+◌, ◌-◌, ◌<◌, ◌≤◌, Bool, true, false, List, [], ◌∷◌, length, slice_index_or, refl, sym, ap, ◌∙◌, subst, arith, inl, inr, Option, Some, None, get_or-set_same, get_or-set_other, length-set, ◌⊎◌, nat_eq, ◌&&◌, slice_set, sum_by, if◌then◌else◌, is_some, unwrap_or, eq-eqb, ne_eqb, eqb-true}
 use Rattle.std.specs.List.{list_any}
-use Rattle.std.proofs.lemmas.Bool.{cases_eq, eq-eqb, ne_eqb, eqb-true}
-use Rattle.std.proofs.lemmas.List.Folds.{list_any_none}
-use Rattle.std.proofs.lemmas.List.Sums.{get_or-le-sum_by, sum_by-le, sum_by-set}
+use Rattle.std.proofs.lemmas.{Bool.cases_eq, List.Folds.list_any_none, List.Sums.get_or-le-sum_by, List.Sums.sum_by-le, List.Sums.sum_by-set}
 use Rattle.execlist.specs.Pool.{slot}
-use Rattle.iorequest.specs.declared.request.Request.{Request}
-use Rattle.iorequest.specs.Request.{is_under_way}
-use Rattle.iorequest.specs.Requests.{is_under_way_at}
-use Rattle.iorequest.specs.Counting.{key_of, weight, IsCounted}
+use Rattle.iorequest.specs.{declared.request.Request.Request, Request.is_under_way, Requests.is_under_way_at, Counting.key_of, Counting.weight, Counting.IsCounted}
 
 -- ---- weights
 

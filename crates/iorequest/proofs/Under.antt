@@ -1,7 +1,6 @@
 -- Whether any item of a list passes a test is reported by one item and those after it.
-use Rattle.std.proofs.Common.{◌≡◌, ℕ, zero, suc, ◌+◌, ◌<◌, ◌≤◌, Bool, false, List, [], ◌∷◌, length, drop, slice_index_or, refl, ap, ◌∙◌, arith, ◌||◌}
+use Rattle.std.proofs.Common.{◌≡◌, ℕ, zero, suc, ◌+◌, ◌<◌, ◌≤◌, Bool, false, List, [], ◌∷◌, length, drop, slice_index_or, refl, ap, ◌∙◌, arith, ◌||◌, drop-cons}
 use Rattle.std.specs.List.{list_any}
-use Rattle.std.proofs.Math.Seq.{drop-cons}
 
 or_false : (a b : Bool) → a ≡ false → (a || b) ≡ b
 or_false a b fails = ap (λ (t : Bool). t || b) fails

@@ -1,7 +1,6 @@
 -- How the requests that are under way are counted by their reply ports.
 use Rattle.std.specs.Prelude.{◌≡◌, ℕ, ◌/◌, ◌%◌, ◌<◌, nat_eq, ◌&&◌, if◌then◌else◌, List, length, slice_index_or, sum_by, Option, Some, None}
-use Rattle.iorequest.specs.declared.request.Request.{Request}
-use Rattle.iorequest.specs.Request.{is_under_way}
+use Rattle.iorequest.specs.{declared.request.Request.Request, Request.is_under_way}
 
 -- the key of a reply port, below `keys`: no two blocks begin within 8 bytes, so ports that are near each other have different keys
 abbrev pub key_of : (keys port : ℕ) → ℕ

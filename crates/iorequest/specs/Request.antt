@@ -1,10 +1,8 @@
 -- One timer request: how it begins and how it is finished (RKM Devices, Timer Device).
 use Rattle.std.specs.Prelude.{ℕ, ◌+◌, ◌*◌, ◌%◌, ◌/◌, ◌^◌, ℤ, pos, negsuc, nat_eq, nat_lt, Bool, true, false, not, ◌&&◌, is_some, if◌then◌else◌, Option, Some, None}
-use Rattle.iorequest.specs.declared.request.Request.{Request}
-use Rattle.iorequest.specs.declared.request.ReqState.{ReqState}
 use Rattle.iorequest.specs.declared.request.ReqState.TheVariants.{Idle, UnderWay, Quick, Replied}
-use Rattle.iorequest.specs.declared.request.Begun.{Begun}
 use Rattle.iorequest.specs.declared.request.Begun.TheVariants.{Finish, Queue, Until, NewTime}
+use Rattle.iorequest.specs.{declared.request.Request.Request, declared.request.ReqState.ReqState, declared.request.Begun.Begun}
 
 -- a request with that reply port that never was begun, is not open, and whose other fields are 0
 abbrev pub idle_request : ℕ → Request

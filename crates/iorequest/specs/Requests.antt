@@ -1,10 +1,8 @@
 -- What calls on timer requests see: each request by its number (RKM Devices, Timer Device).
 use Rattle.std.specs.Prelude.{ℕ, ℤ, pos, negsuc, nat_eq, nat_le, Bool, false, ◌&&◌, ◌||◌, is_some, if◌then◌else◌, Option, Some, None, unwrap_or}
 use Rattle.execlist.specs.Pool.{Pooled, given, released, slot, written}
-use Rattle.iorequest.specs.declared.fault.ReqFault.{ReqFault}
 use Rattle.iorequest.specs.declared.fault.ReqFault.TheVariants.{InUse, NotOpen}
-use Rattle.iorequest.specs.declared.request.Request.{Request}
-use Rattle.iorequest.specs.Request.{idle_request, is_under_way, is_open}
+use Rattle.iorequest.specs.{declared.fault.ReqFault.ReqFault, declared.request.Request.Request, Request.idle_request, Request.is_under_way, Request.is_open}
 
 -- ---- parts
 

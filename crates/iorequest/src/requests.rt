@@ -1,12 +1,9 @@
 //! The timer requests of a machine, by number.
-ghost use Rattle.std.specs.Prelude.{◌≡◌, ◌+◌, ◌<◌, ◌^◌, ◌≤◌, take, length, false, true, Some, IfOk, IsSome, IsTrue};
+ghost use Rattle.std.specs.Prelude.{◌≡◌, ◌+◌, ◌<◌, ◌^◌, ◌≤◌, take, length, false, true, Some, IfOk, IsSome, IsTrue, ok_or};
 ghost use Rattle.std.specs.List.{list_any};
-ghost use Rattle.execlist.specs.Pool.{IsStocked, all_free, next_number};
-ghost use Rattle.std.specs.Option.{ok_or};
-ghost use Rattle.execlist.specs.Answers.{fault_or, kept_or};
-ghost use Rattle.iorequest.specs.Counting.{key_of};
-ghost use Rattle.iorequest.specs.Request.{is_under_way, is_open, time_of, begun, outcome, finished, reply_port};
+ghost use Rattle.execlist.specs.{Pool.IsStocked, Pool.all_free, Pool.next_number, Answers.fault_or, Answers.kept_or};
 ghost use Rattle.iorequest.specs.Requests.{is_request, request_at, request_made, request_freed, with_request, in_use_fault, begin_fault, unit_error, opened, closed, written_with, is_under_way_at};
+ghost use Rattle.iorequest.specs.{Counting.key_of, Request.is_under_way, Request.is_open, Request.time_of, Request.begun, Request.outcome, Request.finished, Request.reply_port};
 
 use crate::fault::ReqFault;
 use crate::request::{Begun, ReqState, Request, UNIT_WAITUNTIL};
@@ -39,8 +36,7 @@ pub struct Requests {
 impl Model for Requests {
     ghost use Rattle.std.specs.Prelude.{◌≡◌, length};
     ghost use Rattle.execlist.specs.Pool.{Pooled};
-    ghost use Rattle.iorequest.specs.Counting.{IsCounted};
-    ghost use Rattle.iorequest.specs.declared.request.Request.{Request};
+    ghost use Rattle.iorequest.specs.{Counting.IsCounted, declared.request.Request.Request};
 
     ghost Value = { Pooled Request };
 

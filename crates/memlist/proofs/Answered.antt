@@ -1,9 +1,6 @@
 -- What tests on numbers answer, and if `put` and `find` go.
-use Rattle.std.proofs.Common.{◌≡◌, ◌≢◌, ℕ, ◌<◌, ◌≤◌, true, false, cond, ◌∷◌, refl, sym, ◌∙◌, ap, subst, arith, nat_lt, nat_eq, Option, Some}
-use Rattle.std.specs.Ordering.{nat_cmp, eq_by_cmp, is_eq}
-use Rattle.std.specs.declared.cmp.Ordering.TheVariants.{Less, Equal, Greater}
-use Rattle.std.specs.FinMap.{put}
-use Rattle.std.specs.FinMap.Entries.{by_order}
+use Rattle.std.proofs.Common.{◌≡◌, ◌≢◌, ℕ, ◌<◌, ◌≤◌, true, false, cond, ◌∷◌, refl, sym, ◌∙◌, ap, subst, arith, nat_lt, nat_eq, Option, Some, nat_cmp, is_eq, Less, Equal, Greater}
+use Rattle.std.specs.{Ordering.eq_by_cmp, FinMap.put, FinMap.Entries.by_order}
 use Rattle.std.proofs.lemmas.Bool.Decides.{nat_tests}
 use Rattle.memlist.specs.Blocks.{Blocks, block_at}
 

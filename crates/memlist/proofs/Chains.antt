@@ -1,13 +1,8 @@
 -- What the words of a chain say, and what they say after a chunk was written.
-use Rattle.std.proofs.Common.{◌≡◌, ◌≢◌, ℕ, zero, suc, ◌+◌, ◌-◌, ◌*◌, ◌/◌, ◌%◌, ◌<◌, ◌≤◌, false, cond, List, [], ◌∷◌, ◌++◌, length, set, get_or, refl, sym, ◌∙◌, ap, subst, arith, length-set, get_or-set_same, get_or-set_other, nat_eq, slice_get, None, Some}
-use Rattle.std.specs.List.{sum_by}
+use Rattle.std.proofs.Common.{◌≡◌, ◌≢◌, ℕ, zero, suc, ◌+◌, ◌-◌, ◌*◌, ◌/◌, ◌%◌, ◌<◌, ◌≤◌, false, cond, List, [], ◌∷◌, ◌++◌, length, set, get_or, refl, sym, ◌∙◌, ap, subst, arith, length-set, get_or-set_same, get_or-set_other, nat_eq, slice_get, None, Some, sum_by}
 use Rattle.std.proofs.lemmas.List.Sums.{sum_by-append, sum_by-cons}
-use Rattle.memlist.specs.declared.gap.Gap.{Gap}
-use Rattle.memlist.specs.Blocks.{Blocks, stretch, gaps_between}
-use Rattle.memlist.specs.Memory.{IsLaid}
-use Rattle.memlist.specs.Chain.{AreApart, IsChained, IsLinked, IsWalked, chain, ends_at, first_or, last_or, word_place, written}
-use Rattle.memlist.proofs.Answered.{nat_eq-other}
-use Rattle.memlist.proofs.Gaps.{stretch_cases}
+use Rattle.memlist.specs.{declared.gap.Gap.Gap, Blocks.Blocks, Blocks.stretch, Blocks.gaps_between, Memory.IsLaid, Chain.AreApart, Chain.IsChained, Chain.IsLinked, Chain.IsWalked, Chain.chain, Chain.ends_at, Chain.first_or, Chain.last_or, Chain.word_place, Chain.written}
+use Rattle.memlist.proofs.{Answered.nat_eq-other, Gaps.stretch_cases}
 
 -- Parts of a chain
 

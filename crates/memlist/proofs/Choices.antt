@@ -1,16 +1,9 @@
 -- Searches of the headers: for a gap, for the chosen region, for the home of an address, and for sizes.
-use Rattle.std.proofs.Common.{◌≡◌, ℕ, zero, suc, ◌+◌, ◌<◌, ◌≤◌, max, Bool, true, false, cond, List, [], ◌∷◌, ◌++◌, length, drop, get_or, map, refl, sym, ◌∙◌, ap, subst, arith, ◌&&◌, nat_le, Option, Some, None, is_some, IsSomeAnd, slice_get}
-use Rattle.std.specs.List.{AllByRecursion, filter, flat_map, sum_by}
-use Rattle.std.proofs.lemmas.Bool.Decides.{nat_tests}
-use Rattle.std.proofs.lemmas.List.Sums.{sum_by-append, sum_by-cons}
-use Rattle.std.proofs.lemmas.Option.{slice_get-get_or}
+use Rattle.std.proofs.Common.{◌≡◌, ℕ, zero, suc, ◌+◌, ◌<◌, ◌≤◌, max, Bool, true, false, cond, List, [], ◌∷◌, ◌++◌, length, drop, get_or, map, refl, sym, ◌∙◌, ap, subst, arith, ◌&&◌, nat_le, Option, Some, None, is_some, IsSomeAnd, slice_get, filter, flat_map, sum_by}
+use Rattle.std.specs.List.{AllByRecursion}
+use Rattle.std.proofs.lemmas.{Bool.Decides.nat_tests, List.Sums.sum_by-append, List.Sums.sum_by-cons, Option.slice_get-get_or}
 use Rattle.execlist.specs.Order.{chosen, chosen_or}
-use Rattle.memlist.specs.declared.gap.Gap.{Gap}
-use Rattle.memlist.specs.declared.memory.Offer.{Offer}
-use Rattle.memlist.specs.declared.region.Region.{Region}
-use Rattle.memlist.specs.Fit.{greatest, is_suitable, lowest_gap, region_pri}
-use Rattle.memlist.specs.Areas.{Area, area_gaps, regions_of}
-use Rattle.memlist.specs.Choice.{IsLowest, IsOffer, chosen_of, free_of, is_below, is_outranked, largest_of, offers, sizes_of, suitable_of}
+use Rattle.memlist.specs.{declared.gap.Gap.Gap, declared.memory.Offer.Offer, declared.region.Region.Region, Fit.greatest, Fit.is_suitable, Fit.lowest_gap, Fit.region_pri, Areas.Area, Areas.area_gaps, Areas.regions_of, Choice.IsLowest, Choice.IsOffer, Choice.chosen_of, Choice.free_of, Choice.is_below, Choice.is_outranked, Choice.largest_of, Choice.offers, Choice.sizes_of, Choice.suitable_of}
 
 -- The lowest gap
 

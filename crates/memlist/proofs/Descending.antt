@@ -1,23 +1,9 @@
 -- The gap below an address by the table of blocks: what a look at a unit says, and where the descent begins.
-use Rattle.std.proofs.Common.{◌≡◌, ◌≢◌, ℕ, suc, ◌+◌, ◌-◌, ◌*◌, ◌/◌, ◌<◌, ◌≤◌, true, false, cond, List, [], ◌∷◌, ◌++◌, length, take, drop, get_or, refl, sym, ◌∙◌, ap, subst, arith, append_assoc, append-nil, nat_eq, Some, length-take-le, take-append-drop}
+use Rattle.std.proofs.Common.{◌≡◌, ◌≢◌, ℕ, suc, ◌+◌, ◌-◌, ◌*◌, ◌/◌, ◌<◌, ◌≤◌, true, false, cond, List, [], ◌∷◌, ◌++◌, length, take, drop, get_or, refl, sym, ◌∙◌, ap, subst, arith, append_assoc, append-nil, nat_eq, Some, length-take-le, take-append-drop, take-suc}
 use Rattle.std.specs.List.{AllByRecursion}
-use Rattle.std.proofs.Math.Seq.{take-suc}
-use Rattle.memlist.specs.declared.gap.Gap.{Gap}
-use Rattle.memlist.specs.declared.slot.Slot.{Slot}
-use Rattle.memlist.specs.declared.region.Region.{Region}
 use Rattle.memlist.specs.declared.descent.Look.TheVariants.{Chunk, Below}
-use Rattle.memlist.specs.Regions.{region_end}
-use Rattle.memlist.specs.Blocks.{Blocks, block_at, stretch, gaps_between}
-use Rattle.memlist.specs.Memory.{IsLaid}
-use Rattle.memlist.specs.Chain.{IsLastBelow, Space, last_or}
-use Rattle.memlist.specs.Areas.{IsHeader, entries}
-use Rattle.memlist.specs.Descent.{IsLook, last_left}
-use Rattle.memlist.proofs.Answered.{nat_eq-other}
-use Rattle.memlist.proofs.Gaps.{stretch_cases, stretch_none, stretch_some}
-use Rattle.memlist.proofs.Headers.{aligned_region, live_within, place_of_unit, place_within}
-use Rattle.memlist.proofs.Walking.{same_part}
-use Rattle.memlist.proofs.Writing.{last_append}
-use Rattle.memlist.proofs.Chains.{laid_ends}
+use Rattle.memlist.specs.{declared.gap.Gap.Gap, declared.slot.Slot.Slot, declared.region.Region.Region, Regions.region_end, Blocks.Blocks, Blocks.block_at, Blocks.stretch, Blocks.gaps_between, Memory.IsLaid, Chain.IsLastBelow, Chain.Space, Chain.last_or, Areas.IsHeader, Areas.entries, Descent.IsLook, Descent.last_left}
+use Rattle.memlist.proofs.{Answered.nat_eq-other, Gaps.stretch_cases, Gaps.stretch_none, Gaps.stretch_some, Headers.aligned_region, Headers.live_within, Headers.place_of_unit, Headers.place_within, Walking.same_part, Writing.last_append, Chains.laid_ends}
 
 -- Parts of a table
 

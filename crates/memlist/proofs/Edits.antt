@@ -1,9 +1,7 @@
 -- The gaps round a block that is freed.
 use Rattle.std.proofs.Common.{◌≡◌, ℕ, ◌+◌, ◌-◌, ◌<◌, ◌≤◌, List, [], ◌∷◌, ◌++◌, sym, ◌∙◌, arith, append_assoc}
 use Rattle.std.specs.List.{AllByRecursion}
-use Rattle.memlist.specs.declared.gap.Gap.{Gap}
-use Rattle.memlist.specs.Blocks.{stretch}
-use Rattle.memlist.specs.Joins.{IsSpread, AllEndBefore, Around}
+use Rattle.memlist.specs.{declared.gap.Gap.Gap, Blocks.stretch, Joins.IsSpread, Joins.AllEndBefore, Joins.Around}
 use Rattle.memlist.proofs.Gaps.{stretch_cases}
 
 below_by : (address start : ℕ) (below : List Gap) → start ≤ address → AllEndBefore start below → AllByRecursion (λ (gap : Gap). gap.address < address) below

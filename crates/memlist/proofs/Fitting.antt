@@ -1,30 +1,11 @@
 -- What a fit is: the chosen region, its lowest large enough gap, and a memory that stays well formed.
-use Rattle.std.proofs.Common.{◌≡◌, ◌≢◌, ℕ, zero, suc, ◌+◌, ◌<◌, ◌≤◌, Bool, true, false, cond, List, [], ◌∷◌, ◌++◌, get_or, refl, sym, ◌∙◌, ap, subst, arith, ⊎_elim, ◌-◌, MatchOption, nat_eq, nat_le, ◌||◌, Option, Some, None, slice_get}
-use Rattle.std.specs.List.{AllByRecursion, filter, list_all}
-use Rattle.std.specs.Option.{option_map, option_and_then}
-use Rattle.std.specs.Ordering.{nat_cmp}
-use Rattle.std.specs.FinMap.{put, nat_cmp-IsAntisymmetric}
-use Rattle.std.specs.FinMap.Entries.{where_key, find-where_key}
-use Rattle.std.proofs.lemmas.Bool.{cases_lt, and_parts}
-use Rattle.std.proofs.lemmas.Option.{slice_get-get_or, slice_get_within, get_or_from_slice_get}
+use Rattle.std.proofs.Common.{◌≡◌, ◌≢◌, ℕ, zero, suc, ◌+◌, ◌<◌, ◌≤◌, Bool, true, false, cond, List, [], ◌∷◌, ◌++◌, get_or, refl, sym, ◌∙◌, ap, subst, arith, ⊎_elim, ◌-◌, MatchOption, nat_eq, nat_le, ◌||◌, Option, Some, None, slice_get, filter, option_map, option_and_then, nat_cmp}
+use Rattle.std.specs.{List.AllByRecursion, List.list_all, FinMap.put, FinMap.nat_cmp-IsAntisymmetric, FinMap.Entries.where_key, FinMap.Entries.find-where_key}
+use Rattle.std.proofs.lemmas.{Bool.cases_lt, Bool.and_parts, Option.slice_get-get_or, Option.slice_get_within, Option.get_or_from_slice_get}
 use Rattle.execlist.specs.Order.{IsEarliestGreatest, chosen}
 use Rattle.execlist.proofs.OrderLaws.{chosen_is_earliest}
-use Rattle.memlist.specs.declared.gap.Gap.{Gap}
-use Rattle.memlist.specs.declared.region.Region.{Region}
-use Rattle.memlist.specs.Regions.{region_end, is_in_reach}
-use Rattle.memlist.specs.Blocks.{Blocks, blocks_in, gaps, gaps_between, is_in, block_at}
-use Rattle.memlist.specs.Fit.{fit, front, has_room, lowest_gap, region_pri, round}
-use Rattle.memlist.specs.Memory.{IsLaid, IsWellFormed}
-use Rattle.memlist.specs.Pieces.{AreDisjoint, IsPlaced}
-use Rattle.memlist.proofs.Gaps.{taken, spread_at, spread_gaps, stretch_cases}
-use Rattle.memlist.proofs.Headers.{IsGapWithin, end_aligned, from_le, gaps_within, IsWithin, block_within, reach_region}
-use Rattle.memlist.proofs.Slots.{AllFrom, found_none}
-use Rattle.memlist.proofs.Merged.{AllAnswer, IsRising, cases_bool, rising_put, where_fail, where_pass, is_in-true, from_laid}
-use Rattle.memlist.proofs.Tiling.{aligned_in, laid_at}
-use Rattle.memlist.proofs.Keeping.{are_laid_put, answers_put, from_home, in_some, in_some_at, rising_sorted, sorted_rising, to_home}
-use Rattle.memlist.specs.Joins.{IsSpread}
-use Rattle.memlist.proofs.Answered.{cases_eq, found_later, key_other}
-use Rattle.memlist.proofs.Chains.{laid_ends}
+use Rattle.memlist.specs.{declared.gap.Gap.Gap, declared.region.Region.Region, Regions.region_end, Regions.is_in_reach, Blocks.Blocks, Blocks.blocks_in, Blocks.gaps, Blocks.gaps_between, Blocks.is_in, Blocks.block_at, Fit.fit, Fit.front, Fit.has_room, Fit.lowest_gap, Fit.region_pri, Fit.round, Memory.IsLaid, Memory.IsWellFormed, Pieces.AreDisjoint, Pieces.IsPlaced, Joins.IsSpread}
+use Rattle.memlist.proofs.{Gaps.taken, Gaps.spread_at, Gaps.spread_gaps, Gaps.stretch_cases, Headers.IsGapWithin, Headers.end_aligned, Headers.from_le, Headers.gaps_within, Headers.IsWithin, Headers.block_within, Headers.reach_region, Slots.AllFrom, Slots.found_none, Merged.AllAnswer, Merged.IsRising, Merged.cases_bool, Merged.rising_put, Merged.where_fail, Merged.where_pass, Merged.is_in-true, Merged.from_laid, Tiling.aligned_in, Tiling.laid_at, Keeping.are_laid_put, Keeping.answers_put, Keeping.from_home, Keeping.in_some, Keeping.in_some_at, Keeping.rising_sorted, Keeping.sorted_rising, Keeping.to_home, Answered.cases_eq, Answered.found_later, Answered.key_other, Chains.laid_ends}
 
 -- The chosen region
 

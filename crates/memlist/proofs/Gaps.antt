@@ -1,11 +1,7 @@
 -- How the gaps of a region change when a block is put into one of them, and when a block is freed.
-use Rattle.std.proofs.Common.{◌≡◌, ◌≢◌, ℕ, ◌+◌, ◌-◌, ◌%◌, ◌<◌, ◌≤◌, true, false, cond, List, [], ◌∷◌, ◌++◌, refl, sym, ◌∙◌, ap, subst, arith, append_assoc, append-nil, nat_lt, not, Some}
-use Rattle.std.specs.Ordering.{nat_cmp}
+use Rattle.std.proofs.Common.{◌≡◌, ◌≢◌, ℕ, ◌+◌, ◌-◌, ◌%◌, ◌<◌, ◌≤◌, true, false, cond, List, [], ◌∷◌, ◌++◌, refl, sym, ◌∙◌, ap, subst, arith, append_assoc, append-nil, nat_lt, not, Some, nat_cmp}
 use Rattle.std.specs.FinMap.{put}
-use Rattle.memlist.specs.declared.gap.Gap.{Gap}
-use Rattle.memlist.specs.Blocks.{Blocks, block_at, freed, stretch, gaps_between}
-use Rattle.memlist.specs.Memory.{IsLaid}
-use Rattle.memlist.specs.Joins.{IsSpread, AllEndBefore, Around}
+use Rattle.memlist.specs.{declared.gap.Gap.Gap, Blocks.Blocks, Blocks.block_at, Blocks.freed, Blocks.stretch, Blocks.gaps_between, Memory.IsLaid, Joins.IsSpread, Joins.AllEndBefore, Joins.Around}
 use Rattle.memlist.proofs.Answered.{nat_lt-true, nat_lt-false, nat_eq-same, nat_eq-other, put_before, put_after, cases_eq, found_here, found_later}
 
 pub stretch_some : (from to : ℕ) → from < to → stretch from to ≡ record { address = from; size = to - from } ∷ []

@@ -1,25 +1,9 @@
 -- What a header's fields keep: places in the table, and the invariant after a block is put and after one is freed.
-use Rattle.std.proofs.Common.{◌≡◌, ◌≢◌, ℕ, zero, suc, ◌+◌, ◌-◌, ◌*◌, ◌/◌, ◌%◌, ◌<◌, ◌≤◌, true, false, cond, List, [], ◌∷◌, ◌++◌, length, set, get_or, replicate, refl, sym, ◌∙◌, ap, subst, arith, length-set, nat_eq, nat_lt, nat_le, ◌&&◌, IsTrue, IsSome, Option, Some, None}
-use Rattle.std.specs.List.{AllByRecursion, sum_by}
-use Rattle.std.specs.Ordering.{nat_cmp}
-use Rattle.std.specs.FinMap.{put}
-use Rattle.std.proofs.lemmas.Bool.Decides.{nat_tests}
-use Rattle.std.proofs.lemmas.List.{length-replicate}
-use Rattle.std.proofs.lemmas.List.Sums.{sum_by-cons, sum_by-append}
-use Rattle.std.proofs.lemmas.Bool.{and_parts}
-use Rattle.memlist.specs.declared.gap.Gap.{Gap}
-use Rattle.memlist.specs.declared.region.Region.{Region}
-use Rattle.memlist.specs.declared.slot.Slot.{Slot}
-use Rattle.memlist.specs.Regions.{region_end, is_aligned, is_in_reach}
-use Rattle.memlist.specs.Blocks.{Blocks, block_at, freed, is_in, stretch, gaps_between}
-use Rattle.memlist.specs.Memory.{IsLaid}
-use Rattle.memlist.specs.Joins.{Around}
-use Rattle.memlist.specs.Chain.{IsSpot, Space}
-use Rattle.memlist.specs.Areas.{Area, IsHeader, area_gaps, entries, block_of}
-use Rattle.memlist.proofs.Answered.{cases_eq, found_here, found_later}
-use Rattle.memlist.proofs.Gaps.{stretch_cases, taken, frees}
-use Rattle.memlist.proofs.Slots.{entries-put, entries-freed, found-entries, found_between}
-use Rattle.memlist.proofs.Chains.{laid_ends}
+use Rattle.std.proofs.Common.{◌≡◌, ◌≢◌, ℕ, zero, suc, ◌+◌, ◌-◌, ◌*◌, ◌/◌, ◌%◌, ◌<◌, ◌≤◌, true, false, cond, List, [], ◌∷◌, ◌++◌, length, set, get_or, replicate, refl, sym, ◌∙◌, ap, subst, arith, length-set, nat_eq, nat_lt, nat_le, ◌&&◌, IsTrue, IsSome, Option, Some, None, sum_by, nat_cmp}
+use Rattle.std.specs.{List.AllByRecursion, FinMap.put}
+use Rattle.std.proofs.lemmas.{Bool.Decides.nat_tests, List.length-replicate, List.Sums.sum_by-cons, List.Sums.sum_by-append, Bool.and_parts}
+use Rattle.memlist.specs.{declared.gap.Gap.Gap, declared.region.Region.Region, declared.slot.Slot.Slot, Regions.region_end, Regions.is_aligned, Regions.is_in_reach, Blocks.Blocks, Blocks.block_at, Blocks.freed, Blocks.is_in, Blocks.stretch, Blocks.gaps_between, Memory.IsLaid, Joins.Around, Chain.IsSpot, Chain.Space, Areas.Area, Areas.IsHeader, Areas.area_gaps, Areas.entries, Areas.block_of}
+use Rattle.memlist.proofs.{Answered.cases_eq, Answered.found_here, Answered.found_later, Gaps.stretch_cases, Gaps.taken, Gaps.frees, Slots.entries-put, Slots.entries-freed, Slots.found-entries, Slots.found_between, Chains.laid_ends}
 
 -- Regions
 

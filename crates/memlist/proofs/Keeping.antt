@@ -1,23 +1,10 @@
 -- What keeps a memory well formed.
-use Rattle.std.proofs.Common.{◌≡◌, ℕ, zero, suc, ◌+◌, ◌<◌, Bool, true, false, List, [], ◌∷◌, get_or, refl, sym, ◌∙◌, ap, subst, arith, nat_eq, not, ◌&&◌, ◌||◌, Some, None, slice_get}
-use Rattle.std.specs.List.{AllByRecursion, list_all, list_any}
-use Rattle.std.specs.Ordering.{nat_cmp, is_lt}
-use Rattle.std.specs.declared.cmp.Ordering.TheVariants.{Equal}
-use Rattle.std.specs.FinMap.{is_sorted, put}
-use Rattle.std.specs.FinMap.Entries.{below_all, where_key}
-use Rattle.std.proofs.lemmas.List.Elements.{recursion_from_All}
-use Rattle.std.proofs.lemmas.Option.{slice_get-get_or}
-use Rattle.std.proofs.lemmas.Bool.{not-true, and_parts, or_parts}
-use Rattle.memlist.specs.declared.region.Region.{Region}
-use Rattle.memlist.specs.Regions.{are_apart, overlaps, region_end, regions_fault}
-use Rattle.memlist.specs.Blocks.{Blocks, blocks_in, freed, is_in}
-use Rattle.memlist.specs.Memory.{AreLaid, IsLaid, IsWellFormed}
-use Rattle.memlist.specs.Areas.{Area, AreMemory, IsLaidArea, greatest_total, merged, put_all, regions_of}
-use Rattle.memlist.proofs.Answered.{cmp_greater, cmp_less, cmp_same, put_after, put_before}
-use Rattle.memlist.proofs.Gaps.{laid_lower}
-use Rattle.memlist.proofs.Slots.{AllFrom}
+use Rattle.std.proofs.Common.{◌≡◌, ℕ, zero, suc, ◌+◌, ◌<◌, Bool, true, false, List, [], ◌∷◌, get_or, refl, sym, ◌∙◌, ap, subst, arith, nat_eq, not, ◌&&◌, ◌||◌, Some, None, slice_get, nat_cmp, is_lt, Equal}
+use Rattle.std.specs.{List.AllByRecursion, List.list_all, List.list_any, FinMap.is_sorted, FinMap.put, FinMap.Entries.below_all, FinMap.Entries.where_key}
+use Rattle.std.proofs.lemmas.{List.Elements.recursion_from_All, Option.slice_get-get_or, Bool.not-true, Bool.and_parts, Bool.or_parts}
+use Rattle.memlist.specs.{declared.region.Region.Region, Regions.are_apart, Regions.overlaps, Regions.region_end, Regions.regions_fault, Blocks.Blocks, Blocks.blocks_in, Blocks.freed, Blocks.is_in, Memory.AreLaid, Memory.IsLaid, Memory.IsWellFormed, Areas.Area, Areas.AreMemory, Areas.IsLaidArea, Areas.greatest_total, Areas.merged, Areas.put_all, Areas.regions_of}
 use Rattle.memlist.proofs.Merged.{AllAnswer, IsRising, cases_bool, cases_order, from_where, put_same, where_fail, where_pass, where_put_fail, where_put_pass, apart_in, apart_out, blocks_of_area, keys_in, rising_merged}
-use Rattle.memlist.proofs.Memories.{apart_memory, small_reach, sound_regions, region_at}
+use Rattle.memlist.proofs.{Answered.cmp_greater, Answered.cmp_less, Answered.cmp_same, Answered.put_after, Answered.put_before, Gaps.laid_lower, Slots.AllFrom, Memories.apart_memory, Memories.small_reach, Memories.sound_regions, Memories.region_at}
 
 -- Order
 

@@ -1,32 +1,11 @@
 -- A memory as a whole: what its headers keep, if a block fits, and what a change of one header does to its value.
-use Rattle.std.proofs.Common.{◌≡◌, ◌≢◌, ℕ, zero, suc, ◌+◌, ◌*◌, ◌^◌, ◌<◌, ◌≤◌, Bool, true, false, cond, List, [], ◌∷◌, ◌++◌, length, set, get_or, map, refl, sym, ◌∙◌, ap, subst, arith, bit_and, nat_eq, nat_le, not, ◌&&◌, Option, Some, None, is_some, slice_get, IsSome, IsSomeAnd, IfSome}
-use Rattle.std.specs.List.{AllByRecursion, filter, flat_map, list_all, sum_by}
-use Rattle.std.specs.Option.{option_map, option_and_then}
-use Rattle.std.specs.Ordering.{nat_cmp}
-use Rattle.std.specs.FinMap.{put}
-use Rattle.std.proofs.lemmas.List.Elements.{recursion_from_All}
-use Rattle.std.proofs.lemmas.List.Sums.{sum_by-cons}
-use Rattle.std.proofs.lemmas.Option.{slice_get-get_or, slice_get-map}
-use Rattle.std.proofs.lemmas.Bool.{and_parts}
+use Rattle.std.proofs.Common.{◌≡◌, ◌≢◌, ℕ, zero, suc, ◌+◌, ◌*◌, ◌^◌, ◌<◌, ◌≤◌, Bool, true, false, cond, List, [], ◌∷◌, ◌++◌, length, set, get_or, map, refl, sym, ◌∙◌, ap, subst, arith, bit_and, nat_eq, nat_le, not, ◌&&◌, Option, Some, None, is_some, slice_get, IsSome, IsSomeAnd, IfSome, filter, flat_map, sum_by, option_map, option_and_then, nat_cmp}
+use Rattle.std.specs.{List.AllByRecursion, List.list_all, FinMap.put}
+use Rattle.std.proofs.lemmas.{List.Elements.recursion_from_All, List.Sums.sum_by-cons, Option.slice_get-get_or, Option.slice_get-map, Bool.and_parts}
 use Rattle.execlist.specs.Order.{chosen}
-use Rattle.memlist.specs.declared.gap.Gap.{Gap}
-use Rattle.memlist.specs.declared.memory.Offer.{Offer}
-use Rattle.memlist.specs.declared.region.MemFault.{MemFault}
 use Rattle.memlist.specs.declared.region.MemFault.TheVariants.{Misaligned, Overlap, TooLarge}
-use Rattle.memlist.specs.declared.region.Region.{Region}
-use Rattle.memlist.specs.Regions.{are_apart, are_small, is_aligned, is_in_reach, region_end, regions_fault, total_size}
-use Rattle.memlist.specs.Blocks.{Blocks, block_at, freed, gaps, is_in}
-use Rattle.memlist.specs.Fit.{asks, avail, fit, free_sizes, front, greatest, has_room, is_suitable, lowest_gap, region_pri, round}
-use Rattle.memlist.specs.Memory.{Memory, without_block}
-use Rattle.memlist.specs.Chain.{IsLinked, first_or}
-use Rattle.memlist.specs.Areas.{Area, AreMemory, IsFreeChain, IsLaidArea, area_gaps, empty_area, greatest_total, memory_of, merged, regions_of}
-use Rattle.memlist.specs.Choice.{IsHome, IsLowest, IsOffer, chosen_of, free_of, installed_of, largest_of, offers, sizes_of, suitable_of}
-use Rattle.memlist.proofs.Answered.{nat_eq-other}
-use Rattle.memlist.proofs.Headers.{IsAligned, IsGapWithin, aligned_region, among, end_aligned, from_le, gaps_within, sizes_fill}
-use Rattle.memlist.proofs.Chains.{apart_count, gaps_apart, read_chain}
-use Rattle.memlist.proofs.Choices.{free-cons}
-use Rattle.memlist.proofs.Merged.{AreApart, apart_areas, at_place, found_in_none, found_of_area, gaps_of_area, is_in-true, merged-freed, merged-put}
-use Rattle.memlist.proofs.Tiling.{nat_le-true}
+use Rattle.memlist.specs.{declared.gap.Gap.Gap, declared.memory.Offer.Offer, declared.region.MemFault.MemFault, declared.region.Region.Region, Regions.are_apart, Regions.are_small, Regions.is_aligned, Regions.is_in_reach, Regions.region_end, Regions.regions_fault, Regions.total_size, Blocks.Blocks, Blocks.block_at, Blocks.freed, Blocks.gaps, Blocks.is_in, Fit.asks, Fit.avail, Fit.fit, Fit.free_sizes, Fit.front, Fit.greatest, Fit.has_room, Fit.is_suitable, Fit.lowest_gap, Fit.region_pri, Fit.round, Memory.Memory, Memory.without_block, Chain.IsLinked, Chain.first_or, Areas.Area, Areas.AreMemory, Areas.IsFreeChain, Areas.IsLaidArea, Areas.area_gaps, Areas.empty_area, Areas.greatest_total, Areas.memory_of, Areas.merged, Areas.regions_of, Choice.IsHome, Choice.IsLowest, Choice.IsOffer, Choice.chosen_of, Choice.free_of, Choice.installed_of, Choice.largest_of, Choice.offers, Choice.sizes_of, Choice.suitable_of}
+use Rattle.memlist.proofs.{Answered.nat_eq-other, Headers.IsAligned, Headers.IsGapWithin, Headers.aligned_region, Headers.among, Headers.end_aligned, Headers.from_le, Headers.gaps_within, Headers.sizes_fill, Chains.apart_count, Chains.gaps_apart, Chains.read_chain, Choices.free-cons, Merged.AreApart, Merged.apart_areas, Merged.at_place, Merged.found_in_none, Merged.found_of_area, Merged.gaps_of_area, Merged.is_in-true, Merged.merged-freed, Merged.merged-put, Tiling.nat_le-true}
 
 -- Sound regions
 

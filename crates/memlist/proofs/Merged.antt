@@ -1,21 +1,9 @@
 -- The blocks of all areas together: what is put into one area, freed in one, or found in one, is so in all.
-use Rattle.std.proofs.Common.{◌≡◌, ◌≢◌, ℕ, ◌+◌, ◌<◌, ◌≤◌, Bool, true, false, cond, [], ◌∷◌, refl, sym, ◌∙◌, ap, subst, arith, ⊎_elim, zero, suc, List, set, Option, Some, None, nat_eq, nat_lt, not, ◌&&◌, ◌||◌, slice_get}
-use Rattle.std.specs.Ordering.{nat_cmp, eq_by_cmp}
-use Rattle.std.specs.Cmp.{nat_cmp_total}
-use Rattle.std.specs.FinMap.{put}
-use Rattle.std.specs.FinMap.Entries.{find-put, where_key}
+use Rattle.std.proofs.Common.{◌≡◌, ◌≢◌, ℕ, ◌+◌, ◌<◌, ◌≤◌, Bool, true, false, cond, [], ◌∷◌, refl, sym, ◌∙◌, ap, subst, arith, ⊎_elim, zero, suc, List, set, Option, Some, None, nat_eq, nat_lt, not, ◌&&◌, ◌||◌, slice_get, nat_cmp}
+use Rattle.std.specs.{Ordering.eq_by_cmp, Cmp.nat_cmp_total, FinMap.put, FinMap.Entries.find-put, FinMap.Entries.where_key, List.AllByRecursion, List.list_any}
 use Rattle.std.proofs.lemmas.Bool.{cases_lt, not-true, and_parts}
-use Rattle.memlist.specs.Blocks.{Blocks, block_at, blocks_in, freed, gaps, gaps_between, is_in}
-use Rattle.memlist.specs.Areas.{put_all, Area, IsLaidArea, area_gaps, merged, regions_of}
-use Rattle.memlist.proofs.Answered.{cases_eq, key_other, put_after, put_at, put_before, nat_eq-other, nat_lt-true}
-use Rattle.memlist.proofs.Slots.{AllFrom, all_from_lower, put_front}
-use Rattle.std.specs.List.{AllByRecursion, list_any}
-use Rattle.memlist.specs.declared.region.Region.{Region}
-use Rattle.memlist.specs.Regions.{are_apart, overlaps, region_end}
-use Rattle.memlist.specs.Memory.{IsLaid}
-use Rattle.memlist.proofs.Headers.{inside_region}
-use Rattle.memlist.proofs.Chains.{laid_ends}
-use Rattle.memlist.proofs.Tiling.{nat_le-true}
+use Rattle.memlist.specs.{Blocks.Blocks, Blocks.block_at, Blocks.blocks_in, Blocks.freed, Blocks.gaps, Blocks.gaps_between, Blocks.is_in, Areas.put_all, Areas.Area, Areas.IsLaidArea, Areas.area_gaps, Areas.merged, Areas.regions_of, declared.region.Region.Region, Regions.are_apart, Regions.overlaps, Regions.region_end, Memory.IsLaid}
+use Rattle.memlist.proofs.{Answered.cases_eq, Answered.key_other, Answered.put_after, Answered.put_at, Answered.put_before, Answered.nat_eq-other, Answered.nat_lt-true, Slots.AllFrom, Slots.all_from_lower, Slots.put_front, Headers.inside_region, Chains.laid_ends, Tiling.nat_le-true}
 
 -- keys in three orders
 pub cases_order : {C : Type 0} (a b : ℕ) → (a < b → C) → (a ≡ b → C) → (b < a → C) → C

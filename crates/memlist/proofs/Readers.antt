@@ -2,13 +2,8 @@
 use Rattle.std.proofs.Common.{◌≡◌, ℕ, zero, suc, true, false, ◌<◌, ◌≤◌, cond, List, [], ◌∷◌, ◌++◌, length, refl, ◌∙◌, ap, arith, append-nil, None, Some, nat_le, slice_get}
 use Rattle.std.specs.List.{AllByRecursion}
 use Rattle.std.proofs.lemmas.Bool.Decides.{nat_tests}
-use Rattle.memlist.specs.declared.gap.Gap.{Gap}
-use Rattle.memlist.specs.Areas.{Area, AreMemory, area_gaps, merged, regions_of}
-use Rattle.memlist.specs.Chain.{IsPassed}
-use Rattle.memlist.specs.Readers.{gap_from, gaps_in}
-use Rattle.memlist.proofs.Memories.{apart_memory, region_at}
-use Rattle.memlist.proofs.Merged.{gaps_of_area}
-use Rattle.memlist.proofs.Walking.{ahead, nothing_ahead}
+use Rattle.memlist.specs.{declared.gap.Gap.Gap, Areas.Area, Areas.AreMemory, Areas.area_gaps, Areas.merged, Areas.regions_of, Chain.IsPassed, Readers.gap_from, Readers.gaps_in}
+use Rattle.memlist.proofs.{Memories.apart_memory, Memories.region_at, Merged.gaps_of_area, Walking.ahead, Walking.nothing_ahead}
 
 -- the lowest gap from an address on is the first after those that are below it
 from_after : (address : ℕ) (xs : List Gap) (gap : Gap) (ys : List Gap) → AllByRecursion (λ (gap : Gap). gap.address < address) xs

@@ -1,7 +1,6 @@
 -- The units of a table at which no block ever began, and headers whose blocks are all freed.
 use Rattle.std.proofs.Common.{◌≡◌, ◌≢◌, ℕ, zero, suc, ◌+◌, ◌<◌, ◌≤◌, List, [], ◌∷◌, ◌++◌, length, take, drop, map, set, get_or, replicate, refl, ◌∙◌, ap, arith, length-set, get_or-set_other}
-use Rattle.memlist.specs.declared.slot.Slot.{Slot}
-use Rattle.memlist.specs.Areas.{Area, IsUnused, empty_area, empty_slot, regions_of}
+use Rattle.memlist.specs.{declared.slot.Slot.Slot, Areas.Area, Areas.IsUnused, Areas.empty_area, Areas.empty_slot, Areas.regions_of}
 
 -- Units at which no block began
 

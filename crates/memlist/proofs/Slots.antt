@@ -1,13 +1,8 @@
 -- A table of slots as blocks by address: what a write to a slot does to them.
-use Rattle.std.proofs.Common.{◌≡◌, ◌≢◌, ℕ, zero, suc, ◌+◌, ◌*◌, ◌%◌, ◌<◌, ◌≤◌, true, false, cond, List, [], ◌∷◌, length, set, get_or, refl, sym, ◌∙◌, ap, subst, arith, nat_eq, not, Some, None}
-use Rattle.std.specs.Ordering.{nat_cmp}
+use Rattle.std.proofs.Common.{◌≡◌, ◌≢◌, ℕ, zero, suc, ◌+◌, ◌*◌, ◌%◌, ◌<◌, ◌≤◌, true, false, cond, List, [], ◌∷◌, length, set, get_or, refl, sym, ◌∙◌, ap, subst, arith, nat_eq, not, Some, None, nat_cmp}
 use Rattle.std.specs.FinMap.{put}
-use Rattle.memlist.specs.declared.slot.Slot.{Slot}
-use Rattle.memlist.specs.Blocks.{Blocks, block_at, freed}
-use Rattle.memlist.specs.Memory.{IsLaid}
-use Rattle.memlist.specs.Areas.{entries, block_of}
-use Rattle.memlist.proofs.Answered.{nat_eq-same, nat_eq-other, key_same, key_other, put_before, put_after, put_at}
-use Rattle.memlist.proofs.Gaps.{freed_later}
+use Rattle.memlist.specs.{declared.slot.Slot.Slot, Blocks.Blocks, Blocks.block_at, Blocks.freed, Memory.IsLaid, Areas.entries, Areas.block_of}
+use Rattle.memlist.proofs.{Answered.nat_eq-same, Answered.nat_eq-other, Answered.key_same, Answered.key_other, Answered.put_before, Answered.put_after, Answered.put_at, Gaps.freed_later}
 
 -- no block begins below an address
 abbrev pub AllFrom : ℕ → Blocks → Type 0

@@ -1,19 +1,9 @@
 -- How blocks and gaps tile a region.
-use Rattle.std.proofs.Common.{◌≡◌, ◌⊎◌, ℕ, zero, suc, ◌+◌, ◌-◌, ◌%◌, ◌<◌, ◌≤◌, Bool, true, false, cond, List, [], ◌∷◌, ◌++◌, length, get_or, map, refl, sym, ◌∙◌, ap, subst, arith, ⊎_elim, inl, inr, nat_le, ◌&&◌, Some, slice_get}
-use Rattle.std.specs.List.{AllByRecursion, Any, count_by, list_all, sum_by}
-use Rattle.std.proofs.lemmas.Bool.{cases_lt, and_parts}
-use Rattle.std.proofs.lemmas.Bool.Decides.{nat_tests}
-use Rattle.std.proofs.lemmas.List.Elements.{All-from_recursion}
-use Rattle.std.proofs.lemmas.List.Sums.{sum_by-append, sum_by-cons}
-use Rattle.memlist.specs.declared.gap.Gap.{Gap}
-use Rattle.memlist.specs.declared.region.Region.{Region}
-use Rattle.memlist.specs.Regions.{is_aligned, region_end}
-use Rattle.memlist.specs.Blocks.{Blocks, blocks_in, gaps, gaps_between, stretch}
-use Rattle.memlist.specs.Memory.{AreLaid, IsLaid, IsWellFormed}
-use Rattle.memlist.specs.Pieces.{IsMaximal, IsTiled, holds_unit, stretch_of}
-use Rattle.memlist.specs.Joins.{IsSpread}
-use Rattle.memlist.proofs.Gaps.{spread_gaps, stretch_cases}
-use Rattle.memlist.proofs.Headers.{IsAligned, aligned_region, end_aligned, sizes_fill}
+use Rattle.std.proofs.Common.{◌≡◌, ◌⊎◌, ℕ, zero, suc, ◌+◌, ◌-◌, ◌%◌, ◌<◌, ◌≤◌, Bool, true, false, cond, List, [], ◌∷◌, ◌++◌, length, get_or, map, refl, sym, ◌∙◌, ap, subst, arith, ⊎_elim, inl, inr, nat_le, ◌&&◌, Some, slice_get, Any, count_by, sum_by}
+use Rattle.std.specs.List.{AllByRecursion, list_all}
+use Rattle.std.proofs.lemmas.{Bool.cases_lt, Bool.and_parts, Bool.Decides.nat_tests, List.Elements.All-from_recursion, List.Sums.sum_by-append, List.Sums.sum_by-cons}
+use Rattle.memlist.specs.{declared.gap.Gap.Gap, declared.region.Region.Region, Regions.is_aligned, Regions.region_end, Blocks.Blocks, Blocks.blocks_in, Blocks.gaps, Blocks.gaps_between, Blocks.stretch, Memory.AreLaid, Memory.IsLaid, Memory.IsWellFormed, Pieces.IsMaximal, Pieces.IsTiled, Pieces.holds_unit, Pieces.stretch_of, Joins.IsSpread}
+use Rattle.memlist.proofs.{Gaps.spread_gaps, Gaps.stretch_cases, Headers.IsAligned, Headers.aligned_region, Headers.end_aligned, Headers.sizes_fill}
 
 -- Units
 

@@ -1,14 +1,8 @@
 -- Walks along the chain: what has been looked at, and what that says once the walk ends.
 use Rattle.std.proofs.Common.{◌≡◌, ◌≢◌, ℕ, ◌+◌, ◌<◌, ◌≤◌, cond, max, List, [], ◌∷◌, ◌++◌, map, refl, sym, ◌∙◌, ap, subst, arith, append_assoc, append-nil, None, Option, Some, nat_eq, slice_get}
 use Rattle.std.specs.List.{AllByRecursion}
-use Rattle.memlist.specs.declared.gap.Gap.{Gap}
-use Rattle.memlist.specs.Fit.{greatest, lowest_gap}
-use Rattle.memlist.specs.Chain.{IsLastBelow, IsPassed, IsSpot, IsWalked, first_or, last_or, upper_next, upper_size}
-use Rattle.memlist.specs.Joins.{Around}
-use Rattle.memlist.proofs.Answered.{nat_eq-same, nat_eq-other}
-use Rattle.memlist.proofs.Edits.{back, back_above, front, front_back, front_below}
-use Rattle.memlist.proofs.Choices.{lowest_after, lowest_nowhere}
-use Rattle.memlist.proofs.Writing.{last_append}
+use Rattle.memlist.specs.{declared.gap.Gap.Gap, Fit.greatest, Fit.lowest_gap, Chain.IsLastBelow, Chain.IsPassed, Chain.IsSpot, Chain.IsWalked, Chain.first_or, Chain.last_or, Chain.upper_next, Chain.upper_size, Joins.Around}
+use Rattle.memlist.proofs.{Answered.nat_eq-same, Answered.nat_eq-other, Edits.back, Edits.back_above, Edits.front, Edits.front_back, Edits.front_below, Choices.lowest_after, Choices.lowest_nowhere, Writing.last_append}
 
 abbrev pub passed_walk : {P : Gap → Type 0} {gaps : List Gap} {before : ℕ} → IsPassed P gaps before → IsWalked gaps before
 passed_walk p = record { below = p.below; above = p.above; is = p.is; last = p.last }

@@ -1,11 +1,7 @@
 -- Small runs of the definitions, computed.
 use Rattle.std.specs.Prelude.{◌≡◌, ℕ, pos, [], ◌∷◌, Option, None, Some, refl}
 use Rattle.memlist.specs.declared.region.MemFault.TheVariants.{Misaligned, Overlap, TooLarge}
-use Rattle.memlist.specs.declared.region.Region.{Region}
-use Rattle.memlist.specs.Regions.{regions_fault}
-use Rattle.memlist.specs.Blocks.{gaps}
-use Rattle.memlist.specs.Fit.{avail, fit}
-use Rattle.memlist.specs.Memory.{Memory, allocated, untouched, without_block}
+use Rattle.memlist.specs.{declared.region.Region.Region, Regions.regions_fault, Blocks.gaps, Fit.avail, Fit.fit, Memory.Memory, Memory.allocated, Memory.untouched, Memory.without_block}
 
 -- one region of a size at 4096 with attribute 1
 abbrev plain : ℕ → Region

@@ -1,16 +1,10 @@
 -- The chain after bytes were taken off the front of a gap, and after a block was freed.
-use Rattle.std.proofs.Common.{◌≡◌, ◌≢◌, ℕ, ◌+◌, ◌-◌, ◌*◌, ◌/◌, ◌%◌, ◌<◌, ◌≤◌, true, false, cond, List, [], ◌∷◌, ◌++◌, length, set, refl, sym, ◌∙◌, ap, subst, arith, length-set, append-nil, nat_eq, nat_lt}
-use Rattle.std.proofs.lemmas.Bool.Decides.{nat_tests}
-use Rattle.memlist.specs.declared.gap.Gap.{Gap}
-use Rattle.memlist.specs.Blocks.{stretch}
+use Rattle.std.proofs.Common.{◌≡◌, ◌≢◌, ℕ, ◌+◌, ◌-◌, ◌*◌, ◌/◌, ◌%◌, ◌<◌, ◌≤◌, true, false, cond, List, [], ◌∷◌, ◌++◌, length, set, refl, sym, ◌∙◌, ap, subst, arith, length-set, append-nil, nat_eq, nat_lt, sum_by}
+use Rattle.std.proofs.lemmas.{Bool.Decides.nat_tests, List.Sums.sum_by-append, List.Sums.sum_by-cons}
 use Rattle.memlist.specs.Chain.{AreApart, IsChained, IsLinked, IsSpot, Space, chain, cut_rest, cut_words, ends_at, first_or, last_or, linked_head, linked_words, upper_next, upper_size, word_place, written, IsCount}
-use Rattle.memlist.specs.Joins.{AllEndBefore, Around, IsSpread}
-use Rattle.memlist.proofs.Answered.{nat_eq-same, nat_eq-other, nat_lt-true, nat_lt-false}
-use Rattle.memlist.proofs.Edits.{back, front, joined}
-use Rattle.memlist.proofs.Gaps.{stretch_cases, stretch_none, stretch_some}
+use Rattle.memlist.specs.{declared.gap.Gap.Gap, Blocks.stretch, Joins.AllEndBefore, Joins.Around, Joins.IsSpread}
 use Rattle.memlist.proofs.Chains.{apart_at, apart_back, apart_front, apart_lower, apart_whole, first_append, last_within, link_last, linked_back, linked_both, IsShown, linked_front, set_above, shown, written_above, written_below, written_here}
-use Rattle.std.specs.List.{sum_by}
-use Rattle.std.proofs.lemmas.List.Sums.{sum_by-append, sum_by-cons}
+use Rattle.memlist.proofs.{Answered.nat_eq-same, Answered.nat_eq-other, Answered.nat_lt-true, Answered.nat_lt-false, Edits.back, Edits.front, Edits.joined, Gaps.stretch_cases, Gaps.stretch_none, Gaps.stretch_some}
 
 -- A chunk is made to name what now follows it
 

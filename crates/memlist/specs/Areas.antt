@@ -1,15 +1,7 @@
 -- One region at a time: the value that a `MemHeader` is seen as, and how the headers of a memory show its blocks.
 use Rattle.std.specs.Prelude.{◌≡◌, ℕ, ◌+◌, ◌*◌, ◌≤◌, nat_eq, slice_index_or, if◌then◌else◌, IsTrue, List, [], ◌∷◌, length, map, Option, None, Some}
-use Rattle.std.specs.List.{AllByRecursion}
-use Rattle.std.specs.Ordering.{nat_cmp}
-use Rattle.std.specs.FinMap.{put}
-use Rattle.memlist.specs.declared.gap.Gap.{Gap}
-use Rattle.memlist.specs.declared.slot.Slot.{Slot}
-use Rattle.memlist.specs.declared.region.Region.{Region}
-use Rattle.memlist.specs.Regions.{region_end, is_aligned, is_in_reach, regions_fault}
-use Rattle.memlist.specs.Blocks.{Blocks, gaps_between}
-use Rattle.memlist.specs.Memory.{IsLaid, Memory}
-use Rattle.memlist.specs.Chain.{AreApart, IsLinked, Space, chain, first_or}
+use Rattle.std.specs.{List.AllByRecursion, Ordering.nat_cmp, FinMap.put}
+use Rattle.memlist.specs.{declared.gap.Gap.Gap, declared.slot.Slot.Slot, declared.region.Region.Region, Regions.region_end, Regions.is_aligned, Regions.is_in_reach, Regions.regions_fault, Blocks.Blocks, Blocks.gaps_between, Memory.IsLaid, Memory.Memory, Chain.AreApart, Chain.IsLinked, Chain.Space, Chain.chain, Chain.first_or}
 
 -- a region and the blocks that lie in it
 pub record Area : Type 0 where

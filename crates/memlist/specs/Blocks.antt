@@ -1,11 +1,7 @@
 -- Blocks of memory by address, and the gaps that they leave in a region.
 use Rattle.std.specs.Prelude.{ℕ, ◌+◌, ◌-◌, Bool, not, ◌&&◌, nat_eq, nat_lt, nat_le, if◌then◌else◌, List, [], ◌∷◌, ◌++◌, Option}
-use Rattle.std.specs.Ordering.{nat_cmp}
-use Rattle.std.specs.FinMap.{find, put}
-use Rattle.std.specs.FinMap.Entries.{where_key}
-use Rattle.memlist.specs.declared.gap.Gap.{Gap}
-use Rattle.memlist.specs.declared.region.Region.{Region}
-use Rattle.memlist.specs.Regions.{region_end}
+use Rattle.std.specs.{Ordering.nat_cmp, FinMap.find, FinMap.put, FinMap.Entries.where_key}
+use Rattle.memlist.specs.{declared.gap.Gap.Gap, declared.region.Region.Region, Regions.region_end}
 
 -- each block's address, with its size and its tag, in order of address; tag 0 is a plain block
 abbrev pub Blocks : Type 0

@@ -1,9 +1,8 @@
 -- Free memory as a chain of chunks inside its own words: the first two words of a chunk are the address of the next chunk,
 -- or 0 at the end, and its size in bytes.
-use Rattle.std.specs.Prelude.{◌≡◌, ℕ, zero, suc, ◌+◌, ◌-◌, ◌*◌, ◌/◌, ◌%◌, ◌<◌, ◌≤◌, Bool, false, nat_eq, if◌then◌else◌, List, [], ◌∷◌, ◌++◌, length, get_or, set, Option, None, Some}
-use Rattle.std.specs.List.{AllByRecursion, sum_by}
-use Rattle.memlist.specs.declared.gap.Gap.{Gap}
-use Rattle.memlist.specs.Fit.{lowest_gap}
+use Rattle.std.specs.Prelude.{◌≡◌, ℕ, zero, suc, ◌+◌, ◌-◌, ◌*◌, ◌/◌, ◌%◌, ◌<◌, ◌≤◌, Bool, false, nat_eq, if◌then◌else◌, List, [], ◌∷◌, ◌++◌, length, get_or, set, Option, None, Some, sum_by}
+use Rattle.std.specs.List.{AllByRecursion}
+use Rattle.memlist.specs.{declared.gap.Gap.Gap, Fit.lowest_gap}
 
 -- the place of the word that represents an address, among the words from a base on
 abbrev pub word_place : ℕ → ℕ → ℕ

@@ -1,15 +1,7 @@
 -- How the headers of a memory are searched: for the home of an address, for a gap, and for the sizes of gaps.
-use Rattle.std.specs.Prelude.{◌≡◌, ℕ, Bool, true, false, ◌&&◌, int_lt, List, map, Option, None, Some, is_some, IsSomeAnd, slice_get}
-use Rattle.std.specs.List.{All, filter, flat_map, sum_by}
+use Rattle.std.specs.Prelude.{◌≡◌, ℕ, Bool, true, false, ◌&&◌, int_lt, List, map, Option, None, Some, is_some, IsSomeAnd, slice_get, All, filter, flat_map, sum_by}
 use Rattle.execlist.specs.Order.{chosen}
-use Rattle.memlist.specs.declared.gap.Gap.{Gap}
-use Rattle.memlist.specs.declared.memory.Offer.{Offer}
-use Rattle.memlist.specs.declared.region.Region.{Region}
-use Rattle.memlist.specs.Regions.{total_size}
-use Rattle.memlist.specs.Blocks.{is_in}
-use Rattle.memlist.specs.Chain.{IsSpot}
-use Rattle.memlist.specs.Fit.{greatest, is_suitable, lowest_gap, region_pri}
-use Rattle.memlist.specs.Areas.{Area, area_gaps, regions_of}
+use Rattle.memlist.specs.{declared.gap.Gap.Gap, declared.memory.Offer.Offer, declared.region.Region.Region, Regions.total_size, Blocks.is_in, Chain.IsSpot, Fit.greatest, Fit.is_suitable, Fit.lowest_gap, Fit.region_pri, Areas.Area, Areas.area_gaps, Areas.regions_of}
 
 -- the place of the area in whose region an address lies
 abbrev pub IsHome : ℕ → List Area → Option ℕ → Type 0

@@ -1,11 +1,7 @@
 -- The gap below an address by the table of blocks: it ends if the lowest block after it begins, or at that address.
 use Rattle.std.specs.Prelude.{◌≡◌, ℕ, ◌+◌, ◌*◌, ◌≤◌, List, [], ◌∷◌, ◌++◌, length}
-use Rattle.memlist.specs.declared.descent.Look.{Look}
 use Rattle.memlist.specs.declared.descent.Look.TheVariants.{Chunk, Below}
-use Rattle.memlist.specs.declared.slot.Slot.{Slot}
-use Rattle.memlist.specs.Blocks.{gaps_between}
-use Rattle.memlist.specs.Chain.{last_or}
-use Rattle.memlist.specs.Areas.{entries}
+use Rattle.memlist.specs.{declared.descent.Look.Look, declared.slot.Slot.Slot, Blocks.gaps_between, Chain.last_or, Areas.entries}
 
 -- if the last gap begins that the blocks of some units leave below an address, or 0 if there is none
 abbrev pub last_left : ℕ → List Slot → ℕ → ℕ

@@ -1,12 +1,7 @@
 -- If AllocMem takes memory, and what AvailMem answers (RKM Libraries, Exec Memory Allocation).
-use Rattle.std.specs.Prelude.{ℕ, ℤ, ◌+◌, ◌*◌, ◌/◌, ◌^◌, max, Bool, not, ◌&&◌, nat_eq, nat_le, if◌then◌else◌, bit_and, List, [], ◌∷◌, map, Option, None, is_some}
-use Rattle.std.specs.List.{filter, find, flat_map, sum_by}
-use Rattle.std.specs.Option.{option_map, option_and_then}
+use Rattle.std.specs.Prelude.{ℕ, ℤ, ◌+◌, ◌*◌, ◌/◌, ◌^◌, max, Bool, not, ◌&&◌, nat_eq, nat_le, if◌then◌else◌, bit_and, List, [], ◌∷◌, map, Option, None, is_some, filter, find, flat_map, sum_by, option_map, option_and_then}
 use Rattle.execlist.specs.Order.{chosen}
-use Rattle.memlist.specs.declared.gap.Gap.{Gap}
-use Rattle.memlist.specs.declared.region.Region.{Region}
-use Rattle.memlist.specs.Regions.{total_size}
-use Rattle.memlist.specs.Blocks.{Blocks, gaps}
+use Rattle.memlist.specs.{declared.gap.Gap.Gap, declared.region.Region.Region, Regions.total_size, Blocks.Blocks, Blocks.gaps}
 
 -- the least multiple of 8 that is at least n; it has no upper bound and so never wraps (RKM Libraries, Exec Memory Allocation)
 abbrev pub round : ℕ → ℕ

@@ -1,7 +1,6 @@
 -- The gaps round a block: what is there before it is freed, and what it joins.
 use Rattle.std.specs.Prelude.{◌≡◌, ℕ, ◌+◌, ◌<◌, ◌≤◌, List, [], ◌∷◌, ◌++◌}
-use Rattle.memlist.specs.declared.gap.Gap.{Gap}
-use Rattle.memlist.specs.Blocks.{stretch}
+use Rattle.memlist.specs.{declared.gap.Gap.Gap, Blocks.stretch}
 
 -- gaps in order, from an address on, none empty and no two touching
 abbrev pub IsSpread : ℕ → List Gap → Type 0

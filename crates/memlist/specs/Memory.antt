@@ -1,12 +1,7 @@
 -- Memory as its regions and its blocks: the value that a `MemList` is seen as.
 use Rattle.std.specs.Prelude.{◌≡◌, ℕ, ◌+◌, ◌%◌, ◌<◌, ◌≤◌, Bool, false, ◌&&◌, nat_eq, nat_lt, IsTrue, List, [], ◌∷◌, Option, None, Some}
-use Rattle.std.specs.List.{list_all, list_any}
-use Rattle.std.specs.Ordering.{nat_cmp}
-use Rattle.std.specs.FinMap.{is_sorted}
-use Rattle.memlist.specs.declared.region.Region.{Region}
-use Rattle.memlist.specs.Regions.{region_end, is_aligned, is_in_reach, are_apart}
-use Rattle.memlist.specs.Blocks.{Blocks, block_at, blocks_in, freed, is_in, with_block}
-use Rattle.memlist.specs.Fit.{round}
+use Rattle.std.specs.{List.list_all, List.list_any, Ordering.nat_cmp, FinMap.is_sorted}
+use Rattle.memlist.specs.{declared.region.Region.Region, Regions.region_end, Regions.is_aligned, Regions.is_in_reach, Regions.are_apart, Blocks.Blocks, Blocks.block_at, Blocks.blocks_in, Blocks.freed, Blocks.is_in, Blocks.with_block, Fit.round}
 
 pub record Memory : Type 0 where
   -- in the order of the machine's file

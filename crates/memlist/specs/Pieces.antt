@@ -1,10 +1,6 @@
 -- Blocks and gaps side by side: what the laws of memory say.
-use Rattle.std.specs.Prelude.{◌≡◌, ◌⊎◌, ◌+◌, ◌%◌, ◌<◌, ◌≤◌, ◌&&◌, ◌++◌, List, Bool, map, nat_le, ℕ}
-use Rattle.std.specs.List.{All, AllPairs, Any, count_by, sum_by}
-use Rattle.memlist.specs.declared.gap.Gap.{Gap}
-use Rattle.memlist.specs.declared.region.Region.{Region}
-use Rattle.memlist.specs.Regions.{region_end}
-use Rattle.memlist.specs.Blocks.{Blocks, blocks_in, gaps}
+use Rattle.std.specs.Prelude.{◌≡◌, ◌⊎◌, ◌+◌, ◌%◌, ◌<◌, ◌≤◌, ◌&&◌, ◌++◌, List, Bool, map, nat_le, ℕ, All, AllPairs, Any, count_by, sum_by}
+use Rattle.memlist.specs.{declared.gap.Gap.Gap, declared.region.Region.Region, Regions.region_end, Blocks.Blocks, Blocks.blocks_in, Blocks.gaps}
 
 -- the stretch that a block takes up
 abbrev pub stretch_of : ℕ × (ℕ × ℕ) → Gap

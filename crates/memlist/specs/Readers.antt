@@ -1,9 +1,6 @@
 -- What is read of the gaps of a memory, one after another.
-use Rattle.std.specs.Prelude.{ℕ, nat_le, List, [], Option, None, Some}
-use Rattle.std.specs.List.{find}
-use Rattle.memlist.specs.declared.gap.Gap.{Gap}
-use Rattle.memlist.specs.declared.region.Region.{Region}
-use Rattle.memlist.specs.Blocks.{Blocks, gaps}
+use Rattle.std.specs.Prelude.{ℕ, nat_le, List, [], Option, None, Some, find}
+use Rattle.memlist.specs.{declared.gap.Gap.Gap, declared.region.Region.Region, Blocks.Blocks, Blocks.gaps}
 
 -- the lowest gap that begins at an address or above it
 abbrev pub gap_from : ℕ → List Gap → Option Gap

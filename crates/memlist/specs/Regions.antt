@@ -1,9 +1,8 @@
 -- Which regions a machine may have, and the first fault of those that it may not.
-use Rattle.std.specs.Prelude.{ℕ, ◌+◌, ◌%◌, Bool, true, not, ◌&&◌, nat_eq, nat_lt, nat_le, if◌then◌else◌, List, [], ◌∷◌, length, Option, None, Some}
-use Rattle.std.specs.List.{list_all, list_any, sum_by}
-use Rattle.memlist.specs.declared.region.Region.{Region}
-use Rattle.memlist.specs.declared.region.MemFault.{MemFault}
+use Rattle.std.specs.Prelude.{ℕ, ◌+◌, ◌%◌, Bool, true, not, ◌&&◌, nat_eq, nat_lt, nat_le, if◌then◌else◌, List, [], ◌∷◌, length, Option, None, Some, sum_by}
+use Rattle.std.specs.List.{list_all, list_any}
 use Rattle.memlist.specs.declared.region.MemFault.TheVariants.{Misaligned, Overlap, TooLarge, OutOfMemory}
+use Rattle.memlist.specs.{declared.region.Region.Region, declared.region.MemFault.MemFault}
 
 -- the number of a fault (project rule)
 abbrev pub fault_number : MemFault → ℕ

@@ -1,9 +1,7 @@
 //! The chunk below a block, found in the table of blocks: from the block downwards, the first block that does not reach up to the
 //! one above it has a gap after it.
 ghost use Rattle.std.specs.Prelude.{◌≡◌, ◌+◌, ◌*◌, ◌≤◌, ℕ, List, [], length, take};
-ghost use Rattle.memlist.specs.declared.slot.Slot.{Slot};
-ghost use Rattle.memlist.specs.Chain.{IsLastBelow};
-ghost use Rattle.memlist.specs.Descent.{IsLook, last_left};
+ghost use Rattle.memlist.specs.{declared.slot.Slot.Slot, Chain.IsLastBelow, Descent.IsLook, Descent.last_left};
 
 use crate::region::MEM_BLOCKSIZE;
 use crate::slot::Slot;

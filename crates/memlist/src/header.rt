@@ -2,16 +2,8 @@
 //!
 //! The blocks are in a table with a slot for each unit of 8 bytes, so that a look-up is an index; the gaps are chunks in
 //! the region's own words.
-ghost use Rattle.std.specs.Prelude.{◌≡◌, ◌-◌, ◌*◌, ◌/◌, ◌%◌, ◌<◌, ◌≤◌, ◌++◌, drop, replicate, [], IsTrue, IsSome, IfOk, IfSome, int_lt, length, map};
-ghost use Rattle.std.specs.List.{sum_by};
-ghost use Rattle.memlist.specs.Regions.{is_aligned, is_in_reach};
-ghost use Rattle.memlist.specs.Blocks.{block_at, freed, is_in, with_block};
-ghost use Rattle.memlist.specs.Fit.{greatest, is_suitable, lowest_gap};
-ghost use Rattle.memlist.specs.Chain.{IsLinked, IsSpot, first_or};
-ghost use Rattle.memlist.specs.Areas.{Area, IsLaidArea, area_gaps, empty_slot};
-ghost use Rattle.memlist.specs.Choice.{IsLowest};
-ghost use Rattle.memlist.specs.Readers.{gap_from};
-ghost use Rattle.memlist.specs.declared.gap.Gap.{Gap};
+ghost use Rattle.std.specs.Prelude.{◌≡◌, ◌-◌, ◌*◌, ◌/◌, ◌%◌, ◌<◌, ◌≤◌, ◌++◌, drop, replicate, [], IsTrue, IsSome, IfOk, IfSome, int_lt, length, map, sum_by};
+ghost use Rattle.memlist.specs.{Regions.is_aligned, Regions.is_in_reach, Blocks.block_at, Blocks.freed, Blocks.is_in, Blocks.with_block, Fit.greatest, Fit.is_suitable, Fit.lowest_gap, Chain.IsLinked, Chain.IsSpot, Chain.first_or, Areas.Area, Areas.IsLaidArea, Areas.area_gaps, Areas.empty_slot, Choice.IsLowest, Readers.gap_from, declared.gap.Gap.Gap};
 
 use crate::chunk::WORD;
 use crate::descent::chunk_below;

@@ -1,12 +1,7 @@
 //! Laws of memory: functions without effect whose contracts say what the definitions amount to.
 ghost use Rattle.std.specs.Prelude.{◌≡◌, ◌+◌, ◌%◌, ◌<◌, ◌≤◌, ℕ, List, [], None, Some, slice_get};
 ghost use Rattle.execlist.specs.Order.{IsEarliestGreatest, chosen};
-ghost use Rattle.memlist.specs.Regions.{regions_fault};
-ghost use Rattle.memlist.specs.Blocks.{Blocks, block_at, freed, with_block};
-ghost use Rattle.memlist.specs.Fit.{fit, region_pri, round};
-ghost use Rattle.memlist.specs.Memory.{IsWellFormed};
-ghost use Rattle.memlist.specs.Pieces.{AreDisjoint, IsPlaced, IsTiled};
-ghost use Rattle.memlist.specs.declared.region.Region.{Region};
+ghost use Rattle.memlist.specs.{Regions.regions_fault, Blocks.Blocks, Blocks.block_at, Blocks.freed, Blocks.with_block, Fit.fit, Fit.region_pri, Fit.round, Memory.IsWellFormed, Pieces.AreDisjoint, Pieces.IsPlaced, Pieces.IsTiled, declared.region.Region.Region};
 
 use crate::region::MEM_BLOCKSIZE;
 

@@ -1,14 +1,7 @@
 //! The memory list: what Exec's MemList is for AllocMem, FreeMem and AvailMem.
 ghost use Rattle.std.specs.Prelude.{◌≡◌, ◌+◌, ◌*◌, ◌^◌, ◌<◌, ◌≤◌, not, ◌&&◌, IsTrue, IsSome, IsSomeAnd, IfOk, IfErr, IfSome, OnOk, OnErr, None, Some, is_ok, is_some, int_lt, unwrap_or, length, drop, map, slice_get};
 ghost use Rattle.std.specs.List.{list_all};
-ghost use Rattle.memlist.specs.Regions.{is_aligned, is_in_reach, regions_fault};
-ghost use Rattle.memlist.specs.Blocks.{block_at, gaps};
-ghost use Rattle.memlist.specs.Chain.{first_or};
-ghost use Rattle.memlist.specs.Fit.{asks, avail, fit, round};
-ghost use Rattle.memlist.specs.Memory.{IsWellFormed, Memory, allocated, can_free, names, untouched, without_block};
-ghost use Rattle.memlist.specs.Areas.{Area, IsFreeChain, empty_area, regions_of};
-ghost use Rattle.memlist.specs.Readers.{gap_from, gaps_in};
-ghost use Rattle.memlist.specs.Choice.{IsHome, IsOffer, free_of, installed_of, is_outranked, largest_of};
+ghost use Rattle.memlist.specs.{Regions.is_aligned, Regions.is_in_reach, Regions.regions_fault, Blocks.block_at, Blocks.gaps, Chain.first_or, Fit.asks, Fit.avail, Fit.fit, Fit.round, Memory.IsWellFormed, Memory.Memory, Memory.allocated, Memory.can_free, Memory.names, Memory.untouched, Memory.without_block, Areas.Area, Areas.IsFreeChain, Areas.empty_area, Areas.regions_of, Readers.gap_from, Readers.gaps_in, Choice.IsHome, Choice.IsOffer, Choice.free_of, Choice.installed_of, Choice.is_outranked, Choice.largest_of};
 
 use crate::gap::Gap;
 use crate::header::MemHeader;
@@ -27,8 +20,7 @@ pub struct MemList {
 }
 
 impl Model for MemList {
-    ghost use Rattle.memlist.specs.Memory.{Memory};
-    ghost use Rattle.memlist.specs.Areas.{AreMemory, memory_of};
+    ghost use Rattle.memlist.specs.{Memory.Memory, Areas.AreMemory, Areas.memory_of};
 
     ghost Value = { Memory };
 

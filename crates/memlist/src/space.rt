@@ -1,13 +1,6 @@
 //! The free memory of one region: a chain of chunks, each inside the memory that it describes.
-ghost use Rattle.std.specs.Prelude.{◌≡◌, ◌+◌, ◌-◌, ◌*◌, ◌%◌, ◌<◌, ◌≤◌, List, ◌∷◌, ◌++◌, IfOk, IfSome, None, map, length, slice_get};
-ghost use Rattle.std.specs.List.{sum_by};
-ghost use Rattle.memlist.specs.Blocks.{stretch};
-ghost use Rattle.memlist.specs.Chain.{IsClimbed, IsLastBelow, IsLinked, IsNextBelow, IsSpot, IsWalked, ends_at, first_or, last_or, upper_next, upper_size};
-ghost use Rattle.memlist.specs.Choice.{IsLowest};
-ghost use Rattle.memlist.specs.Fit.{greatest};
-ghost use Rattle.memlist.specs.Joins.{Around};
-ghost use Rattle.memlist.specs.Readers.{gap_from};
-ghost use Rattle.memlist.specs.declared.gap.Gap.{Gap};
+ghost use Rattle.std.specs.Prelude.{◌≡◌, ◌+◌, ◌-◌, ◌*◌, ◌%◌, ◌<◌, ◌≤◌, List, ◌∷◌, ◌++◌, IfOk, IfSome, None, map, length, slice_get, sum_by};
+ghost use Rattle.memlist.specs.{Blocks.stretch, Chain.IsClimbed, Chain.IsLastBelow, Chain.IsLinked, Chain.IsNextBelow, Chain.IsSpot, Chain.IsWalked, Chain.ends_at, Chain.first_or, Chain.last_or, Chain.upper_next, Chain.upper_size, Choice.IsLowest, Fit.greatest, Joins.Around, Readers.gap_from, declared.gap.Gap.Gap};
 
 use crate::chunk::{Chunk, WORD, cut, link, read, word_place, write};
 use crate::gap::Gap;

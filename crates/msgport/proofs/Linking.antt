@@ -1,17 +1,12 @@
 -- What is linked where: a port that is not public is in no list, a message that is not held in none of those, a free port has no message, and what
 -- is freed leaves nothing after.
-use Rattle.std.proofs.Common.{◌≡◌, ◌≢◌, ℕ, zero, suc, ◌<◌, ◌≤◌, true, false, cond, not, eqb, List, [], ◌∷◌, ◌++◌, length, refl, sym, ◌∙◌, ap, subst, arith, inl, inr, Option, Some, None, is_some, slice_set, IsTrue, drop, replicate, length-append, ◌⊎◌, ◌||◌, Bool, nat_lt, unwrap_or, IsSome}
-use Rattle.std.proofs.lemmas.Bool.{cond-true, cond-false, eq-eqb, ne_eqb, cases_eq, cases_lt, lt-ltb}
-use Rattle.std.proofs.lemmas.List.{length-set, length-drop, length-replicate}
-use Rattle.execlist.specs.Order.{first, without}
-use Rattle.execlist.specs.Lists.{sequence, home, is_at, times}
-use Rattle.execlist.specs.Pool.{slot, Pooled, free_below}
+use Rattle.std.proofs.Common.{◌≡◌, ◌≢◌, ℕ, zero, suc, ◌<◌, ◌≤◌, true, false, cond, not, eqb, List, [], ◌∷◌, ◌++◌, length, refl, sym, ◌∙◌, ap, subst, arith, inl, inr, Option, Some, None, is_some, slice_set, IsTrue, drop, replicate, length-append, ◌⊎◌, ◌||◌, Bool, nat_lt, unwrap_or, IsSome, eq-eqb, ne_eqb, lt-ltb, length-set, length-drop}
+use Rattle.std.proofs.lemmas.{Bool.cond-true, Bool.cond-false, Bool.cases_eq, Bool.cases_lt, List.length-replicate}
+use Rattle.execlist.specs.{Order.first, Order.without, Lists.sequence, Lists.home, Lists.is_at, Lists.times, Pool.slot, Pool.Pooled, Pool.free_below}
 use Rattle.msgport.specs.declared.fault.PortFault.TheVariants.{Unknown, Link}
 use Rattle.msgport.specs.Ports.{MessagePorts, IsHeld, is_port, is_message, is_queued, is_linked, loose_fault, reply_fault, messages_of, appended, port_freed, message_freed, no_ports}
-use Rattle.execlist.proofs.Pools.{item_of, slot_known, slot_other, slot_same, slot_new}
-use Rattle.execlist.proofs.LinkLemmas.{none-there}
-use Rattle.msgport.specs.Port.{Port}
-use Rattle.msgport.specs.declared.message.Message.{Message}
+use Rattle.msgport.specs.{Port.Port, declared.message.Message.Message}
+use Rattle.execlist.proofs.{Pools.item_of, Pools.slot_known, Pools.slot_other, Pools.slot_same, Pools.slot_new, LinkLemmas.none-there}
 
 -- how often a node of that home is in header h
 abbrev standing : Option ℕ → ℕ → ℕ

@@ -1,9 +1,8 @@
 -- One port beside its messages, and what it does when one arrives (RKM Libraries, Exec Messages and Ports).
 use Rattle.std.specs.Prelude.{ℕ, ◌^◌, ◌==◌, if◌then◌else◌, Option, Some, None}
-use Rattle.msgport.specs.declared.action.Action.{Action}
-use Rattle.msgport.specs.declared.action.Action.TheVariants as action
-use Rattle.msgport.specs.declared.action.PortAction.{PortAction}
 use Rattle.msgport.specs.declared.action.PortAction.TheVariants.{Signal, Cause, Ignore}
+use Rattle.msgport.specs.{declared.action.Action.Action, declared.action.PortAction.PortAction}
+use Rattle.msgport.specs.declared.action.Action.TheVariants as action
 
 -- the task of a port, the number of its signal, and its action
 pub record Port : Type 0 where

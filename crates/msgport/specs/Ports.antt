@@ -1,13 +1,9 @@
 -- What calls on ports see: the ports and the messages by number, the messages of each port, those that are held, and the public ports
 -- (RKM Libraries, Exec Messages and Ports).
 use Rattle.std.specs.Prelude.{◌≡◌, ℕ, nat_lt, ℤ, Bool, not, ◌||◌, is_some, IsTrue, if◌then◌else◌, List, [], ◌∷◌, ◌++◌, length, drop, replicate, slice_set, Option, Some, None, unwrap_or}
-use Rattle.execlist.specs.Order.{enqueue, first, without}
-use Rattle.execlist.specs.Lists.{Key, blank, sequence, home, is_at, pri_of, times}
-use Rattle.msgport.specs.declared.fault.PortFault.{PortFault}
+use Rattle.execlist.specs.{Order.enqueue, Order.first, Order.without, Lists.Key, Lists.blank, Lists.sequence, Lists.home, Lists.is_at, Lists.pri_of, Lists.times, Pool.Pooled, Pool.all_free, Pool.free_below, Pool.given, Pool.released, Pool.slot, Pool.written}
 use Rattle.msgport.specs.declared.fault.PortFault.TheVariants.{NotEmpty, Link, Unknown}
-use Rattle.msgport.specs.declared.message.Message.{Message}
-use Rattle.execlist.specs.Pool.{Pooled, all_free, free_below, given, released, slot, written}
-use Rattle.msgport.specs.Port.{Port, new_port}
+use Rattle.msgport.specs.{declared.fault.PortFault.PortFault, declared.message.Message.Message, Port.Port, Port.new_port}
 
 -- the ports, the messages, and how they are linked
 pub record MessagePorts : Type 0 where

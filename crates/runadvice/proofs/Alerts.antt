@@ -1,25 +1,13 @@
 -- The alert that a machine shows at the end of a run is the one that ends the run.
-use Rattle.std.proofs.Common.{◌≡◌, ◌-◌, ◌+◌, ℕ, Bool, true, false, List, ◌++◌, length, take, drop, eqb, refl, ap, sym, ◌∙◌, append_assoc, Bor}
-use Rattle.std.specs.Prelude.{Option, None, Some, Result, Ok, Err, IfOk, IfSome, MatchOption, option_map, if◌then◌else◌, map, nat_lt, codes}
-use Rattle.std.specs.List.{slice_get}
+use Rattle.std.proofs.Common.{◌≡◌, ◌-◌, ◌+◌, ℕ, Bool, true, false, List, ◌++◌, length, take, drop, eqb, refl, ap, sym, ◌∙◌, append_assoc, Bor, Option, None, Some, Result, Ok, Err, IfOk, IfSome, MatchOption, option_map, if◌then◌else◌, map, nat_lt, codes, slice_get, option_and_then}
 use Rattle.std.specs.Cmp.Lexicographic.{pointwise}
-use Rattle.std.specs.Option.{option_and_then}
-use Rattle.std.proofs.lemmas.Bool.Decides.{Decides-eqb}
-use Rattle.std.proofs.lemmas.Option.{none-some, same_Some, slice_get-map}
-use Rattle.std.proofs.lemmas.Slice.Eq.{strip_suffix_is}
+use Rattle.std.proofs.lemmas.{Bool.Decides.Decides-eqb, Option.none-some, Option.same_Some, Option.slice_get-map, Slice.Eq.strip_suffix_is}
 use Rattle.exectrace.specs.Trace.{printed, printed_line}
 use Rattle.exectrace.specs.Trace as trace
-use Rattle.taskscript.specs.Commands.{CommandData, command_view}
-use Rattle.taskscript.specs.declared.command.Command.{Command}
-use Rattle.taskscript.specs.File.{MachineData}
-use Rattle.taskscript.specs.Listings.{ListingData}
-use Rattle.taskscript.specs.Words.{word_text}
+use Rattle.taskscript.specs.{Commands.CommandData, Commands.command_view, declared.command.Command.Command, File.MachineData, Listings.ListingData, Words.word_text}
 use Rattle.execmodel.specs.State.{Outcome, Scripts, program_of}
-use Rattle.execsim.specs.Agreement.{Seen, Agrees}
-use Rattle.execsim.specs.Readers.{task_seen, task_view}
-use Rattle.runadvice.specs.Alerts.{EndsRun, Stops}
-use Rattle.runadvice.specs.Going.{EndsWith}
-use Rattle.runadvice.specs.declared.check.Alert.{Alert}
+use Rattle.execsim.specs.{Agreement.Seen, Agreement.Agrees, Readers.task_seen, Readers.task_view}
+use Rattle.runadvice.specs.{Alerts.EndsRun, Alerts.Stops, Going.EndsWith, declared.check.Alert.Alert}
 
 ends_through : (whole text end : List ℕ) → EndsWith whole text → EndsWith text end → EndsWith whole end
 ends_through whole text end one other = record {

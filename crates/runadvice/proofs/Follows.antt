@@ -1,22 +1,12 @@
 -- How a machine goes on over some events and then over others, up to the end of a run.
-use Rattle.std.proofs.Common.{◌≡◌, ℕ, ◌+◌, ◌<◌, List, [], ◌∷◌, ◌++◌, length, take, drop, get_or, refl, ap, sym, inl, inr, ◌∙◌, subst, append-nil, append_assoc, arith}
-use Rattle.std.specs.Prelude.{Result, Ok, Err, OnOk, ◌⊎◌, sum_by}
-use Rattle.std.proofs.lemmas.Grind.{flat_map-append}
-use Rattle.std.proofs.lemmas.List.{take_more}
-use Rattle.std.proofs.lemmas.List.Sums.{sum_by-drop_more}
-use Rattle.exectrace.specs.Sink.{Tape}
-use Rattle.exectrace.specs.Trace.{printed, printed_line}
-use Rattle.taskscript.specs.Events.{ticks as ticks_of}
-use Rattle.taskscript.specs.File.{MachineData}
-use Rattle.taskscript.specs.declared.event.Event.{Event}
+use Rattle.std.proofs.Common.{◌≡◌, ℕ, ◌+◌, ◌<◌, List, [], ◌∷◌, ◌++◌, length, take, drop, get_or, refl, ap, sym, inl, inr, ◌∙◌, subst, append-nil, append_assoc, arith, Result, Ok, Err, OnOk, ◌⊎◌, sum_by}
+use Rattle.std.proofs.lemmas.{Grind.flat_map-append, List.take_more, List.Sums.sum_by-drop_more}
+use Rattle.exectrace.specs.{Sink.Tape, Trace.printed, Trace.printed_line}
 use Rattle.taskscript.specs.declared.event.Event.TheVariants.{Run, Tick}
-use Rattle.execmodel.specs.State.{State, Outcome, andthen, booted}
-use Rattle.execmodel.specs.Step.{starts, steps, ticks, event, events, run}
+use Rattle.taskscript.specs.{Events.ticks as ticks_of, File.MachineData, declared.event.Event.Event}
+use Rattle.execmodel.specs.{State.State, State.Outcome, State.andthen, State.booted, Step.starts, Step.steps, Step.ticks, Step.event, Step.events, Step.run}
 use Rattle.execmodel.proofs.Moments.{events_more, run_cut, tick_cut}
-use Rattle.execsim.specs.Agreement.{Seen, Agrees}
-use Rattle.execsim.specs.Headline.{Acts, Shown}
-use Rattle.execsim.specs.declared.machine.Flow.{Flow}
-use Rattle.execsim.specs.Time.{HasTimeFor}
+use Rattle.execsim.specs.{Agreement.Seen, Agreement.Agrees, Headline.Acts, Headline.Shown, declared.machine.Flow.Flow, Time.HasTimeFor}
 use Rattle.execsim.proofs.Clock.{time_for_fewer}
 use Rattle.runadvice.specs.Going.{EndsWith, Goes}
 

@@ -1,24 +1,12 @@
 -- The alert that ends a run: its line, whose call it refused, and where that command is written.
-use Rattle.std.specs.Prelude.{◌≡◌, ℕ, List, Option, Some, Ok, option_map}
-use Rattle.std.specs.List.{slice_get}
-use Rattle.std.specs.Option.{option_and_then}
+use Rattle.std.specs.Prelude.{◌≡◌, ℕ, List, Option, Some, Ok, option_map, slice_get, option_and_then}
 use Rattle.exectrace.specs.Trace.{printed, printed_line}
 use Rattle.exectrace.specs.Trace as trace
-use Rattle.taskscript.specs.Commands.{CommandData}
-use Rattle.taskscript.specs.Events.{script_of}
-use Rattle.taskscript.specs.File.{MachineData, TaskData, SoftintData, ServerData, file_of}
-use Rattle.taskscript.specs.Listings.{BodyListingData, ListingData, listing_in}
-use Rattle.taskscript.specs.Words.{word_text}
-use Rattle.taskscript.specs.declared.event.Event.{Event}
-use Rattle.taskscript.specs.declared.place.Owner.{Owner}
 use Rattle.taskscript.specs.declared.place.Owner.TheVariants.{Task, Softint, Server}
-use Rattle.execmodel.specs.State.{Outcome, program_of}
-use Rattle.execmodel.specs.Step.{run}
-use Rattle.execsim.specs.Agreement.{Seen}
-use Rattle.execsim.specs.Readers.{task_seen}
-use Rattle.runadvice.specs.declared.alert.Refused.{Refused}
-use Rattle.runadvice.specs.declared.check.Alert.{Alert}
-use Rattle.runadvice.specs.Going.{EndsWith}
+use Rattle.taskscript.specs.{Commands.CommandData, Events.script_of, File.MachineData, File.TaskData, File.SoftintData, File.ServerData, File.file_of, Listings.BodyListingData, Listings.ListingData, Listings.listing_in, Words.word_text, declared.event.Event.Event, declared.place.Owner.Owner}
+use Rattle.execmodel.specs.{State.Outcome, State.program_of, Step.run}
+use Rattle.execsim.specs.{Agreement.Seen, Readers.task_seen}
+use Rattle.runadvice.specs.{declared.alert.Refused.Refused, declared.check.Alert.Alert, Going.EndsWith}
 
 -- the name of what has a body, by its number among those of its kind
 abbrev pub name_in : MachineData → Owner → ℕ → Option (List ℕ)

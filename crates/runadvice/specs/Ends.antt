@@ -1,9 +1,6 @@
 -- Which runs an alert ends.
 use Rattle.std.specs.Prelude.{Bool, false, List, Result, Ok, Err}
-use Rattle.taskscript.specs.File.{MachineData}
-use Rattle.taskscript.specs.declared.event.Event.{Event}
-use Rattle.taskscript.specs.declared.fault.EventFault.{EventFault}
-use Rattle.taskscript.specs.declared.fault.FileFault.{FileFault}
+use Rattle.taskscript.specs.{File.MachineData, declared.event.Event.Event, declared.fault.EventFault.EventFault, declared.fault.FileFault.FileFault}
 use Rattle.execmodel.specs.Step.{run}
 
 -- whether both texts are accepted, and an alert ends their run

@@ -2,8 +2,7 @@
 use Rattle.std.specs.Prelude.{◌≡◌, ℕ, List, ◌++◌}
 use Rattle.exectrace.specs.Trace.{printed}
 use Rattle.taskscript.specs.declared.event.Event.{Event}
-use Rattle.execmodel.specs.State.{State}
-use Rattle.execmodel.specs.Step.{events}
+use Rattle.execmodel.specs.{State.State, Step.events}
 use Rattle.execsim.specs.Agreement.{Seen, Agrees}
 
 -- A text ends with another one.

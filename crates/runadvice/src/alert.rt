@@ -1,11 +1,9 @@
 //! The alert that has stopped a machine: whose call it refused, which line that is, and the values of its arguments.
-ghost use Rattle.std.specs.Prelude.{◌≡◌, ◌++◌, IfSome, Some};
-ghost use Rattle.std.specs.Option.{option_map};
+ghost use Rattle.std.specs.Prelude.{◌≡◌, ◌++◌, IfSome, Some, option_map};
 ghost use Rattle.exectrace.specs.Trace.{Alert, printed_line};
 ghost use Rattle.taskscript.specs.declared.place.Owner.{Owner};
 ghost use Rattle.execsim.specs.Readers.{task_seen};
-ghost use Rattle.runadvice.specs.Alerts.{Tells, TellsOf};
-ghost use Rattle.runadvice.specs.Going.{EndsWith};
+ghost use Rattle.runadvice.specs.{Alerts.Tells, Alerts.TellsOf, Going.EndsWith};
 
 use crate::bodies::{command_at, last_begun};
 use crate::page::{Spot, name_of};

@@ -1,15 +1,10 @@
 //! What the run of two texts comes to.
 ghost use Rattle.std.specs.Prelude.{◌≡◌, [], false, None, IfOk, IfSome};
-ghost use Rattle.exectrace.specs.Trace.{printed};
-ghost use Rattle.exectrace.specs.declared.sinks.SinkState.{SinkState};
-ghost use Rattle.taskscript.specs.Events.{script_of};
-ghost use Rattle.taskscript.specs.File.{file_of};
+ghost use Rattle.exectrace.specs.{Trace.printed, declared.sinks.SinkState.SinkState};
+ghost use Rattle.taskscript.specs.{Events.script_of, File.file_of};
 ghost use Rattle.execmodel.specs.Step.{run as run_of};
-ghost use Rattle.execsim.specs.Agreement.{Agrees};
-ghost use Rattle.execsim.specs.Time.{HasTimeFor};
-ghost use Rattle.runadvice.specs.Alerts.{EndsRun, EndsRunOf, Stops};
-ghost use Rattle.runadvice.specs.Ends.{ends_by_alert};
-ghost use Rattle.runadvice.specs.Going.{EndsWith};
+ghost use Rattle.execsim.specs.{Agreement.Agrees, Time.HasTimeFor};
+ghost use Rattle.runadvice.specs.{Alerts.EndsRun, Alerts.EndsRunOf, Alerts.Stops, Ends.ends_by_alert, Going.EndsWith};
 
 use crate::alert::refused_call;
 use crate::course::Course;

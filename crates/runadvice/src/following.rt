@@ -1,15 +1,10 @@
 //! A run, as many steps at a time as nothing has to be asked between, with what is noted of them. What is asked later is asked of the machine at
 //! the end of that run.
 ghost use Rattle.std.specs.Prelude.{◌≡◌, ◌+◌, ◌∷◌, ℕ, [], false, sum_by, OnOk};
-ghost use Rattle.exectrace.specs.Trace.{printed};
-ghost use Rattle.exectrace.specs.declared.sinks.SinkState.{SinkState};
-ghost use Rattle.taskscript.specs.Events.{ticks as ticks_of};
-ghost use Rattle.taskscript.specs.File.{MachineData};
-ghost use Rattle.taskscript.specs.declared.event.Event.{Event};
-ghost use Rattle.execmodel.specs.State.{booted};
-ghost use Rattle.execmodel.specs.Step.{run as run_of, starts};
-ghost use Rattle.execsim.specs.Agreement.{Agrees};
-ghost use Rattle.execsim.specs.Time.{HasTimeFor};
+ghost use Rattle.exectrace.specs.{Trace.printed, declared.sinks.SinkState.SinkState};
+ghost use Rattle.taskscript.specs.{Events.ticks as ticks_of, File.MachineData, declared.event.Event.Event};
+ghost use Rattle.execmodel.specs.{State.booted, Step.run as run_of, Step.starts};
+ghost use Rattle.execsim.specs.{Agreement.Agrees, Time.HasTimeFor};
 ghost use Rattle.runadvice.specs.Going.{EndsWith, Goes};
 
 use crate::course::Course;

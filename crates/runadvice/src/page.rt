@@ -1,6 +1,5 @@
 //! The text that is made of what was found: each finding with its place in the file, the line and marks.
-ghost use Rattle.std.specs.Prelude.{◌≡◌};
-ghost use Rattle.std.specs.Option.{option_map};
+ghost use Rattle.std.specs.Prelude.{◌≡◌, option_map};
 ghost use Rattle.taskscript.specs.declared.place.Owner.{Owner};
 ghost use Rattle.runadvice.specs.Alerts.{line_in, name_in};
 

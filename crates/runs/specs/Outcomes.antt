@@ -1,14 +1,8 @@
 -- What the program comes to over two texts: its status, and what it writes.
 use Rattle.std.specs.Prelude.{◌≡◌, ℕ, List, Result, Ok, Err}
-use Rattle.taskscript.specs.File.{MachineData}
-use Rattle.taskscript.specs.declared.event.Event.{Event}
-use Rattle.taskscript.specs.declared.fault.FileFault.{FileFault}
-use Rattle.taskscript.specs.declared.fault.EventFault.{EventFault}
-use Rattle.execsim.specs.declared.simulation.End.{End}
-use Rattle.execsim.specs.declared.simulation.SimFault.{SimFault}
-use Rattle.execrun.specs.Ending.{code_of, ending_after, status_of}
-use Rattle.execrun.specs.Fault.{fault_of, line_of}
-use Rattle.execrun.specs.declared.ending.Ending.{Ending}
+use Rattle.taskscript.specs.{File.MachineData, declared.event.Event.Event, declared.fault.FileFault.FileFault, declared.fault.EventFault.EventFault}
+use Rattle.execsim.specs.{declared.simulation.End.End, declared.simulation.SimFault.SimFault}
+use Rattle.execrun.specs.{Ending.code_of, Ending.ending_after, Ending.status_of, Fault.fault_of, Fault.line_of, declared.ending.Ending.Ending}
 use Rattle.runs.specs.Runs.{IsRun, IsFault}
 
 -- the answer of a run, with what is written of it: the trace, or the line of its fault

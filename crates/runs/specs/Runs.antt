@@ -1,16 +1,11 @@
 -- What a whole run of two texts is: both are read, and it prints the trace of the defined machine over the defined events.
 use Rattle.std.specs.Prelude.{◌≡◌, ℕ, List, Result, Ok, Err}
 use Rattle.exectrace.specs.Trace.{printed}
-use Rattle.taskscript.specs.File.{MachineData}
-use Rattle.taskscript.specs.declared.event.Event.{Event}
-use Rattle.taskscript.specs.declared.fault.FileFault.{FileFault}
+use Rattle.taskscript.specs.{File.MachineData, declared.event.Event.Event, declared.fault.FileFault.FileFault, declared.fault.EventFault.EventFault}
 use Rattle.taskscript.specs.declared.fault.FileFault.TheVariants as file_fault
-use Rattle.taskscript.specs.declared.fault.EventFault.{EventFault}
 use Rattle.taskscript.specs.declared.fault.EventFault.TheVariants as event_fault
 use Rattle.execmodel.specs.Step.{run}
-use Rattle.execsim.specs.Headline.{end_of}
-use Rattle.execsim.specs.declared.simulation.End.{End}
-use Rattle.execsim.specs.declared.simulation.SimFault.{SimFault}
+use Rattle.execsim.specs.{Headline.end_of, declared.simulation.End.End, declared.simulation.SimFault.SimFault}
 use Rattle.execsim.specs.declared.simulation.SimFault.TheVariants as fault
 
 -- both texts are read, and their run prints these bytes and ends so

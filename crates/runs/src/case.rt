@@ -1,7 +1,6 @@
 //! One run, and what it has to come to.
 ghost use Rattle.std.specs.Prelude.{◌≡◌, IfOk, true};
-ghost use Rattle.taskscript.specs.File.{file_of};
-ghost use Rattle.taskscript.specs.Events.{script_of};
+ghost use Rattle.taskscript.specs.{File.file_of, Events.script_of};
 ghost use Rattle.runs.specs.Outcomes.{IsOutcome};
 
 use crate::outcome::{Outcome, outcome_of};

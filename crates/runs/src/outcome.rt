@@ -1,7 +1,6 @@
 //! What the program comes to over two texts.
 ghost use Rattle.std.specs.Prelude.{◌≡◌, IfOk};
-ghost use Rattle.taskscript.specs.File.{file_of};
-ghost use Rattle.taskscript.specs.Events.{script_of};
+ghost use Rattle.taskscript.specs.{File.file_of, Events.script_of};
 ghost use Rattle.runs.specs.Outcomes.{IsOutcome};
 
 use crate::run::run_of;

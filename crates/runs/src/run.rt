@@ -1,7 +1,6 @@
 //! The whole run of two texts, kept in memory.
 ghost use Rattle.std.specs.Prelude.{MatchResult};
-ghost use Rattle.taskscript.specs.File.{file_of};
-ghost use Rattle.taskscript.specs.Events.{script_of};
+ghost use Rattle.taskscript.specs.{File.file_of, Events.script_of};
 ghost use Rattle.runs.specs.Runs.{IsRun, IsFault};
 
 use execlist::space::ListSpace;

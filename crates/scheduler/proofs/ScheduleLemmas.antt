@@ -1,21 +1,14 @@
 -- What follows from a schedule's being sound, and the schedules that calls on the tasks lead to.
 use Rattle.std.proofs.Common.{◌≡◌, ◌≢◌, ℕ, ◌<◌, zero, suc, Bool, true, false, cond, List, [], ◌∷◌, Option, Some, None, IfSome, length, slice_set, refl, sym, ap, ◌∙◌, arith, ℤ, eq-eqb}
 use Rattle.std.proofs.lemmas.List.{set-get_or}
-use Rattle.execlist.specs.Order.{enqueue, first, without}
-use Rattle.execlist.specs.Lists.{times}
-use Rattle.taskq.specs.Tasks.{Tasks, state_at, is_ready}
-use Rattle.execlist.specs.Disciplines.{pri_at, by_priority}
-use Rattle.execlist.proofs.PlainLemmas.{without_fresh}
-use Rattle.taskq.specs.declared.TaskState.{TaskState}
+use Rattle.execlist.specs.{Order.enqueue, Order.first, Order.without, Lists.times, Disciplines.pri_at, Disciplines.by_priority}
 use Rattle.taskq.specs.declared.TaskState.TheVariants.{Absent, Ready, Running, Waiting, Removed}
-use Rattle.taskq.specs.declared.Why.TheVariants.{Signals, Sem}
+use Rattle.taskq.specs.{Tasks.Tasks, Tasks.state_at, Tasks.is_ready, declared.TaskState.TaskState, declared.Why.TheVariants.Signals, declared.Why.TheVariants.Sem}
+use Rattle.execlist.proofs.PlainLemmas.{without_fresh}
 use Rattle.signals.specs.Signals.{SignalSets}
 use Rattle.forbid.specs.Nesting.{Nesting}
-use Rattle.scheduler.specs.declared.Switch.{Switch}
-use Rattle.scheduler.specs.declared.Switch.TheVariants.{To}
 use Rattle.scheduler.specs.Schedule.{Schedule, status_of, switch_for, begins, waits_for, waits_at_semaphore, leaves, departs, removed, with_priority}
-use Rattle.scheduler.specs.Dispatch.{arrives, switch_of, displaced, after_switch, rescheduled, reprioritized}
-use Rattle.scheduler.specs.Sound.{IsSound, IsToReady, is_running, is_task}
+use Rattle.scheduler.specs.{declared.Switch.Switch, declared.Switch.TheVariants.To, Dispatch.arrives, Dispatch.switch_of, Dispatch.displaced, Dispatch.after_switch, Dispatch.rescheduled, Dispatch.reprioritized, Sound.IsSound, Sound.IsToReady, Sound.is_running, Sound.is_task}
 
 -- ---- the running task
 

@@ -3,10 +3,7 @@ use Rattle.std.proofs.Common.{◌≡◌, ℕ, Bool, true, false, cond, Option, S
 use Rattle.std.proofs.lemmas.Bool.{not-true}
 use Rattle.execlist.specs.Disciplines.{by_priority}
 use Rattle.scheduler.proofs.ScheduleLemmas.{rescheduled-is}
-use Rattle.scheduler.specs.Schedule.{Schedule, renewed}
-use Rattle.scheduler.specs.Dispatch.{switch_of, after_switch, rescheduled}
-use Rattle.scheduler.specs.Settled.{begins_anew, stays, is_settled}
-use Rattle.scheduler.specs.declared.Switch.{Switch}
+use Rattle.scheduler.specs.{Schedule.Schedule, Schedule.renewed, Dispatch.switch_of, Dispatch.after_switch, Dispatch.rescheduled, Settled.begins_anew, Settled.stays, Settled.is_settled, declared.Switch.Switch}
 
 -- if no quantum begins anew nothing is renewed
 renewed_none : (o : Option ℕ) (s : Schedule) → begins_anew o s ≡ false → renewed o s ≡ s

@@ -2,12 +2,10 @@
 -- arriving task is put, and which ready one is chosen. A scheduler keeps the sequence by priority, the abstract machine in order of arrival.
 use Rattle.std.specs.Prelude.{ℕ, ℤ, true, not, if◌then◌else◌, Option, None, Some}
 use Rattle.execlist.specs.Disciplines.{Discipline, pri_at}
-use Rattle.taskq.specs.Tasks.{is_ready, is_live}
-use Rattle.taskq.specs.declared.TaskState.TheVariants.{Ready}
+use Rattle.taskq.specs.{Tasks.is_ready, Tasks.is_live, declared.TaskState.TheVariants.Ready}
 use Rattle.signals.specs.Signals.{after_post}
 use Rattle.scheduler.specs.Schedule.{Schedule, status_of, signals_of, with_status, with_priority, with_signals, switch_for, renewed, begins, departs, is_absent, awaits}
-use Rattle.scheduler.specs.declared.Switch.{Switch}
-use Rattle.scheduler.specs.declared.Switch.TheVariants.{To, Idle}
+use Rattle.scheduler.specs.{declared.Switch.Switch, declared.Switch.TheVariants.To, declared.Switch.TheVariants.Idle}
 
 -- ---- moving between states
 

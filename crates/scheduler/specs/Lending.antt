@@ -2,12 +2,9 @@
 use Rattle.std.specs.Prelude.{ℕ, Option, None, Some}
 use Rattle.std.specs.Borrow.{Lends, Fml, RattleType, MutBor}
 use Rattle.execlist.specs.declared.space.ListSpace.{Ghosts}
-use Rattle.signals.specs.Signals.{SignalSets}
-use Rattle.signals.specs.contracts.SigState.{the_row as signals_row}
-use Rattle.forbid.specs.Nesting.{Nesting}
-use Rattle.forbid.specs.contracts.Nest.{the_row as nesting_row}
-use Rattle.scheduler.specs.Schedule.{Schedule, with_signals, with_nesting}
-use Rattle.scheduler.specs.contracts.Sched.{the_row}
+use Rattle.signals.specs.{Signals.SignalSets, contracts.SigState.the_row as signals_row}
+use Rattle.forbid.specs.{Nesting.Nesting, contracts.Nest.the_row as nesting_row}
+use Rattle.scheduler.specs.{Schedule.Schedule, Schedule.with_signals, Schedule.with_nesting, contracts.Sched.the_row}
 
 -- the running task with other signals
 abbrev pub with_own_signals : Option ℕ → SignalSets → Schedule → Schedule

@@ -2,18 +2,12 @@
 -- here leave open how the ready sequence is kept: none of them puts a task into it.
 use Rattle.std.specs.Prelude.{ℕ, ◌-◌, ◌<◌, ℤ, Bool, true, false, not, ◌&&◌, ◌||◌, if◌then◌else◌, nat_eq, int_lt, int_le, bit_and, List, [], length, find, replicate, Option, None, Some, Result, Ok, Err, slice_index_or, slice_set}
 use Rattle.std.specs.List.{range_with_len}
-use Rattle.execlist.specs.Order.{without}
-use Rattle.taskq.specs.Tasks.{Tasks, state_at, name_at, is_live, is_live_named}
-use Rattle.execlist.specs.Disciplines.{pri_at}
-use Rattle.taskq.specs.declared.TaskState.{TaskState}
+use Rattle.execlist.specs.{Order.without, Disciplines.pri_at}
 use Rattle.taskq.specs.declared.TaskState.TheVariants.{Absent, Ready, Running, Waiting, Removed}
-use Rattle.taskq.specs.declared.Why.{Why}
-use Rattle.taskq.specs.declared.Why.TheVariants.{Signals, Sem}
+use Rattle.taskq.specs.{Tasks.Tasks, Tasks.state_at, Tasks.name_at, Tasks.is_live, Tasks.is_live_named, declared.TaskState.TaskState, declared.Why.Why, declared.Why.TheVariants.Signals, declared.Why.TheVariants.Sem}
 use Rattle.signals.specs.Signals.{SignalSets, initial_sets, taken_signals, after_take, grant, after_grant, after_set, after_free}
-use Rattle.forbid.specs.Nesting.{Nesting, initial_nesting, may_switch, may_interrupt}
-use Rattle.forbid.specs.declared.NestFault.{NestFault}
-use Rattle.scheduler.specs.declared.Switch.{Switch}
-use Rattle.scheduler.specs.declared.Switch.TheVariants.{To, Idle}
+use Rattle.forbid.specs.{Nesting.Nesting, Nesting.initial_nesting, Nesting.may_switch, Nesting.may_interrupt, declared.NestFault.NestFault}
+use Rattle.scheduler.specs.{declared.Switch.Switch, declared.Switch.TheVariants.To, declared.Switch.TheVariants.Idle}
 
 -- the tasks, which of them runs and for how long (RKM Libraries, Exec Tasks)
 pub record Schedule : Type 0 where

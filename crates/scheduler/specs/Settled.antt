@@ -1,9 +1,7 @@
 -- When a schedule is settled: no switch is due, and no quantum begins anew.
 use Rattle.std.specs.Prelude.{ℕ, Bool, true, false, not, ◌&&◌, Option, None, Some}
 use Rattle.execlist.specs.Disciplines.{by_priority}
-use Rattle.scheduler.specs.Schedule.{Schedule, is_switching_allowed, is_quantum_over}
-use Rattle.scheduler.specs.Dispatch.{switch_of}
-use Rattle.scheduler.specs.declared.Switch.{Switch}
+use Rattle.scheduler.specs.{Schedule.Schedule, Schedule.is_switching_allowed, Schedule.is_quantum_over, Dispatch.switch_of, declared.Switch.Switch}
 
 -- the quantum of the running task, if any, begins anew if no switch is made
 abbrev pub begins_anew : Option ℕ → Schedule → Bool

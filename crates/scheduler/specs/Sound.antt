@@ -1,12 +1,10 @@
 -- What is true of every schedule: the lists have one length, and the running task alone is in the state of running.
 use Rattle.std.specs.Prelude.{◌≡◌, ℕ, Bool, false, true, ◌==◌, List, length, Option, Some, None}
-use Rattle.taskq.specs.Tasks.{state_at}
-use Rattle.taskq.specs.declared.TaskState.{TaskState}
 use Rattle.taskq.specs.declared.TaskState.TheVariants.{Absent, Ready, Running, Waiting, Removed}
+use Rattle.taskq.specs.{Tasks.state_at, declared.TaskState.TaskState}
 use Rattle.signals.specs.Signals.{SignalSets}
 use Rattle.forbid.specs.Nesting.{Nesting}
-use Rattle.scheduler.specs.declared.Switch.{Switch}
-use Rattle.scheduler.specs.declared.Switch.TheVariants.{To, Idle}
+use Rattle.scheduler.specs.{declared.Switch.Switch, declared.Switch.TheVariants.To, declared.Switch.TheVariants.Idle}
 
 -- a task of that state runs
 abbrev pub is_running : TaskState → Bool

@@ -1,7 +1,6 @@
 -- What is seen of one task of a schedule.
 use Rattle.std.specs.Prelude.{ℕ}
-use Rattle.scheduler.specs.Schedule.{Schedule, nesting_of, priority_of, signals_of, status_of}
-use Rattle.scheduler.specs.declared.status.TaskStatus.{TaskStatus}
+use Rattle.scheduler.specs.{Schedule.Schedule, Schedule.nesting_of, Schedule.priority_of, Schedule.signals_of, Schedule.status_of, declared.status.TaskStatus.TaskStatus}
 
 -- the state, the priority, the signals and the nesting of task t
 abbrev pub status_seen : Schedule → ℕ → TaskStatus

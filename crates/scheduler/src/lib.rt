@@ -4,16 +4,10 @@
 #![tactic(auto)]
 
 ghost use Rattle.std.specs.Prelude.{◌≡◌, ◌≢◌, ℕ, ◌<◌, ◌≤◌, length, slice_set, map, if◌then◌else◌, Some, None, IsTrue, IsSome, IfSome, IfOk};
-ghost use Rattle.execlist.specs.Lists.{times};
-ghost use Rattle.execlist.specs.Order.{enqueue};
-ghost use Rattle.execlist.specs.Disciplines.{by_priority, pri_at};
+ghost use Rattle.execlist.specs.{Lists.times, Order.enqueue, Disciplines.by_priority, Disciplines.pri_at};
 ghost use Rattle.taskq.specs.Tasks.{state_at, is_live, is_ready};
-ghost use Rattle.scheduler.specs.Schedule.{task_count, name_of, priority_of, status_of, unstarted, is_absent, leaves, removed, found};
-ghost use Rattle.scheduler.specs.Schedule.{switch_for, IsToOneOf, takes_over, begins, renewed, ticked};
-ghost use Rattle.scheduler.specs.Schedule.{waits_at_semaphore, is_at_semaphore};
-ghost use Rattle.scheduler.specs.Dispatch.{arrives, displaced, switch_of, after_switch, rescheduled, added, reprioritized};
-ghost use Rattle.scheduler.specs.Sound.{is_stopped, IsToReady};
-ghost use Rattle.scheduler.specs.Settled.{begins_anew, stays};
+ghost use Rattle.scheduler.specs.Schedule.{task_count, name_of, priority_of, status_of, unstarted, is_absent, leaves, removed, found, switch_for, IsToOneOf, takes_over, begins, renewed, ticked, waits_at_semaphore, is_at_semaphore};
+ghost use Rattle.scheduler.specs.{Dispatch.arrives, Dispatch.displaced, Dispatch.switch_of, Dispatch.after_switch, Dispatch.rescheduled, Dispatch.added, Dispatch.reprioritized, Sound.is_stopped, Sound.IsToReady, Settled.begins_anew, Settled.stays};
 
 mod nesting;
 mod status;
@@ -55,9 +49,7 @@ pub struct Sched<S: ListSpace> {
 
 impl<S: ListSpace> Model for Sched<S> {
     ghost use Rattle.std.specs.Prelude.{◌≡◌, true, if◌then◌else◌};
-    ghost use Rattle.scheduler.specs.Schedule.{Schedule};
-    ghost use Rattle.scheduler.specs.Sound.{IsSound};
-    ghost use Rattle.scheduler.specs.Settled.{is_settled};
+    ghost use Rattle.scheduler.specs.{Schedule.Schedule, Sound.IsSound, Settled.is_settled};
 
     ghost Value = { Schedule };
 

@@ -2,9 +2,7 @@
 ghost use Rattle.std.specs.Prelude.{◌≡◌, ◌<◌, IsSome, IfSome};
 ghost use Rattle.std.specs.Borrow.{sem};
 ghost use Rattle.forbid.specs.Nesting.{may_switch, may_interrupt, after_forbid, after_permit, after_disable, after_enable};
-ghost use Rattle.scheduler.specs.Schedule.{task_count, nesting_of};
-ghost use Rattle.scheduler.specs.Schedule.{is_switching_allowed, is_interrupting_allowed, nested, nest_answer};
-ghost use Rattle.scheduler.specs.Lending.{lends_nesting};
+ghost use Rattle.scheduler.specs.{Schedule.task_count, Schedule.nesting_of, Schedule.is_switching_allowed, Schedule.is_interrupting_allowed, Schedule.nested, Schedule.nest_answer, Lending.lends_nesting};
 
 use crate::Sched;
 use execlist::space::ListSpace;

@@ -1,9 +1,7 @@
 //! What is seen of one task, of the ready tasks and of the quantum. Nothing here changes the schedule.
 ghost use Rattle.std.specs.Prelude.{◌≡◌, ◌<◌, IfSome};
-ghost use Rattle.execlist.specs.Lists.{part_from};
-ghost use Rattle.execlist.specs.Order.{first};
-ghost use Rattle.scheduler.specs.Schedule.{task_count};
-ghost use Rattle.scheduler.specs.Status.{status_seen};
+ghost use Rattle.execlist.specs.{Lists.part_from, Order.first};
+ghost use Rattle.scheduler.specs.{Schedule.task_count, Status.status_seen};
 
 use crate::Sched;
 use execlist::space::ListSpace;

@@ -3,10 +3,8 @@ ghost use Rattle.std.specs.Prelude.{◌≡◌, negsuc, ◌<◌, ◌≤◌, not, 
 ghost use Rattle.std.specs.Borrow.{sem};
 ghost use Rattle.execlist.specs.Disciplines.{by_priority};
 ghost use Rattle.signals.specs.Signals.{taken_signals, after_post, grant, grant_number};
-ghost use Rattle.scheduler.specs.Schedule.{task_count, status_of, signals_of};
-ghost use Rattle.scheduler.specs.Schedule.{awaits, come_for, after_wait, clears_and_waits, takes, waits_for, allocates, sets_signals, frees, with_signals};
-ghost use Rattle.scheduler.specs.Dispatch.{signalled};
-ghost use Rattle.scheduler.specs.Lending.{lends_signals};
+ghost use Rattle.scheduler.specs.Schedule.{task_count, status_of, signals_of, awaits, come_for, after_wait, clears_and_waits, takes, waits_for, allocates, sets_signals, frees, with_signals};
+ghost use Rattle.scheduler.specs.{Dispatch.signalled, Lending.lends_signals};
 
 use crate::Sched;
 use execlist::space::ListSpace;

@@ -1,7 +1,7 @@
 -- Which signals a set has, after the operations on sets.
-use Rattle.std.proofs.Common.{ℕ, zero, suc, ◌-◌, ◌*◌, ◌^◌, ◌≡◌, ◌≤◌, ◌<◌, not, ◌&&◌, ◌||◌, nat_eq, bit_or, min, max, refl, arith, ap, ◌∙◌, pow_pos, ne_eqb, eq-eqb}
+use Rattle.std.proofs.Common.{ℕ, zero, suc, ◌-◌, ◌*◌, ◌^◌, ◌≡◌, ◌≤◌, ◌<◌, not, ◌&&◌, ◌||◌, nat_eq, bit_or, min, max, refl, arith, ap, ◌∙◌, pow_pos, ne_eqb, eq-eqb, w32}
 use Rattle.std.proofs.lemmas.Nat.Bits.{and_pow, bit_at-lt, bit_at_or, bit_at_and, bit_at_not}
-use Rattle.std.specs.Int.{bit_at, bit_not, w32}
+use Rattle.std.specs.Int.{bit_at, bit_not}
 use Rattle.signals.specs.Signals.{has_signal, without}
 
 -- a bit in its place is 0 exactly if it is 0

@@ -1,13 +1,10 @@
 -- Who waits where: at a semaphore without waiters nobody waits, so that it may become free, and at a free one nobody waits.
-use Rattle.std.proofs.Common.{◌≡◌, ◌≢◌, ℕ, ◌<◌, true, false, cond, List, [], ◌∷◌, length, refl, sym, ◌∙◌, ap, subst, arith, inl, inr, Option, Some, None, is_some, slice_set, IsTrue, length-set, ◌⊎◌, unwrap_or}
-use Rattle.std.proofs.lemmas.Bool.{cond-true, cond-false, eq-eqb, ne_eqb, cases_eq}
-use Rattle.execlist.specs.Order.{first}
-use Rattle.execlist.specs.Lists.{is_at, times}
-use Rattle.execlist.specs.Pool.{slot, written}
-use Rattle.execlist.proofs.Pools.{slot_same, slot_other, slot_known, item_of}
-use Rattle.execlist.proofs.LinkLemmas.{none-there}
-use Rattle.sigsem.specs.declared.semaphore.Sem.{Sem}
+use Rattle.std.proofs.Common.{◌≡◌, ◌≢◌, ℕ, ◌<◌, true, false, cond, List, [], ◌∷◌, length, refl, sym, ◌∙◌, ap, subst, arith, inl, inr, Option, Some, None, is_some, slice_set, IsTrue, length-set, ◌⊎◌, unwrap_or, eq-eqb, ne_eqb}
+use Rattle.std.proofs.lemmas.Bool.{cond-true, cond-false, cases_eq}
+use Rattle.execlist.specs.{Order.first, Lists.is_at, Lists.times, Pool.slot, Pool.written}
+use Rattle.execlist.proofs.{Pools.slot_same, Pools.slot_other, Pools.slot_known, Pools.item_of, LinkLemmas.none-there}
 use Rattle.sigsem.specs.Semaphores.{Semaphores, IsHeld, IsSound, IsCounted, free_sem, is_sem, waits_at, waiters_of}
+use Rattle.sigsem.specs.declared.semaphore.Sem.{Sem}
 
 -- how often a task that waits there is in the queue of semaphore s
 abbrev standing : Option ℕ → ℕ → ℕ

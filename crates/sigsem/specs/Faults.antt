@@ -1,7 +1,7 @@
 -- Refusals of calls on semaphores.
 use Rattle.std.specs.Prelude.{ℕ}
-use Rattle.sigsem.specs.declared.fault.SemFault.{SemFault}
 use Rattle.sigsem.specs.declared.fault.SemFault.TheVariants.{NotOwner, TooDeep, Busy, PoolFull}
+use Rattle.sigsem.specs.declared.fault.SemFault.{SemFault}
 
 -- the number of a fault (project rule)
 abbrev pub fault_number : SemFault → ℕ

@@ -1,14 +1,10 @@
 -- What calls on signal semaphores see: the semaphores by number, the tasks that wait at each, and if each task waits
 -- (RKM Libraries, Exec Semaphores).
 use Rattle.std.specs.Prelude.{◌≡◌, ℕ, ◌+◌, ◌-◌, ◌≤◌, ◌==◌, ◌&&◌, ◌||◌, nat_lt, Bool, not, is_some, IsTrue, MatchOption, if◌then◌else◌, List, [], ◌∷◌, ◌++◌, length, drop, replicate, slice_set, Option, Some, None, unwrap_or}
-use Rattle.execlist.specs.Order.{first, without}
-use Rattle.execlist.specs.Lists.{sequence, home, is_at, times}
-use Rattle.execlist.specs.Pool.{Pooled, all_free, given, released, slot, written}
-use Rattle.sigsem.specs.declared.fault.SemFault.{SemFault}
+use Rattle.execlist.specs.{Order.first, Order.without, Lists.sequence, Lists.home, Lists.is_at, Lists.times, Pool.Pooled, Pool.all_free, Pool.given, Pool.released, Pool.slot, Pool.written}
 use Rattle.sigsem.specs.declared.fault.SemFault.TheVariants.{NotOwner, TooDeep, Busy}
-use Rattle.sigsem.specs.declared.semaphore.Sem.{Sem}
-use Rattle.sigsem.specs.declared.semaphore.Obtained.{Obtained}
 use Rattle.sigsem.specs.declared.semaphore.Obtained.TheVariants.{Owner, Waits}
+use Rattle.sigsem.specs.{declared.fault.SemFault.SemFault, declared.semaphore.Sem.Sem, declared.semaphore.Obtained.Obtained}
 
 -- the semaphores, and the tasks that wait at them
 pub record Semaphores : Type 0 where

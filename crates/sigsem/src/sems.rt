@@ -1,12 +1,7 @@
 //! The semaphores of a machine, by number.
-ghost use Rattle.std.specs.Prelude.{◌≡◌, ◌<◌, ◌≤◌, length, not, is_some, Some, None, IfOk, IfSome, IsTrue};
-ghost use Rattle.execlist.specs.Order.{first};
-ghost use Rattle.execlist.specs.Pool.{IsStocked, next_number};
-ghost use Rattle.std.specs.Option.{ok_or};
-ghost use Rattle.execlist.specs.Answers.{fault_or, kept_or};
-ghost use Rattle.sigsem.specs.Semaphores.{IsSound, is_sem, is_owned, is_open, sem_at, waiters_of, waits_at};
-ghost use Rattle.sigsem.specs.Semaphores.{free_fault, deep_fault, release_fault, outcome_for, heir};
-ghost use Rattle.sigsem.specs.Semaphores.{no_sems, sem_made, sem_freed, with_sem, queued, obtained, attempted, handed_on, let_go, dropped};
+ghost use Rattle.std.specs.Prelude.{◌≡◌, ◌<◌, ◌≤◌, length, not, is_some, Some, None, IfOk, IfSome, IsTrue, ok_or};
+ghost use Rattle.execlist.specs.{Order.first, Pool.IsStocked, Pool.next_number, Answers.fault_or, Answers.kept_or};
+ghost use Rattle.sigsem.specs.Semaphores.{IsSound, is_sem, is_owned, is_open, sem_at, waiters_of, waits_at, free_fault, deep_fault, release_fault, outcome_for, heir, no_sems, sem_made, sem_freed, with_sem, queued, obtained, attempted, handed_on, let_go, dropped};
 
 mod readers;
 

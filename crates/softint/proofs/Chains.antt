@@ -3,11 +3,8 @@ use Rattle.std.proofs.Common.{◌≡◌, ℕ, zero, suc, ◌+◌, ◌<◌, Bool,
 use Rattle.std.specs.List.{range_with_len}
 use Rattle.std.proofs.lemmas.List.Elements.{All-cons, All-nil, All-head, All-tail, filter-append}
 use Rattle.execlist.specs.Order.{enqueue, order, is_lower}
-use Rattle.execlist.proofs.OrderLaws.{order_takes}
-use Rattle.execlist.proofs.PlainLemmas.{one_more}
-use Rattle.softint.specs.declared.source.Source.{Source}
-use Rattle.softint.specs.declared.interrupt.Server.{Server}
-use Rattle.softint.specs.Interrupts.{chain, server_pri, serves}
+use Rattle.execlist.proofs.{OrderLaws.order_takes, PlainLemmas.one_more}
+use Rattle.softint.specs.{declared.source.Source.Source, declared.interrupt.Server.Server, Interrupts.chain, Interrupts.server_pri, Interrupts.serves}
 
 module _ (key : ℕ → ℤ) (test : ℕ → Bool) where
   -- those of the first n numbers that pass, by key

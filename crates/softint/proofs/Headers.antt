@@ -1,16 +1,9 @@
 -- The caused interrupts, kept in a header for each priority, are one sequence by priority.
-use Rattle.std.proofs.Common.{◌≡◌, ◌≢◌, ℕ, zero, suc, ◌+◌, ◌<◌, ◌≤◌, Bool, true, false, cond, not, eqb, List, [], ◌∷◌, ◌++◌, length, slice_set, refl, sym, ap, ◌∙◌, subst, arith, inl, inr, Option, Some, None, IfSome, map, append_assoc, ◌⊎◌, ℤ, drop, int_lt, is_none, is_some, IsSome}
-use Rattle.std.proofs.lemmas.Bool.{cond-true, cond-false, eq-eqb, ne_eqb, cases_eq}
-use Rattle.std.proofs.lemmas.Int.{ints}
-use Rattle.std.proofs.lemmas.List.{get_or-set_other, get_or-set_same, get_or_past, length-set}
-use Rattle.std.proofs.lemmas.List.Elements.{filter-append}
-use Rattle.execlist.specs.Order.{enqueue, first, without, is_lower}
-use Rattle.execlist.specs.Lists.{sequence, home, part_after, times, is_at}
-use Rattle.softint.specs.declared.interrupt.Soft.{Soft}
-use Rattle.softint.specs.Interrupts.{Interrupts, IsHeld, joined, header_pri, causes, taken_off}
-use Rattle.execlist.specs.Disciplines.{pri_at}
-use Rattle.execlist.proofs.Walks.{absent_after}
-use Rattle.execlist.proofs.PlainLemmas.{times_later, times-append, without_fresh}
+use Rattle.std.proofs.Common.{◌≡◌, ◌≢◌, ℕ, zero, suc, ◌+◌, ◌<◌, ◌≤◌, Bool, true, false, cond, not, eqb, List, [], ◌∷◌, ◌++◌, length, slice_set, refl, sym, ap, ◌∙◌, subst, arith, inl, inr, Option, Some, None, IfSome, map, append_assoc, ◌⊎◌, ℤ, drop, int_lt, is_none, is_some, IsSome, eq-eqb, ne_eqb, get_or-set_other, get_or-set_same, length-set}
+use Rattle.std.proofs.lemmas.{Bool.cond-true, Bool.cond-false, Bool.cases_eq, Int.ints, List.get_or_past, List.Elements.filter-append}
+use Rattle.execlist.specs.{Order.enqueue, Order.first, Order.without, Order.is_lower, Lists.sequence, Lists.home, Lists.part_after, Lists.times, Lists.is_at, Disciplines.pri_at}
+use Rattle.softint.specs.{declared.interrupt.Soft.Soft, Interrupts.Interrupts, Interrupts.IsHeld, Interrupts.joined, Interrupts.header_pri, Interrupts.causes, Interrupts.taken_off}
+use Rattle.execlist.proofs.{Walks.absent_after, PlainLemmas.times_later, PlainLemmas.times-append, PlainLemmas.without_fresh}
 
 -- ---- how often a number is
 

@@ -2,15 +2,9 @@
 -- (RKM Libraries, Exec Interrupts).
 use Rattle.std.specs.Prelude.{◌≡◌, ℕ, ℤ, pos, negsuc, ◌-ℤ◌, ◌*◌, ◌⊎◌, ◌==◌, Bool, true, false, not, if◌then◌else◌, List, [], ◌∷◌, ◌++◌, length, map, filter, slice_index_or, Option, Some, None, All}
 use Rattle.std.specs.List.{range_with_len}
-use Rattle.execlist.specs.Order.{enqueue, order, without}
-use Rattle.execlist.specs.Disciplines.{pri_at}
-use Rattle.execlist.specs.Lists.{home, times}
-use Rattle.softint.specs.declared.source.Source.{Source}
+use Rattle.execlist.specs.{Order.enqueue, Order.order, Order.without, Disciplines.pri_at, Lists.home, Lists.times}
 use Rattle.softint.specs.declared.source.Source.TheVariants.{Ports, Vertb, Exter}
-use Rattle.softint.specs.declared.latches.Latches.{Latches}
-use Rattle.softint.specs.declared.interrupt.Soft.{Soft}
-use Rattle.softint.specs.declared.interrupt.Server.{Server}
-use Rattle.softint.specs.Sources.{is_source, with_latch, no_latches}
+use Rattle.softint.specs.{declared.source.Source.Source, declared.latches.Latches.Latches, declared.interrupt.Soft.Soft, declared.interrupt.Server.Server, Sources.is_source, Sources.with_latch, Sources.no_latches}
 
 pub record Interrupts : Type 0 where
   -- the priority of each software interrupt, by its number

@@ -1,9 +1,8 @@
 -- The sources of interrupts, and which of them ask to be served (RKM Libraries, Exec Interrupts).
 use Rattle.std.specs.Prelude.{ℕ, pos, Bool, true, false, filter, Option, List, [], ◌∷◌}
 use Rattle.execlist.specs.Order.{chosen}
-use Rattle.softint.specs.declared.source.Source.{Source}
 use Rattle.softint.specs.declared.source.Source.TheVariants.{Ports, Vertb, Exter}
-use Rattle.softint.specs.declared.latches.Latches.{Latches}
+use Rattle.softint.specs.{declared.source.Source.Source, declared.latches.Latches.Latches}
 
 -- all sources
 abbrev pub sources : List Source

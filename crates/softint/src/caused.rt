@@ -1,7 +1,6 @@
 //! The caused software interrupts: a header for each priority, the highest first.
 ghost use Rattle.std.specs.Prelude.{◌≡◌, ◌<◌, ◌+◌, drop, length, IfSome, IsSome};
-ghost use Rattle.execlist.specs.Order.{first};
-ghost use Rattle.execlist.specs.Lists.{home, part_after};
+ghost use Rattle.execlist.specs.{Order.first, Lists.home, Lists.part_after};
 ghost use Rattle.softint.specs.Interrupts.{IsPriority, header_pri, joined};
 
 use execlist::space::{HeaderId, ListSpace};

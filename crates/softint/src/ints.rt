@@ -1,10 +1,8 @@
 //! The interrupts of a machine.
 ghost use Rattle.std.specs.Prelude.{◌≡◌, ◌<◌, ◌≤◌, length, slice_get, All, Some, is_some, IfOk, IfSome};
-ghost use Rattle.execlist.specs.Order.{first};
-ghost use Rattle.execlist.specs.Lists.{part_from};
-ghost use Rattle.softint.specs.Sources.{highest};
+ghost use Rattle.execlist.specs.{Order.first, Lists.part_from, Disciplines.pri_at};
 ghost use Rattle.softint.specs.Interrupts.{IsPriority, quiet, hushed, causes, taken_off, raised, served, chain, header_pri};
-ghost use Rattle.execlist.specs.Disciplines.{pri_at};
+ghost use Rattle.softint.specs.Sources.{highest};
 
 use crate::caused::{IntId, PRIORITIES, caused_behind, first_caused, header_of};
 use crate::chain::{Chains, ServerId, server_at};

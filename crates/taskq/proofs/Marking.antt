@@ -1,8 +1,7 @@
 -- How the first task of each mark is noted, from the last task to the first.
 use Rattle.std.proofs.Common.{◌≡◌, ◌≢◌, ℕ, ◌<◌, ◌≤◌, ◌+◌, List, length, slice_index_or, slice_set, ap, ◌∙◌, arith, length-set}
 use Rattle.std.proofs.lemmas.Grind.{common_steps}
-use Rattle.taskq.specs.Marks.{mark, AreFirstsFrom}
-use Rattle.taskq.specs.Tasks.{name_at}
+use Rattle.taskq.specs.{Marks.mark, Marks.AreFirstsFrom, Tasks.name_at}
 
 -- after t is written at m, what is at n is at most u, if that is so of t, and of what was at any other place
 entry : (firsts : List ℕ) (m n t u : ℕ) → m < length firsts → t ≤ u → (n ≢ m → slice_index_or firsts n 0 ≤ u) → slice_index_or (slice_set firsts m t) n 0 ≤ u

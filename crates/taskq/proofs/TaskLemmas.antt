@@ -1,14 +1,10 @@
 -- Where tasks are, and what their priorities are, after one of them has changed.
-use Rattle.std.proofs.Common.{◌≡◌, ℕ, ◌<◌, ◌≤◌, ◌+◌, zero, suc, Bool, true, false, cond, List, [], ◌∷◌, ◌++◌, Option, Some, None, IfSome, map, take, length, replicate, slice_set, slice_index_or, refl, sym, ap, ◌∙◌, arith, ℤ, pos, find}
+use Rattle.std.proofs.Common.{◌≡◌, ℕ, ◌<◌, ◌≤◌, ◌+◌, zero, suc, Bool, true, false, cond, List, [], ◌∷◌, ◌++◌, Option, Some, None, IfSome, map, take, length, replicate, slice_set, slice_index_or, refl, sym, ap, ◌∙◌, arith, ℤ, pos, find, length-set, set-set, get_or-set_same}
 use Rattle.std.specs.List.{range_with_len}
-use Rattle.std.proofs.lemmas.Bool.{cond-true, cond-false}
-use Rattle.std.proofs.lemmas.List.{length-set, length-map, map-set, set-get_or, set-set, get_or-set_same, get_or_read, take_more, take_more_set, get_or_past}
-use Rattle.execlist.specs.Order.{enqueue, without}
-use Rattle.execlist.specs.Lists.{Key, pri_of, times, sequence, is_at}
-use Rattle.taskq.specs.declared.TaskState.{TaskState}
+use Rattle.std.proofs.lemmas.{Bool.cond-true, Bool.cond-false, List.length-map, List.map-set, List.set-get_or, List.get_or_read, List.take_more, List.take_more_set, List.get_or_past}
+use Rattle.execlist.specs.{Order.enqueue, Order.without, Lists.Key, Lists.pri_of, Lists.times, Lists.sequence, Lists.is_at, Disciplines.pri_at}
 use Rattle.taskq.specs.declared.TaskState.TheVariants.{Absent, Ready, Running, Waiting, Removed}
-use Rattle.taskq.specs.Tasks.{home_for, state_at, pris_of, is_ready, is_live}
-use Rattle.execlist.specs.Disciplines.{pri_at}
+use Rattle.taskq.specs.{declared.TaskState.TaskState, Tasks.home_for, Tasks.state_at, Tasks.pris_of, Tasks.is_ready, Tasks.is_live}
 use Rattle.execlist.proofs.PlainLemmas.{mapped_replicate, without_fresh}
 use Rattle.std.proofs.Math.Path.{fun_ext}
 

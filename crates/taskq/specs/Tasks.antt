@@ -4,8 +4,8 @@
 use Rattle.std.specs.Prelude.{◌≡◌, ℕ, ℤ, length, List, [], Option, Some, None, Bool, true, false, ◌&&◌, ◌==◌, slice_index_or, map}
 use Rattle.std.specs.Cmp.Lexicographic.{pointwise}
 use Rattle.execlist.specs.Lists.{Key}
-use Rattle.taskq.specs.declared.TaskState.{TaskState}
 use Rattle.taskq.specs.declared.TaskState.TheVariants.{Absent, Ready, Running, Waiting, Removed}
+use Rattle.taskq.specs.declared.TaskState.{TaskState}
 
 -- the ready tasks, and what is known of each task (RKM Libraries, Exec Tasks)
 pub record Tasks : Type 0 where

@@ -4,10 +4,8 @@
 
 ghost use Rattle.std.specs.Prelude.{◌≡◌, ◌≢◌, ℕ, ◌<◌, ◌≤◌, List, [], ◌∷◌, Option, Some, None, length, replicate, slice_set, map, find, true, IfOk, IfSome, IsTrue, if◌then◌else◌};
 ghost use Rattle.std.specs.List.{range_with_len};
-ghost use Rattle.execlist.specs.Order.{enqueue, first, without};
-ghost use Rattle.execlist.specs.Lists.{part_after, part_from, times};
+ghost use Rattle.execlist.specs.{Order.enqueue, Order.first, Order.without, Lists.part_after, Lists.part_from, Lists.times, Disciplines.pri_at};
 ghost use Rattle.taskq.specs.Tasks.{state_at, name_at, is_ready, is_live, is_live_named, pris_of};
-ghost use Rattle.execlist.specs.Disciplines.{pri_at};
 
 mod names;
 

@@ -1,8 +1,7 @@
 //! The names of the tasks, and where the search for one begins, so that it does not look at every task.
 ghost use Rattle.std.specs.Prelude.{◌≡◌, ℕ, ◌<◌, ◌-◌, ◌==◌, false, length, map, IfOk, slice_index_or};
 ghost use Rattle.std.specs.Cmp.Lexicographic.{pointwise};
-ghost use Rattle.taskq.specs.Marks.{mark, AreFirsts};
-ghost use Rattle.taskq.specs.Tasks.{name_at};
+ghost use Rattle.taskq.specs.{Marks.mark, Marks.AreFirsts, Tasks.name_at};
 
 use crate::{TaskId, TaskInit};
 use execlist::key::Name;

@@ -1,24 +1,11 @@
 -- What holds of every text that is accepted.
-use Rattle.std.proofs.Common.{◌≡◌, ℕ, ◌+◌, ◌≤◌, All, if◌then◌else◌, Bool, true, false, List, [], ◌∷◌, ◌++◌, length, Option, Some, None, Ok, refl, subst, append_assoc, arith}
-use Rattle.std.proofs.lemmas.Bool.Decides.{nat_tests}
-use Rattle.std.proofs.lemmas.List.{append-nil}
-use Rattle.std.proofs.lemmas.List.Elements.{All-nil}
+use Rattle.std.proofs.Common.{◌≡◌, ℕ, ◌+◌, ◌≤◌, All, if◌then◌else◌, Bool, true, false, List, [], ◌∷◌, ◌++◌, length, Option, Some, None, Ok, refl, subst, append_assoc, arith, append-nil}
+use Rattle.std.proofs.lemmas.{Bool.Decides.nat_tests, List.Elements.All-nil}
 use Rattle.toml.specs.Data.{Members}
-use Rattle.taskscript.specs.declared.event.Event.{Event}
-use Rattle.taskscript.specs.declared.fault.EventFault.{EventFault}
-use Rattle.taskscript.specs.declared.fault.EventFault.TheVariants.{TooMany}
-use Rattle.taskscript.specs.declared.refused.Refused.{Refused}
 use Rattle.taskscript.specs.Events.{event_of, is_skipped, events_of, is_within, fault_by, event_line_faults, event_faults as line_by_line, text_lines, script_of, turns, AreWithin}
-use Rattle.execlist.specs.Order.{first}
-use Rattle.execlist.specs.Answers.{fault_or}
-use Rattle.taskscript.specs.File.{MachineData, refusals, machine_of, placed_file_of_document, placed_file_of, file_of}
-use Rattle.taskscript.specs.Machines.{IsMachine}
-use Rattle.taskscript.specs.Places.{without_place}
-use Rattle.taskscript.specs.Tree.{document_of}
-use Rattle.taskscript.proofs.EventSizes.{events_some}
-use Rattle.taskscript.proofs.EventTurns.{events_push}
-use Rattle.taskscript.proofs.Firsts.{first_left, first_right}
-use Rattle.taskscript.proofs.Machines.{machine_holds}
+use Rattle.taskscript.specs.{declared.event.Event.Event, declared.fault.EventFault.EventFault, declared.fault.EventFault.TheVariants.TooMany, declared.refused.Refused.Refused, File.MachineData, File.refusals, File.machine_of, File.placed_file_of_document, File.placed_file_of, File.file_of, Machines.IsMachine, Places.without_place, Tree.document_of}
+use Rattle.execlist.specs.{Order.first, Answers.fault_or}
+use Rattle.taskscript.proofs.{EventSizes.events_some, EventTurns.events_push, Firsts.first_left, Firsts.first_right, Machines.machine_holds}
 
 -- ---- machine files
 

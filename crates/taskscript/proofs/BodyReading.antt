@@ -1,35 +1,17 @@
 -- A body that was read line after line is the body as a whole.
-use Rattle.std.proofs.Common.{◌≡◌, ℕ, suc, ◌+◌, ◌<◌, ◌≤◌, zero-add, arith, Bool, true, false, not, ◌&&◌, ◌||◌, cond, nat_le, bytes_eq, List, [], ◌∷◌, ◌++◌, length, map, drop, take, get_or, Option, Some, None, Result, Ok, Err, Vec, Global, append_assoc, length-append, refl, sym, ap, subst, ◌∙◌}
-use Rattle.std.specs.Prelude.{is_some, unwrap_or}
-use Rattle.std.specs.List.{list_all, list_any, flat_map, cons_option, before_first, position_or_len}
-use Rattle.std.specs.Option.{option_map_or}
-use Rattle.std.proofs.lemmas.Bool.{and_parts}
-use Rattle.std.proofs.lemmas.Bool.Decides.{nat_tests}
-use Rattle.std.proofs.lemmas.List.{append-nil, map_push}
+use Rattle.std.proofs.Common.{◌≡◌, ℕ, suc, ◌+◌, ◌<◌, ◌≤◌, zero-add, arith, Bool, true, false, not, ◌&&◌, ◌||◌, cond, nat_le, bytes_eq, List, [], ◌∷◌, ◌++◌, length, map, drop, take, get_or, Option, Some, None, Result, Ok, Err, Vec, Global, append_assoc, length-append, refl, sym, ap, subst, ◌∙◌, is_some, unwrap_or, flat_map, append-nil}
+use Rattle.std.specs.{List.list_all, List.list_any, List.cons_option, List.before_first, List.position_or_len, Option.option_map_or}
+use Rattle.std.proofs.lemmas.{Bool.and_parts, Bool.Decides.nat_tests, List.map_push}
 use Rattle.toml.specs.View.{view, items_view}
 use Rattle.toml.specs.declared.value.Value.{Value}
 use Rattle.toml.proofs.Views.{items_view-drop}
-use Rattle.taskscript.specs.declared.command.Command.{Command}
-use Rattle.taskscript.specs.declared.fault.FileFault.{FileFault}
 use Rattle.taskscript.specs.declared.fault.FileFault.TheVariants.{BadCommand, NotInInterrupt, BadLabel, TooMany}
-use Rattle.taskscript.specs.Commands as numbered
-use Rattle.taskscript.specs.Commands.{ArgumentData, CommandData, command_view}
-use Rattle.execlist.specs.Order.{first}
-use Rattle.taskscript.specs.Faults.{check, Judges}
-use Rattle.taskscript.specs.Interrupting.{Setting, may_stand, names_softints}
-use Rattle.taskscript.specs.Labels.{Mark, place_in, place_at, are_marked, jump_faults_in, jumps_faults_in}
-use Rattle.taskscript.specs.Lines.{NamedVariableData, NamedArgumentData, number, variable, label, quoted, NamedCommandData, LineData, label_line, command_line}
 use Rattle.taskscript.specs.Numbering.{Names, names_after, variable_in, is_within, argument_in, command_in, variables_of, labels_of_arguments, have_room}
 use Rattle.taskscript.specs.Code.{line_in, lines_in, command_said, label_said, commands_of, labels_of, is_label_of, place_of, names_of, line_faults, lines_faults, jump_faults, jumps_said, jumps_faults, body_faults, code_of, shared_after}
-use Rattle.taskscript.specs.declared.place.Owner.{Owner}
-use Rattle.taskscript.specs.declared.refused.Refused.{Refused}
-use Rattle.taskscript.specs.Listings.{number_said, command_lines_from, command_lines}
-use Rattle.taskscript.specs.Meaning.{says}
-use Rattle.taskscript.specs.Places.{at, line_at, refused}
-use Rattle.taskscript.specs.Bodies.{Reading, nothing_read, reading_with, reading_after, said_faults, faults_after}
-use Rattle.taskscript.proofs.Firsts.{first_none, first_some, first_left, first_right, at_none, at_some, none_at}
-use Rattle.taskscript.proofs.FirstSight.{room_whole}
-use Rattle.taskscript.proofs.Turns.{names_after-append}
+use Rattle.taskscript.specs.{declared.command.Command.Command, declared.fault.FileFault.FileFault, Commands.ArgumentData, Commands.CommandData, Commands.command_view, Faults.check, Faults.Judges, Interrupting.Setting, Interrupting.may_stand, Interrupting.names_softints, Labels.Mark, Labels.place_in, Labels.place_at, Labels.are_marked, Labels.jump_faults_in, Labels.jumps_faults_in, Lines.NamedVariableData, Lines.NamedArgumentData, Lines.number, Lines.variable, Lines.label, Lines.quoted, Lines.NamedCommandData, Lines.LineData, Lines.label_line, Lines.command_line, declared.place.Owner.Owner, declared.refused.Refused.Refused, Listings.number_said, Listings.command_lines_from, Listings.command_lines, Meaning.says, Places.at, Places.line_at, Places.refused, Bodies.Reading, Bodies.nothing_read, Bodies.reading_with, Bodies.reading_after, Bodies.said_faults, Bodies.faults_after}
+use Rattle.taskscript.specs.Commands as numbered
+use Rattle.execlist.specs.Order.{first}
+use Rattle.taskscript.proofs.{Firsts.first_none, Firsts.first_some, Firsts.first_left, Firsts.first_right, Firsts.at_none, Firsts.at_some, Firsts.none_at, FirstSight.room_whole, Turns.names_after-append}
 
 -- what a body sees from these lines on
 abbrev pub variables_left : List (List ℕ) → List NamedVariableData

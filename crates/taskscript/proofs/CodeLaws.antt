@@ -1,28 +1,15 @@
 -- What holds of the code of a body without a fault: its variables are within their limits, and so are the shared names after it.
-use Rattle.std.proofs.Common.{◌≡◌, ℕ, suc, ◌+◌, ◌≤◌, arith, Bool, true, false, ◌&&◌, nat_le, List, [], ◌∷◌, ◌++◌, length, map, All, Option, Some, None, IfSome, option_map, refl, ◌∙◌}
-use Rattle.std.specs.List.{flat_map, cons_option}
-use Rattle.std.proofs.lemmas.Bool.{and_parts}
-use Rattle.std.proofs.lemmas.Bool.Decides.{nat_tests}
-use Rattle.std.proofs.lemmas.List.{length-map}
-use Rattle.std.proofs.lemmas.List.Folds.{list_all-append}
+use Rattle.std.proofs.Common.{◌≡◌, ℕ, suc, ◌+◌, ◌≤◌, arith, Bool, true, false, ◌&&◌, nat_le, List, [], ◌∷◌, ◌++◌, length, map, All, Option, Some, None, IfSome, option_map, refl, ◌∙◌, flat_map}
+use Rattle.std.specs.List.{cons_option}
 use Rattle.std.proofs.lemmas.List.Elements.{All-nil, All-cons, All-head, All-tail, All-map, All-weaker}
-use Rattle.taskscript.specs.declared.fault.FileFault.{FileFault}
+use Rattle.std.proofs.lemmas.{Bool.and_parts, Bool.Decides.nat_tests, List.length-map, List.Folds.list_all-append}
 use Rattle.taskscript.specs.declared.fault.FileFault.TheVariants.{BadCommand, NotInInterrupt, TooMany}
-use Rattle.taskscript.specs.declared.variable.Variable.{Variable}
 use Rattle.taskscript.specs.declared.variable.Variable.TheVariants.{Private, Shared}
-use Rattle.taskscript.specs.Commands as numbered
-use Rattle.taskscript.specs.Commands.{CommandData, VariableFits, ArgumentFits, CommandFits}
-use Rattle.execlist.specs.Order.{first}
-use Rattle.taskscript.specs.Faults.{check}
-use Rattle.taskscript.specs.Interrupting.{Setting, may_stand, names_softints}
-use Rattle.taskscript.specs.Lines.{NamedVariableData, NamedArgumentData, number, variable, label, quoted, NamedCommandData, LineData, label_line, command_line}
 use Rattle.taskscript.specs.Numbering.{Names, variable_in, argument_in, command_in, is_within, variables_of_target, variables_of_arguments, variables_of}
-use Rattle.taskscript.specs.Code.{command_said, commands_of, labels_of, place_of, names_of, line_faults, lines_faults, jumps_faults, body_faults, code_of}
-use Rattle.taskscript.specs.declared.place.Owner.{Owner}
-use Rattle.taskscript.specs.Meaning.{says}
-use Rattle.taskscript.specs.Places.{at, line_at}
-use Rattle.taskscript.proofs.Firsts.{first_left, first_right, none_at}
-use Rattle.taskscript.proofs.FirstSight.{all_within}
+use Rattle.taskscript.specs.{declared.fault.FileFault.FileFault, declared.variable.Variable.Variable, Commands.CommandData, Commands.VariableFits, Commands.ArgumentFits, Commands.CommandFits, Faults.check, Interrupting.Setting, Interrupting.may_stand, Interrupting.names_softints, Lines.NamedVariableData, Lines.NamedArgumentData, Lines.number, Lines.variable, Lines.label, Lines.quoted, Lines.NamedCommandData, Lines.LineData, Lines.label_line, Lines.command_line, Code.command_said, Code.commands_of, Code.labels_of, Code.place_of, Code.names_of, Code.line_faults, Code.lines_faults, Code.jumps_faults, Code.body_faults, Code.code_of, declared.place.Owner.Owner, Meaning.says, Places.at, Places.line_at}
+use Rattle.taskscript.specs.Commands as numbered
+use Rattle.execlist.specs.Order.{first}
+use Rattle.taskscript.proofs.{Firsts.first_left, Firsts.first_right, Firsts.none_at, FirstSight.all_within}
 
 variable_fits : (n : Variable) → is_within n ≡ true → VariableFits n
 variable_fits (Private n) h = grind (arith, nat_tests)

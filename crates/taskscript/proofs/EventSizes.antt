@@ -1,14 +1,8 @@
 -- An event that a line states asks for at least one turn.
-use Rattle.std.proofs.Common.{◌≡◌, ℕ, ◌≤◌, Bool, true, false, ◌&&◌, nat_le, codes, if◌then◌else◌, List, [], ◌∷◌, drop, All, Option, Some, None, option_map, option_and_then, refl, arith}
-use Rattle.std.specs.Option.{option_to_list}
-use Rattle.std.proofs.lemmas.Bool.Decides.{nat_tests}
-use Rattle.std.proofs.lemmas.List.Elements.{All-nil, All-cons, All-append}
-use Rattle.taskscript.specs.Numbers.{decimal_of}
-use Rattle.taskscript.specs.declared.event.Event.{Event}
+use Rattle.std.proofs.Common.{◌≡◌, ℕ, ◌≤◌, Bool, true, false, ◌&&◌, nat_le, codes, if◌then◌else◌, List, [], ◌∷◌, drop, All, Option, Some, None, option_map, option_and_then, refl, arith, option_to_list}
+use Rattle.std.proofs.lemmas.{Bool.Decides.nat_tests, List.Elements.All-nil, List.Elements.All-cons, List.Elements.All-append}
 use Rattle.taskscript.specs.declared.event.Event.TheVariants.{Run, Tick, Irq}
-use Rattle.taskscript.specs.declared.source.Source.{Source}
-use Rattle.taskscript.specs.Sources.{requested_source_of}
-use Rattle.taskscript.specs.Events.{in_turns, turns_of, begins_with, event_of, is_skipped, turns, events_on, events_of}
+use Rattle.taskscript.specs.{Numbers.decimal_of, declared.event.Event.Event, declared.source.Source.Source, Sources.requested_source_of, Events.in_turns, Events.turns_of, Events.begins_with, Events.event_of, Events.is_skipped, Events.turns, Events.events_on, Events.events_of}
 
 in_turns_some : (n k : ℕ) → in_turns n ≡ Some k → 1 ≤ k
 in_turns_some n k h = by (nat_le 1 n) (nat_le n 1000000) refl h

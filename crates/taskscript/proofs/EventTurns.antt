@@ -1,15 +1,11 @@
 -- One turn of the loop over the lines of an event text: what it finds, and what it judges.
-use Rattle.std.proofs.Common.{◌≡◌, ℕ, ◌+◌, ◌≤◌, ◌<◌, Bool, true, false, if◌then◌else◌, List, [], ◌∷◌, ◌++◌, length, get_or, take, drop, map, sum_by, Some, None, Result, Ok, Err, sym, ap, ◌∙◌, arith, append_assoc, Bor}
-use Rattle.std.specs.Prelude.{MatchResult}
-use Rattle.std.proofs.lemmas.List.{drop_more, take_more, append-nil, length-map, length-take-le, length_push}
-use Rattle.std.proofs.lemmas.List.Sums.{sum_by_push}
-use Rattle.std.proofs.lemmas.Bool.Decides.{nat_tests}
+use Rattle.std.proofs.Common.{◌≡◌, ℕ, ◌+◌, ◌≤◌, ◌<◌, Bool, true, false, if◌then◌else◌, List, [], ◌∷◌, ◌++◌, length, get_or, take, drop, map, sum_by, Some, None, Result, Ok, Err, sym, ap, ◌∙◌, arith, append_assoc, Bor, MatchResult, append-nil, length-take-le}
+use Rattle.std.proofs.lemmas.{List.drop_more, List.take_more, List.length-map, List.length_push, List.Sums.sum_by_push, Bool.Decides.nat_tests}
 use Rattle.std.proofs.Math.ListN.{get_or-map as default_map}
-use Rattle.taskscript.specs.declared.event.Event.{Event}
-use Rattle.taskscript.specs.declared.fault.EventFault.{EventFault}
 use Rattle.taskscript.specs.declared.fault.EventFault.TheVariants.{BadLine, TooMany, OutOfMemory}
-use Rattle.execlist.specs.Order.{first}
 use Rattle.taskscript.specs.Events.{event_of, is_skipped, events_on, events_of, steps, ticks, are_within, is_within, event_line_faults, event_faults, text_lines, script_of, JudgesLines, AreWithin}
+use Rattle.taskscript.specs.{declared.event.Event.Event, declared.fault.EventFault.EventFault}
+use Rattle.execlist.specs.Order.{first}
 use Rattle.taskscript.proofs.EventSizes.{events_some}
 
 abbrev pub nowhere : Bor (List ℕ)

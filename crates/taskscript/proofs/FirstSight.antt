@@ -1,12 +1,10 @@
 -- A number, once given, stays: later names are after the earlier ones.
 use Rattle.std.proofs.Common.{◌≡◌, ℕ, ◌+◌, Bool, true, false, not, ◌&&◌, ◌||◌, cond, List, [], ◌∷◌, ◌++◌, bytes_eq, inl, inr, refl, sym, ap, ◌∙◌}
 use Rattle.std.specs.List.{list_any, list_all}
-use Rattle.std.proofs.lemmas.Bool.{cases_Bool}
-use Rattle.std.proofs.lemmas.Slice.Eq.{bytes_eq-Decides}
-use Rattle.taskscript.specs.declared.variable.Variable.{Variable}
+use Rattle.std.proofs.lemmas.{Bool.cases_Bool, Slice.Eq.bytes_eq-Decides}
 use Rattle.taskscript.specs.declared.variable.Variable.TheVariants.{Private, Shared}
-use Rattle.taskscript.specs.Lines.{NamedVariableData}
 use Rattle.taskscript.specs.Numbering.{seen_after, number_in, Names, names_with, names_after, variable_in, is_within, have_room}
+use Rattle.taskscript.specs.{declared.variable.Variable.Variable, Lines.NamedVariableData}
 
 -- a name among those seen
 abbrev pub is_among : List (List ℕ) → List ℕ → Bool

@@ -1,11 +1,7 @@
 -- The first of the faults of two places, one after the other.
 use Rattle.std.proofs.Common.{◌≡◌, List, [], ◌∷◌, ◌++◌, Some, None, option_map, refl, sym, ap, ◌∙◌, append_assoc}
-use Rattle.taskscript.specs.declared.fault.FileFault.{FileFault}
+use Rattle.taskscript.specs.{declared.fault.FileFault.FileFault, declared.place.Place.Place, declared.refused.Refused.Refused, Faults.IsFirst, Faults.IsFirstOfLine, Places.at, Places.refused}
 use Rattle.execlist.specs.Order.{first}
-use Rattle.taskscript.specs.declared.place.Place.{Place}
-use Rattle.taskscript.specs.declared.refused.Refused.{Refused}
-use Rattle.taskscript.specs.Faults.{IsFirst, IsFirstOfLine}
-use Rattle.taskscript.specs.Places.{at, refused}
 
 pub first_none : {F : Type 0} (a b : List F) → first a ≡ None → first (a ++ b) ≡ first b
 first_none [] b h = refl

@@ -1,20 +1,9 @@
 -- The commands of a body whose lines have no fault: their variables are within the limits, and at most one argument of each is a name.
-use Rattle.std.proofs.Common.{◌≡◌, ℕ, List, [], map, All, None, sym, ap, subst, ◌∙◌}
-use Rattle.std.specs.Prelude.{slice_index_or}
+use Rattle.std.proofs.Common.{◌≡◌, ℕ, List, [], map, All, None, sym, ap, subst, ◌∙◌, slice_index_or}
 use Rattle.std.proofs.lemmas.List.Elements.{All-map, All-weaker}
 use Rattle.execlist.specs.Order.{first}
-use Rattle.taskscript.specs.declared.place.Owner.{Owner}
-use Rattle.taskscript.specs.Commands.{CommandData, CommandFits}
-use Rattle.taskscript.specs.Interrupting.{Setting}
-use Rattle.taskscript.specs.Labels.{place_at}
-use Rattle.taskscript.specs.Machines.{QuotesOnce}
-use Rattle.taskscript.specs.Numbering.{command_in}
-use Rattle.taskscript.specs.Code.{commands_of, names_of}
-use Rattle.taskscript.specs.Bodies.{Reading, nothing_read, reading_after, faults_after}
-use Rattle.taskscript.proofs.BodyReading.{body_read, lines_judged, marks_from}
-use Rattle.taskscript.proofs.CodeLaws.{Stands, command_fits, lines_stand}
-use Rattle.taskscript.proofs.OneName.{once}
-use Rattle.taskscript.proofs.OwnArguments.{lines_have}
+use Rattle.taskscript.specs.{declared.place.Owner.Owner, Commands.CommandData, Commands.CommandFits, Interrupting.Setting, Labels.place_at, Machines.QuotesOnce, Numbering.command_in, Code.commands_of, Code.names_of, Bodies.Reading, Bodies.nothing_read, Bodies.reading_after, Bodies.faults_after}
+use Rattle.taskscript.proofs.{BodyReading.body_read, BodyReading.lines_judged, BodyReading.marks_from, CodeLaws.Stands, CodeLaws.command_fits, CodeLaws.lines_stand, OneName.once, OwnArguments.lines_have}
 
 -- the commands of what was read, with numbers and places for their names
 abbrev numbered : Reading → List CommandData

@@ -2,12 +2,8 @@
 use Rattle.std.proofs.Common.{◌≡◌, ℕ, ◌+◌, Bool, ◌&&◌, bytes_eq, List, [], ◌∷◌, ◌++◌, map, Option, option_map, refl, ap, ◌∙◌}
 use Rattle.std.specs.List.{list_all, list_any}
 use Rattle.std.proofs.lemmas.List.Folds.{list_all-append}
-use Rattle.taskscript.specs.declared.named.NamedArgument.{NamedArgument}
+use Rattle.taskscript.specs.{declared.named.NamedArgument.NamedArgument, declared.variable.NamedVariable.NamedVariable, Interrupting.is_open, Lines.NamedVariableData, Lines.named_variable_view, Lines.named_argument_view, Numbering.variables_of_target, Numbering.variables_of_arguments}
 use Rattle.taskscript.specs.declared.named.NamedArgument.TheVariants as named
-use Rattle.taskscript.specs.declared.variable.NamedVariable.{NamedVariable}
-use Rattle.taskscript.specs.Interrupting.{is_open}
-use Rattle.taskscript.specs.Lines.{NamedVariableData, named_variable_view, named_argument_view}
-use Rattle.taskscript.specs.Numbering.{variables_of_target, variables_of_arguments}
 
 -- ---- variables
 

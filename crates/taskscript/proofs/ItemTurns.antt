@@ -5,11 +5,8 @@ use Rattle.toml.specs.declared.value.Value.{Value}
 use Rattle.toml.specs.Data.{Data, item}
 use Rattle.toml.specs.View.{view, items_view}
 use Rattle.toml.proofs.Views.{items_view-drop}
-use Rattle.taskscript.specs.declared.refused.Refused.{Refused}
+use Rattle.taskscript.specs.{declared.refused.Refused.Refused, Faults.IsFirst, File.region_of, File.regions_of, Tree.items_faults}
 use Rattle.execlist.specs.Order.{first}
-use Rattle.taskscript.specs.Faults.{IsFirst}
-use Rattle.taskscript.specs.File.{region_of, regions_of}
-use Rattle.taskscript.specs.Tree.{items_faults}
 use Rattle.taskscript.proofs.Firsts.{first_none, first_some}
 
 pub items_go_on : (judge : ℕ → Data → List Refused) (vs : List Value) (i : ℕ) (v : Value) → i < length vs → v ≡ get_or vs i v → first (judge i (view v)) ≡ None

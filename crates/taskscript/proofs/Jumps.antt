@@ -1,13 +1,8 @@
 -- The jumps of a body stay in it: as many commands are before a label as lines before it say, and these are no more than all its commands.
 use Rattle.std.proofs.Common.{◌≡◌, ℕ, zero, suc, ◌≤◌, List, [], ◌∷◌, length, map, take, All, Option, Some, None, arith}
 use Rattle.std.specs.List.{position_or_len, cons_option}
-use Rattle.std.proofs.lemmas.List.{length-map}
-use Rattle.std.proofs.lemmas.List.Elements.{All-nil, All-cons}
-use Rattle.taskscript.specs.Code.{command_said, commands_of, is_label_of, place_of, names_of, code_of}
-use Rattle.taskscript.specs.Meaning.{says}
-use Rattle.taskscript.specs.Lines.{NamedArgumentData, number, variable, label, quoted, NamedCommandData}
-use Rattle.taskscript.specs.Machines.{JumpFits, JumpsFit}
-use Rattle.taskscript.specs.Numbering.{Names, argument_in, command_in}
+use Rattle.std.proofs.lemmas.{List.length-map, List.Elements.All-nil, List.Elements.All-cons}
+use Rattle.taskscript.specs.{Code.command_said, Code.commands_of, Code.is_label_of, Code.place_of, Code.names_of, Code.code_of, Meaning.says, Lines.NamedArgumentData, Lines.number, Lines.variable, Lines.label, Lines.quoted, Lines.NamedCommandData, Machines.JumpFits, Machines.JumpsFit, Numbering.Names, Numbering.argument_in, Numbering.command_in}
 
 count_same : (o : Option NamedCommandData) (fewer more : List NamedCommandData) → length fewer ≤ length more → length (cons_option o fewer) ≤ length (cons_option o more)
 count_same None fewer more h = h

@@ -1,17 +1,11 @@
 -- The lines of commands, as bodies and files are read one part after another.
-use Rattle.std.proofs.Common.{◌≡◌, ℕ, ◌+◌, ◌<◌, List, [], ◌∷◌, ◌++◌, length, get_or, drop, Option, Some, None, append_assoc, sym, ap, ◌∙◌, refl}
+use Rattle.std.proofs.Common.{◌≡◌, ℕ, ◌+◌, ◌<◌, List, [], ◌∷◌, ◌++◌, length, get_or, drop, Option, Some, None, append_assoc, sym, ap, ◌∙◌, refl, append-nil}
 use Rattle.std.specs.List.{cons_option}
-use Rattle.std.proofs.lemmas.List.{append-nil}
 use Rattle.toml.specs.declared.value.Value.{Value}
 use Rattle.toml.specs.View.{view, items_view}
 use Rattle.toml.specs.Data.{Items, Members}
-use Rattle.taskscript.specs.Bodies.{Reading, nothing_read, reading_after}
-use Rattle.taskscript.specs.Code.{shared_after}
-use Rattle.taskscript.specs.File.{code_lines, shared_after_bodies, shared_after_servers, shared_after_softints, servers_in, softints_in, tasks_in, with_bodies}
-use Rattle.taskscript.specs.Listings.{BodyListingData, body_listing, command_lines, command_lines_from, listing_of, number_said, owner_listing}
-use Rattle.taskscript.specs.Meaning.{says}
-use Rattle.taskscript.proofs.BodyReading.{body_read}
-use Rattle.taskscript.proofs.OwnerTurns.{next_item}
+use Rattle.taskscript.specs.{Bodies.Reading, Bodies.nothing_read, Bodies.reading_after, Code.shared_after, File.code_lines, File.shared_after_bodies, File.shared_after_servers, File.shared_after_softints, File.servers_in, File.softints_in, File.tasks_in, File.with_bodies, Listings.BodyListingData, Listings.body_listing, Listings.command_lines, Listings.command_lines_from, Listings.listing_of, Listings.number_said, Listings.owner_listing, Meaning.says}
+use Rattle.taskscript.proofs.{BodyReading.body_read, OwnerTurns.next_item}
 
 -- ---- one line more
 

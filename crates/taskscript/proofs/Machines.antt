@@ -1,45 +1,21 @@
 -- What holds of the machine of a tree without faults: a version, a quantum, ticks and a pool within their ranges, few libraries with versions and sizes within
 -- theirs, few software interrupts, servers and tasks, names that differ, short bodies, variables within the limits, and in the body of an interrupt what it may have.
-use Rattle.std.proofs.Common.{is_none, ◌+◌, ◌≡◌, ◌≢◌, ◌⊎◌, ℕ, ◌≤◌, Bool, true, false, not, if◌then◌else◌, nat_le, List, [], ◌∷◌, ◌++◌, length, map, All, bytes_eq, codes, ℤ, pos, negsuc, inl, inr, lit≤, ◌&&◌, ◌||◌, Option, Some, None, refl, sym, ap, subst, ◌∙◌, append_assoc, arith}
-use Rattle.std.specs.List.{AllPairs, list_any}
-use Rattle.std.specs.Ordering.{int_eq}
-use Rattle.std.proofs.lemmas.Bool.{or_parts}
-use Rattle.std.proofs.lemmas.Bool.Decides.{nat_tests, not_from_Decides, Decides-int_eq}
-use Rattle.std.proofs.lemmas.List.{append-nil}
-use Rattle.std.proofs.lemmas.List.Elements.{All-nil, All-cons}
-use Rattle.std.proofs.lemmas.List.Folds.{list_any-append}
-use Rattle.std.proofs.lemmas.List.Kept.{AllPairs-cons}
-use Rattle.std.proofs.lemmas.Slice.Eq.{bytes_eq-Decides}
-use Rattle.memlist.specs.declared.region.Region.{Region}
-use Rattle.memlist.specs.Regions.{regions_fault}
+use Rattle.std.proofs.Common.{is_none, ◌+◌, ◌≡◌, ◌≢◌, ◌⊎◌, ℕ, ◌≤◌, Bool, true, false, not, if◌then◌else◌, nat_le, List, [], ◌∷◌, ◌++◌, length, map, All, bytes_eq, codes, ℤ, pos, negsuc, inl, inr, lit≤, ◌&&◌, ◌||◌, Option, Some, None, refl, sym, ap, subst, ◌∙◌, append_assoc, arith, AllPairs, int_eq, append-nil}
+use Rattle.std.specs.List.{list_any}
+use Rattle.std.proofs.lemmas.{Bool.or_parts, Bool.Decides.nat_tests, Bool.Decides.not_from_Decides, Bool.Decides.Decides-int_eq, List.Elements.All-nil, List.Elements.All-cons, List.Folds.list_any-append, List.Kept.AllPairs-cons, Slice.Eq.bytes_eq-Decides}
+use Rattle.memlist.specs.{declared.region.Region.Region, Regions.regions_fault}
 use Rattle.toml.specs.Data.{Data, string, integer, float, boolean, datetime, array, table, Items, no_items, item, Members, get_member}
-use Rattle.taskscript.specs.declared.fault.FileFault.{FileFault}
 use Rattle.taskscript.specs.declared.fault.FileFault.TheVariants.{UnknownKey, BadValue, NameTwice, BadRegions, TooMany}
-use Rattle.taskscript.specs.declared.place.Array.{Array}
+use Rattle.taskscript.specs.declared.place.Owner.TheVariants.{Softint, Server, Task}
+use Rattle.taskscript.specs.declared.place.TablePlace.TheVariants.{Top, Item}
+use Rattle.taskscript.specs.File.{Judge, LibraryData, SoftintData, ServerData, TaskData, top_keys, library_keys, softint_keys, server_keys, task_keys, name_of, library_faults, softint_faults, server_faults, task_faults, named_faults, named_item_faults, item_names, libraries_in, libraries_faults, library_of, softints_in, servers_in, tasks_in, code_lines, setting_of, bodies_faults, with_bodies, shared_after_softints, shared_after_servers, names_before_servers, names_before_tasks, both_passes_faults, refusals, region_item_faults, regions_faults, regions_in, total_of, version_of, quantum_of, tick_micros_of, pool_of, settings_faults, softint_of, softints_of, server_of, servers_of, task_of, tasks_of, MachineData, machine_of}
+use Rattle.taskscript.specs.Machines.{IsCode, IsSoftintPri, IsLibrary, IsSoftint, IsServer, IsTask, IsMachine, library_names, softint_names, server_names, task_names}
+use Rattle.taskscript.specs.Tree.{required, optional, table_faults, keys_are_among, integer_faults, pri_faults, is_softint_pri, softint_pri_faults, source_faults, boolean_faults, name_faults, count_items, array_faults, are_strings, code_faults, integer_or, number_or, items_faults, of_items, string_or_nothing, items_or_none, members_or_none}
+use Rattle.taskscript.specs.{declared.fault.FileFault.FileFault, declared.place.Array.Array, declared.place.Owner.Owner, declared.place.Place.Place, declared.place.TablePlace.TablePlace, declared.refused.Refused.Refused, Places.array_at, Places.at, Places.item_at, Places.key_at, Places.limit, Places.unknown_key_at, Code.lines_in, Code.body_faults, Code.code_of, Code.shared_after, Faults.check, Interrupting.Setting, Names.is_name}
 use Rattle.taskscript.specs.declared.place.Array.TheVariants as arrays
 use Rattle.taskscript.specs.declared.place.Key.TheVariants as key
-use Rattle.taskscript.specs.declared.place.Owner.{Owner}
-use Rattle.taskscript.specs.declared.place.Owner.TheVariants.{Softint, Server, Task}
-use Rattle.taskscript.specs.declared.place.Place.{Place}
-use Rattle.taskscript.specs.declared.place.TablePlace.{TablePlace}
-use Rattle.taskscript.specs.declared.place.TablePlace.TheVariants.{Top, Item}
-use Rattle.taskscript.specs.declared.refused.Refused.{Refused}
-use Rattle.taskscript.specs.Places.{array_at, at, item_at, key_at, limit, unknown_key_at}
-use Rattle.taskscript.specs.Code.{lines_in, body_faults, code_of, shared_after}
 use Rattle.execlist.specs.Order.{first}
-use Rattle.taskscript.specs.Faults.{check}
-use Rattle.taskscript.specs.File.{Judge, LibraryData, SoftintData, ServerData, TaskData, top_keys, library_keys, softint_keys, server_keys, task_keys, name_of, library_faults, softint_faults, server_faults, task_faults, named_faults, named_item_faults, item_names, libraries_in, libraries_faults, library_of, softints_in, servers_in, tasks_in, code_lines, setting_of, bodies_faults, with_bodies, shared_after_softints, shared_after_servers, names_before_servers, names_before_tasks, both_passes_faults, refusals, region_item_faults, regions_faults, regions_in, total_of, version_of, quantum_of, tick_micros_of, pool_of, settings_faults, softint_of, softints_of, server_of, servers_of, task_of, tasks_of, MachineData, machine_of}
-use Rattle.taskscript.specs.Interrupting.{Setting}
-use Rattle.taskscript.specs.Machines.{IsCode, IsSoftintPri, IsLibrary, IsSoftint, IsServer, IsTask, IsMachine, library_names, softint_names, server_names, task_names}
-use Rattle.taskscript.specs.Names.{is_name}
-use Rattle.taskscript.specs.Tree.{required, optional, table_faults, keys_are_among, integer_faults, pri_faults, is_softint_pri, softint_pri_faults, source_faults, boolean_faults, name_faults, count_items, array_faults, are_strings, code_faults, integer_or, number_or, items_faults, of_items, string_or_nothing, items_or_none, members_or_none}
-use Rattle.taskscript.proofs.CodeLaws.{commands_fit, length-code_of}
-use Rattle.taskscript.proofs.Firsts.{first_left, first_right, none_at}
-use Rattle.taskscript.proofs.InterruptLaws.{commands_named, commands_interrupt}
-use Rattle.taskscript.proofs.Jumps.{jumps_fit}
-use Rattle.taskscript.proofs.OneName.{quotes_once}
-use Rattle.taskscript.proofs.OwnerTurns.{length-of_items}
-use Rattle.taskscript.proofs.OwnArguments.{commands_have}
+use Rattle.taskscript.proofs.{CodeLaws.commands_fit, CodeLaws.length-code_of, Firsts.first_left, Firsts.first_right, Firsts.none_at, InterruptLaws.commands_named, InterruptLaws.commands_interrupt, Jumps.jumps_fit, OneName.quotes_once, OwnerTurns.length-of_items, OwnArguments.commands_have}
 
 -- ---- one place
 

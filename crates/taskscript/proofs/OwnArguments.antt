@@ -2,15 +2,8 @@
 use Rattle.std.proofs.Common.{◌≡◌, ℕ, List, [], ◌∷◌, map, All, Option, Some, None, refl}
 use Rattle.std.specs.List.{cons_option}
 use Rattle.std.proofs.lemmas.List.Elements.{All-nil, All-cons}
-use Rattle.taskscript.specs.declared.word.row.Kind.{Kind}
 use Rattle.taskscript.specs.declared.word.row.Kind.TheVariants.{Value, Label, Name, NameOrNone, Softint}
-use Rattle.taskscript.specs.Code.{command_said, commands_of, place_of, names_of, code_of}
-use Rattle.taskscript.specs.Lines.{fields, NamedArgumentData, variable, number, label, quoted, NamedCommandData, LineData, label_line, command_line}
-use Rattle.taskscript.specs.Machines.{IsOfKind, AreOfKinds, HasItsArguments}
-use Rattle.taskscript.specs.Meaning.{says}
-use Rattle.taskscript.specs.Numbering.{Names, argument_in, command_in}
-use Rattle.taskscript.specs.Says.{IsArgument, AreArguments, IsLine}
-use Rattle.taskscript.specs.Words.{kinds}
+use Rattle.taskscript.specs.{declared.word.row.Kind.Kind, Code.command_said, Code.commands_of, Code.place_of, Code.names_of, Code.code_of, Lines.fields, Lines.NamedArgumentData, Lines.variable, Lines.number, Lines.label, Lines.quoted, Lines.NamedCommandData, Lines.LineData, Lines.label_line, Lines.command_line, Machines.IsOfKind, Machines.AreOfKinds, Machines.HasItsArguments, Meaning.says, Numbering.Names, Numbering.argument_in, Numbering.command_in, Says.IsArgument, Says.AreArguments, Says.IsLine, Words.kinds}
 use Rattle.taskscript.proofs.Readings.{is_said}
 
 argument_kind : (names : Names) (places : List ℕ → ℕ) (k : Kind) (f : List ℕ) (a : NamedArgumentData) → IsArgument k f a → IsOfKind k (argument_in names places a)

@@ -6,18 +6,9 @@ use Rattle.toml.specs.declared.value.Value.{Value}
 use Rattle.toml.specs.View.{view, items_view}
 use Rattle.toml.specs.Data.{Data, Items, no_items, item}
 use Rattle.toml.proofs.Views.{items_view-drop}
-use Rattle.taskscript.specs.declared.place.Array.{Array}
-use Rattle.taskscript.specs.declared.place.Owner.{Owner}
-use Rattle.taskscript.specs.declared.refused.Refused.{Refused}
-use Rattle.taskscript.specs.Code.{body_faults, shared_after}
+use Rattle.taskscript.specs.{declared.place.Array.Array, declared.place.Owner.Owner, declared.refused.Refused.Refused, Code.body_faults, Code.shared_after, Faults.IsFirst, File.Judge, File.name_of, File.named_faults, File.named_item_faults, File.item_names, File.code_lines, File.bodies_faults, File.shared_after_bodies, File.with_bodies, Interrupting.Setting, Numbering.texts, Tree.of_items, Tree.count_items}
 use Rattle.execlist.specs.Order.{first}
-use Rattle.taskscript.specs.Faults.{IsFirst}
-use Rattle.taskscript.specs.File.{Judge, name_of, named_faults, named_item_faults, item_names, code_lines, bodies_faults, shared_after_bodies, with_bodies}
-use Rattle.taskscript.specs.Interrupting.{Setting}
-use Rattle.taskscript.specs.Numbering.{texts}
-use Rattle.taskscript.specs.Tree.{of_items, count_items}
-use Rattle.taskscript.proofs.Firsts.{first_none, first_some}
-use Rattle.taskscript.proofs.Keys.{count_items_view}
+use Rattle.taskscript.proofs.{Firsts.first_none, Firsts.first_some, Keys.count_items_view}
 
 -- ---- one item more, whatever is made of them
 

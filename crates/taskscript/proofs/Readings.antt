@@ -1,10 +1,6 @@
 -- What a line says is what the code reads from it.
 use Rattle.std.proofs.Common.{◌≡◌, ℕ, List, Some, None, sym, ◌∙◌}
-use Rattle.taskscript.specs.Lines.{fields, LineData}
-use Rattle.taskscript.specs.Meaning.{meaning, says}
-use Rattle.taskscript.specs.Parsing.{line_of}
-use Rattle.taskscript.specs.Says.{Says, Meaning}
-use Rattle.taskscript.specs.Reader.{answer_is_read, said_line_is_read, read_line_is_said}
+use Rattle.taskscript.specs.{Lines.fields, Lines.LineData, Meaning.meaning, Meaning.says, Parsing.line_of, Says.Says, Says.Meaning, Reader.answer_is_read, Reader.said_line_is_read, Reader.read_line_is_said}
 
 pub says_is_read : (line : List ℕ) → says line ≡ line_of (fields line)
 says_is_read line = answer_is_read meaning (fields line)

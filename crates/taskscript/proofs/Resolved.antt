@@ -1,29 +1,11 @@
 -- Labels and numbers of a command, one argument and one command after another.
-use Rattle.std.proofs.Common.{◌≡◌, ℕ, ◌+◌, ◌<◌, ◌≤◌, Bool, true, false, ◌&&◌, List, [], ◌∷◌, ◌++◌, length, map, drop, take, get_or, Option, Some, All, arith, refl, ap, sym, subst, ◌∙◌, append_assoc}
-use Rattle.std.specs.Prelude.{is_some, count_by}
-use Rattle.std.proofs.lemmas.List.{drop_all, drop_more, take_more_set, map_push, append-nil}
-use Rattle.std.proofs.Math.ListN.{set}
+use Rattle.std.proofs.Common.{◌≡◌, ℕ, ◌+◌, ◌<◌, ◌≤◌, Bool, true, false, ◌&&◌, List, [], ◌∷◌, ◌++◌, length, map, drop, take, get_or, Option, Some, All, arith, refl, ap, sym, subst, ◌∙◌, append_assoc, is_some, count_by, append-nil, set}
+use Rattle.std.proofs.lemmas.List.{drop_all, drop_more, take_more_set, map_push}
 use Rattle.arrayvec.specs.ArrayString.{ArrayString as Name}
-use Rattle.taskscript.specs.declared.command.Argument.{Argument}
-use Rattle.taskscript.specs.declared.fault.FileFault.{FileFault}
-use Rattle.taskscript.specs.declared.fault.FileFault.TheVariants.{BadLabel}
-use Rattle.taskscript.specs.declared.named.NamedArgument.{NamedArgument}
+use Rattle.taskscript.specs.{declared.command.Argument.Argument, declared.fault.FileFault.FileFault, declared.fault.FileFault.TheVariants.BadLabel, declared.named.NamedArgument.NamedArgument, declared.named.NamedCommand.NamedCommand, declared.variable.Variable.Variable, declared.word.Word.Word, Commands.ArgumentData, Commands.CommandData, Commands.argument_view, Commands.IsNamed, Commands.first_name, declared.place.Owner.Owner, declared.refused.Refused.Refused, Faults.check, Places.at, Places.line_at, Places.refused, Labels.Mark, Labels.place_in, Labels.are_marked, Labels.jump_faults_in, Labels.jumps_faults_in, Lines.NamedArgumentData, Lines.number, Lines.variable, Lines.label, Lines.quoted, Lines.NamedCommandData, Lines.named_argument_view, Lines.named_command_view, Numbering.Names, Numbering.argument_in, Numbering.labels_of_arguments, Machines.is_quoted}
 use Rattle.taskscript.specs.declared.named.NamedArgument.TheVariants as named
-use Rattle.taskscript.specs.declared.named.NamedCommand.{NamedCommand}
-use Rattle.taskscript.specs.declared.variable.Variable.{Variable}
-use Rattle.taskscript.specs.declared.word.Word.{Word}
-use Rattle.taskscript.specs.Commands.{ArgumentData, CommandData, argument_view, IsNamed, first_name}
 use Rattle.execlist.specs.Order.{first}
-use Rattle.taskscript.specs.declared.place.Owner.{Owner}
-use Rattle.taskscript.specs.declared.refused.Refused.{Refused}
-use Rattle.taskscript.specs.Faults.{check}
-use Rattle.taskscript.specs.Places.{at, line_at, refused}
-use Rattle.taskscript.specs.Labels.{Mark, place_in, are_marked, jump_faults_in, jumps_faults_in}
-use Rattle.taskscript.specs.Lines.{NamedArgumentData, number, variable, label, quoted, NamedCommandData, named_argument_view, named_command_view}
-use Rattle.taskscript.specs.Numbering.{Names, argument_in, labels_of_arguments}
-use Rattle.taskscript.specs.Machines.{is_quoted}
-use Rattle.taskscript.proofs.Firsts.{first_none, first_some}
-use Rattle.taskscript.proofs.Naming.{first_named}
+use Rattle.taskscript.proofs.{Firsts.first_none, Firsts.first_some, Naming.first_named}
 
 and_true : (a b : Bool) → (a && b) ≡ ((a && true) && b)
 and_true true b = refl

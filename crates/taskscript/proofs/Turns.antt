@@ -1,10 +1,7 @@
 -- The variables of a command, one after another.
 use Rattle.std.proofs.Common.{◌≡◌, ℕ, ◌+◌, ◌<◌, List, ◌∷◌, ◌++◌, length, map, drop, get_or, ap, sym, ◌∙◌}
-use Rattle.std.proofs.lemmas.List.{drop_more}
-use Rattle.std.proofs.lemmas.List.Sums.{fold-append}
-use Rattle.taskscript.specs.declared.named.NamedArgument.{NamedArgument}
-use Rattle.taskscript.specs.Lines.{NamedVariableData, named_argument_view}
-use Rattle.taskscript.specs.Numbering.{Names, names_with, names_after}
+use Rattle.std.proofs.lemmas.{List.drop_more, List.Sums.fold-append}
+use Rattle.taskscript.specs.{declared.named.NamedArgument.NamedArgument, Lines.NamedVariableData, Lines.named_argument_view, Numbering.Names, Numbering.names_with, Numbering.names_after}
 
 pub names_after-append : (names : Names) (vs ws : List NamedVariableData) → names_after names (vs ++ ws) ≡ names_after (names_after names vs) ws
 names_after-append names vs ws = fold-append names_with names vs ws

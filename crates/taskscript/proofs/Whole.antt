@@ -1,17 +1,8 @@
 -- A whole file: what a tree without faults gives, and what a file that is refused has.
-use Rattle.std.proofs.Common.{◌≡◌, ℕ, List, Some, option_map, Result, Ok, Err, sym, ap, ◌∙◌}
-use Rattle.std.specs.Prelude.{IfOk, MatchResult}
+use Rattle.std.proofs.Common.{◌≡◌, ℕ, List, Some, option_map, Result, Ok, Err, sym, ap, ◌∙◌, IfOk, MatchResult}
 use Rattle.toml.specs.Data.{Members}
-use Rattle.taskscript.specs.declared.fault.FileFault.TheVariants.{OutOfMemory}
-use Rattle.taskscript.specs.declared.listing.Listed.{Listed}
-use Rattle.taskscript.specs.declared.refused.Refused.{Refused}
+use Rattle.taskscript.specs.{declared.fault.FileFault.TheVariants.OutOfMemory, declared.listing.Listed.Listed, declared.refused.Refused.Refused, Faults.Judges, File.MachineData, File.refusals, File.machine_of, File.placed_file_of_document, File.placed_file_of, File.file_of, Listings.listing_in, Listings.listing_of, Places.without_place, Records.DocumentFault, Tree.document_of}
 use Rattle.execlist.specs.Answers.{fault_or}
-use Rattle.taskscript.specs.Faults.{Judges}
-use Rattle.taskscript.specs.File.{MachineData, refusals, machine_of, placed_file_of_document, placed_file_of, file_of}
-use Rattle.taskscript.specs.Listings.{listing_in, listing_of}
-use Rattle.taskscript.specs.Places.{without_place}
-use Rattle.taskscript.specs.Records.{DocumentFault}
-use Rattle.taskscript.specs.Tree.{document_of}
 
 pub refused : (bytes : List ℕ) (r : Refused) → DocumentFault r bytes → ¬ (r.fault ≡ OutOfMemory) → placed_file_of bytes ≡ Err r
 unfolding placed_file_of

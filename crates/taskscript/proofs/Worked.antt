@@ -3,15 +3,11 @@ use Rattle.std.proofs.Common.{◌≡◌, codes, ◌++◌, ◌∷◌, [], Ok, Err
 use Rattle.memlist.specs.Regions.{regions_fault}
 use Rattle.std.specs.Str.{is_utf8, chars}
 use Rattle.toml.proofs.OnLiterals.{toml_on_literals}
-use Rattle.taskscript.specs.declared.event.Event.TheVariants.{Run}
 use Rattle.taskscript.specs.declared.fault.EventFault.TheVariants.{BadLine, TooMany}
 use Rattle.taskscript.specs.declared.fault.FileFault.TheVariants.{UnknownKey, MissingKey}
-use Rattle.taskscript.specs.Events.{event_of, script_of}
+use Rattle.taskscript.specs.{declared.event.Event.TheVariants.Run, Events.event_of, Events.script_of, declared.place.TablePlace.TheVariants.Item, File.file_of, File.placed_file_of, Places.key_at, Places.refused}
 use Rattle.taskscript.specs.declared.place.Array.TheVariants as array
 use Rattle.taskscript.specs.declared.place.Key.TheVariants as key
-use Rattle.taskscript.specs.declared.place.TablePlace.TheVariants.{Item}
-use Rattle.taskscript.specs.File.{file_of, placed_file_of}
-use Rattle.taskscript.specs.Places.{key_at, refused}
 
 two_runs : script_of (codes "run 2" ++ 10 ∷ codes "# run 3" ++ 10 ∷ codes "run 4") ≡ Ok (Run 2 ∷ Run 4 ∷ [])
 unfolding script_of event_of

@@ -1,19 +1,8 @@
 -- A body as it is read: line after line, with what was read so far.
-use Rattle.std.specs.Prelude.{◌≡◌, ℕ, ◌+◌, not, is_some, List, [], ◌∷◌, ◌++◌, length, map, Option, Some, None, Result}
-use Rattle.std.specs.List.{fold}
+use Rattle.std.specs.Prelude.{◌≡◌, ℕ, ◌+◌, not, is_some, List, [], ◌∷◌, ◌++◌, length, map, Option, Some, None, Result, fold}
 use Rattle.arrayvec.specs.ArrayString.{ArrayString}
-use Rattle.taskscript.specs.declared.body.Body.{Body}
-use Rattle.taskscript.specs.declared.fault.FileFault.{FileFault}
 use Rattle.taskscript.specs.declared.fault.FileFault.TheVariants.{BadCommand, NotInInterrupt, BadLabel, TooMany}
-use Rattle.taskscript.specs.Faults.{check, JudgesLine}
-use Rattle.taskscript.specs.declared.place.Owner.{Owner}
-use Rattle.taskscript.specs.declared.refused.Refused.{Refused}
-use Rattle.taskscript.specs.Places.{at, line_at}
-use Rattle.taskscript.specs.Interrupting.{Setting, may_stand, names_softints}
-use Rattle.taskscript.specs.Labels.{Mark, place_in, marks_view}
-use Rattle.taskscript.specs.Lines.{NamedCommandData, LineData, label_line, command_line, named_command_view}
-use Rattle.taskscript.specs.Meaning.{says}
-use Rattle.taskscript.specs.Numbering.{Names, names_after, variables_of, have_room, names_view}
+use Rattle.taskscript.specs.{declared.body.Body.Body, declared.fault.FileFault.FileFault, Faults.check, Faults.JudgesLine, declared.place.Owner.Owner, declared.refused.Refused.Refused, Places.at, Places.line_at, Interrupting.Setting, Interrupting.may_stand, Interrupting.names_softints, Labels.Mark, Labels.place_in, Labels.marks_view, Lines.NamedCommandData, Lines.LineData, Lines.label_line, Lines.command_line, Lines.named_command_view, Meaning.says, Numbering.Names, Numbering.names_after, Numbering.variables_of, Numbering.have_room, Numbering.names_view}
 
 -- the commands, the names of variables and the labels so far
 pub record Reading : Type 0 where

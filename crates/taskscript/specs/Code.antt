@@ -1,19 +1,10 @@
 -- The code of one body: the commands of its lines, or all their faults in order.
-use Rattle.std.specs.Prelude.{ℕ, ◌+◌, Bool, false, not, nat_le, bytes_eq, List, [], ◌∷◌, ◌++◌, length, map, Option, Some, None}
-use Rattle.std.specs.List.{list_all, list_any, filter_map, flat_map, before_first}
-use Rattle.std.specs.Option.{option_map_or}
+use Rattle.std.specs.Prelude.{ℕ, ◌+◌, Bool, false, not, nat_le, bytes_eq, List, [], ◌∷◌, ◌++◌, length, map, Option, Some, None, filter_map, flat_map}
+use Rattle.std.specs.{List.list_all, List.list_any, List.before_first, Option.option_map_or}
 use Rattle.toml.specs.Data.{Data, string, Items, no_items, item as an_item}
-use Rattle.taskscript.specs.declared.fault.FileFault.{FileFault}
 use Rattle.taskscript.specs.declared.fault.FileFault.TheVariants.{BadCommand, NotInInterrupt, BadLabel, TooMany}
-use Rattle.taskscript.specs.declared.place.Owner.{Owner}
-use Rattle.taskscript.specs.declared.refused.Refused.{Refused}
-use Rattle.taskscript.specs.Commands.{CommandData}
-use Rattle.taskscript.specs.Places.{at, line_at}
-use Rattle.taskscript.specs.Faults.{check}
-use Rattle.taskscript.specs.Lines.{NamedCommandData, LineData, label_line, command_line}
-use Rattle.taskscript.specs.Interrupting.{Setting, may_stand, names_softints}
-use Rattle.taskscript.specs.Meaning.{says}
 use Rattle.taskscript.specs.Numbering.{Names, names_after, variable_in, command_in, is_within, variables_of, labels_of_arguments}
+use Rattle.taskscript.specs.{declared.fault.FileFault.FileFault, declared.place.Owner.Owner, declared.refused.Refused.Refused, Commands.CommandData, Places.at, Places.line_at, Faults.check, Lines.NamedCommandData, Lines.LineData, Lines.label_line, Lines.command_line, Interrupting.Setting, Interrupting.may_stand, Interrupting.names_softints, Meaning.says}
 
 -- ---- lines
 

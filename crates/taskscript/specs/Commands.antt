@@ -1,11 +1,8 @@
 -- Commands, as contracts and the abstract machine see them.
 use Rattle.std.specs.Prelude.{◌≡◌, ℕ, ◌<◌, All, List, [], ◌∷◌, map, take, IfSome, Option}
-use Rattle.taskscript.specs.declared.word.Word.{Word}
-use Rattle.taskscript.specs.declared.variable.Variable.{Variable}
 use Rattle.taskscript.specs.declared.variable.Variable.TheVariants.{Private, Shared}
-use Rattle.taskscript.specs.declared.command.Argument.{Argument}
+use Rattle.taskscript.specs.{declared.word.Word.Word, declared.variable.Variable.Variable, declared.command.Argument.Argument, declared.command.Command.Command}
 use Rattle.taskscript.specs.declared.command.Argument.TheVariants as argument
-use Rattle.taskscript.specs.declared.command.Command.{Command}
 
 -- a number, what a variable holds, a name that was between double quotes, or the place of a command
 pub data ArgumentData : Type 0 where

@@ -1,14 +1,10 @@
 -- The events of a text, or its first fault.
 use Rattle.std.specs.Prelude.{◌≡◌, ℕ, ◌+◌, ◌≤◌, Bool, true, ◌&&◌, nat_le, ◌==◌, bytes_eq, codes, All, List, [], ◌∷◌, ◌++◌, length, drop, take, sum_by, Option, Some, None, Result, Ok, Err, option_map, option_and_then, option_to_list, if◌then◌else◌}
 use Rattle.std.specs.List.{slice_split}
-use Rattle.taskscript.specs.Numbers.{decimal_of}
-use Rattle.taskscript.specs.Sources.{requested_source_of}
-use Rattle.taskscript.specs.declared.event.Event.{Event}
 use Rattle.taskscript.specs.declared.event.Event.TheVariants.{Run, Tick, Irq}
-use Rattle.taskscript.specs.declared.fault.EventFault.{EventFault}
 use Rattle.taskscript.specs.declared.fault.EventFault.TheVariants.{BadLine, TooMany, OutOfMemory}
-use Rattle.execlist.specs.Order.{first}
-use Rattle.execlist.specs.Answers.{fault_or}
+use Rattle.taskscript.specs.{Numbers.decimal_of, Sources.requested_source_of, declared.event.Event.Event, declared.fault.EventFault.EventFault}
+use Rattle.execlist.specs.{Order.first, Answers.fault_or}
 
 -- ---- one line
 

@@ -1,10 +1,8 @@
 -- Faults: their numbers and names. A text is judged by the first of all its faults in their order.
 use Rattle.std.specs.Prelude.{◌≡◌, ℕ, Bool, List, [], ◌∷◌, Some, None, Result, Ok, Err, codes, if◌then◌else◌}
 use Rattle.execlist.specs.Order.{first}
-use Rattle.taskscript.specs.declared.fault.FileFault.{FileFault}
 use Rattle.taskscript.specs.declared.fault.FileFault.TheVariants.{NotToml, UnknownKey, MissingKey, BadValue, NameTwice, BadRegions, BadCommand, BadLabel, NotInInterrupt, TooMany, OutOfMemory}
-use Rattle.taskscript.specs.declared.refused.Refused.{Refused}
-use Rattle.taskscript.specs.declared.fault.EventFault.{EventFault}
+use Rattle.taskscript.specs.{declared.fault.FileFault.FileFault, declared.refused.Refused.Refused, declared.fault.EventFault.EventFault}
 use Rattle.taskscript.specs.declared.fault.EventFault.TheVariants as event
 
 -- the number of a fault of a machine file (project rule)

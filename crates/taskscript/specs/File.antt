@@ -1,28 +1,16 @@
 -- The machine that a file states, or its first fault.
 use Rattle.std.specs.Prelude.{is_none, nat_eq, if◌then◌else◌, ℕ, ◌+◌, ℤ, pos, Bool, true, false, codes, List, [], ◌∷◌, ◌++◌, Option, Some, None, Result, Err}
-use Rattle.memlist.specs.declared.region.Region.{Region}
-use Rattle.memlist.specs.Regions.{regions_fault}
+use Rattle.memlist.specs.{declared.region.Region.Region, Regions.regions_fault}
 use Rattle.toml.specs.Data.{Data, Items, no_items, item, Members, get_member}
-use Rattle.taskscript.specs.declared.fault.FileFault.{FileFault}
 use Rattle.taskscript.specs.declared.fault.FileFault.TheVariants.{NotToml, UnknownKey, BadRegions}
-use Rattle.taskscript.specs.declared.place.Array.{Array}
+use Rattle.taskscript.specs.declared.place.Owner.TheVariants.{Softint, Server, Task}
+use Rattle.taskscript.specs.declared.place.TablePlace.TheVariants.{Top, Item}
+use Rattle.taskscript.specs.Tree.{document_of, required, optional, table_faults, of_items, keys_are_among, integer_faults, pri_faults, softint_pri_faults, source_faults, boolean_faults, name_faults, array_faults, items_faults, code_faults, pri_in, source_in, number_or, boolean_or, string_or_nothing, items_or_none, members_or_none}
+use Rattle.taskscript.specs.{declared.fault.FileFault.FileFault, declared.place.Array.Array, declared.place.Owner.Owner, declared.place.TablePlace.TablePlace, declared.refused.Refused.Refused, declared.source.Source.Source, Commands.CommandData, Faults.check, Interrupting.Setting, Places.array_at, Places.at, Places.item_at, Places.key_at, Places.refused, Places.unknown_key_at, Places.without_place, Code.lines_in, Code.body_faults, Code.code_of, Code.shared_after}
 use Rattle.taskscript.specs.declared.place.Array.TheVariants as array
 use Rattle.taskscript.specs.declared.place.Key.TheVariants as key
-use Rattle.taskscript.specs.declared.place.Owner.{Owner}
-use Rattle.taskscript.specs.declared.place.Owner.TheVariants.{Softint, Server, Task}
 use Rattle.taskscript.specs.declared.place.Place.TheVariants as a_place
-use Rattle.taskscript.specs.declared.place.TablePlace.{TablePlace}
-use Rattle.taskscript.specs.declared.place.TablePlace.TheVariants.{Top, Item}
-use Rattle.taskscript.specs.declared.refused.Refused.{Refused}
-use Rattle.taskscript.specs.declared.source.Source.{Source}
-use Rattle.taskscript.specs.Commands.{CommandData}
-use Rattle.execlist.specs.Order.{first}
-use Rattle.execlist.specs.Answers.{fault_or}
-use Rattle.taskscript.specs.Faults.{check}
-use Rattle.taskscript.specs.Interrupting.{Setting}
-use Rattle.taskscript.specs.Places.{array_at, at, item_at, key_at, refused, unknown_key_at, without_place}
-use Rattle.taskscript.specs.Tree.{document_of, required, optional, table_faults, of_items, keys_are_among, integer_faults, pri_faults, softint_pri_faults, source_faults, boolean_faults, name_faults, array_faults, items_faults, code_faults, pri_in, source_in, number_or, boolean_or, string_or_nothing, items_or_none, members_or_none}
-use Rattle.taskscript.specs.Code.{lines_in, body_faults, code_of, shared_after}
+use Rattle.execlist.specs.{Order.first, Answers.fault_or}
 
 -- ---- machines
 

@@ -1,9 +1,6 @@
 -- Words of interrupts (RKM Libraries, Exec Interrupts).
 use Rattle.std.specs.Prelude.{codes, List, [], ◌∷◌}
-use Rattle.taskscript.specs.declared.word.interrupts.InterruptWord.{InterruptWord}
-use Rattle.taskscript.specs.declared.word.interrupts.InterruptWord.TheVariants.{Cause}
-use Rattle.taskscript.specs.declared.word.row.Kind.TheVariants.{Softint}
-use Rattle.taskscript.specs.Rows.{RowData, without_answer}
+use Rattle.taskscript.specs.{declared.word.interrupts.InterruptWord.InterruptWord, declared.word.interrupts.InterruptWord.TheVariants.Cause, declared.word.row.Kind.TheVariants.Softint, Rows.RowData, Rows.without_answer}
 
 abbrev pub interrupt_words : List InterruptWord
 interrupt_words = Cause ∷ []

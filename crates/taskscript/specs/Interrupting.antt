@@ -2,19 +2,10 @@
 -- is, a word that names a software interrupt names one of the file.
 use Rattle.std.specs.Prelude.{ℕ, Bool, true, false, not, ◌&&◌, ◌||◌, bytes_eq, List, [], ◌∷◌, Option, Some, None}
 use Rattle.std.specs.List.{list_all, list_any, cons_option}
-use Rattle.taskscript.specs.declared.word.Word.{Word}
 use Rattle.taskscript.specs.declared.word.Word.TheVariants.{Plain, Signals, Ports, Interrupts}
-use Rattle.taskscript.specs.declared.word.plain.PlainWord.{PlainWord}
 use Rattle.taskscript.specs.declared.word.plain.PlainWord.TheVariants.{Jump, JumpZ, JumpNZ}
-use Rattle.taskscript.specs.declared.word.task_signals.SignalWord.{SignalWord}
-use Rattle.taskscript.specs.declared.word.task_signals.SignalWord.TheVariants.{Signal}
-use Rattle.taskscript.specs.declared.word.ports.PortWord.{PortWord}
 use Rattle.taskscript.specs.declared.word.ports.PortWord.TheVariants.{PutMsg, GetMsg, ReplyMsg}
-use Rattle.taskscript.specs.declared.word.row.Kind.{Kind}
-use Rattle.taskscript.specs.declared.word.row.Kind.TheVariants.{Softint}
-use Rattle.taskscript.specs.Lines.{NamedVariableData, NamedArgumentData, variable, quoted, NamedCommandData}
-use Rattle.taskscript.specs.Numbering.{variables_of}
-use Rattle.taskscript.specs.Words.{kinds}
+use Rattle.taskscript.specs.{declared.word.Word.Word, declared.word.plain.PlainWord.PlainWord, declared.word.task_signals.SignalWord.SignalWord, declared.word.task_signals.SignalWord.TheVariants.Signal, declared.word.ports.PortWord.PortWord, declared.word.row.Kind.Kind, declared.word.row.Kind.TheVariants.Softint, Lines.NamedVariableData, Lines.NamedArgumentData, Lines.variable, Lines.quoted, Lines.NamedCommandData, Numbering.variables_of, Words.kinds}
 
 -- what a body is judged by, beside its lines: whether it is that of an interrupt, and the names of the software interrupts of the file
 pub record Setting : Type 0 where

@@ -2,14 +2,7 @@
 use Rattle.std.specs.Prelude.{◌≡◌, ℕ, Bool, true, false, bytes_eq, is_some, unwrap_or, List, [], ◌∷◌, ◌++◌, map, Option, Some, None, Result, Ok, Err, if◌then◌else◌}
 use Rattle.std.specs.List.{list_all}
 use Rattle.arrayvec.specs.ArrayString.{ArrayString}
-use Rattle.taskscript.specs.declared.fault.FileFault.{FileFault}
-use Rattle.taskscript.specs.declared.fault.FileFault.TheVariants.{BadLabel}
-use Rattle.taskscript.specs.Faults.{check}
-use Rattle.taskscript.specs.declared.place.Owner.{Owner}
-use Rattle.taskscript.specs.declared.refused.Refused.{Refused}
-use Rattle.taskscript.specs.Lines.{NamedCommandData}
-use Rattle.taskscript.specs.Places.{at, line_at}
-use Rattle.taskscript.specs.Numbering.{labels_of_arguments}
+use Rattle.taskscript.specs.{declared.fault.FileFault.FileFault, declared.fault.FileFault.TheVariants.BadLabel, Faults.check, declared.place.Owner.Owner, declared.refused.Refused.Refused, Lines.NamedCommandData, Places.at, Places.line_at, Numbering.labels_of_arguments}
 
 -- a label and its place, which is the number of the commands before it
 pub record Mark : Type 0 where

@@ -1,9 +1,8 @@
 -- Words of libraries (RKM Libraries, Exec Libraries).
 use Rattle.std.specs.Prelude.{codes, List, [], ◌∷◌}
-use Rattle.taskscript.specs.declared.word.libraries.LibraryWord.{LibraryWord}
 use Rattle.taskscript.specs.declared.word.libraries.LibraryWord.TheVariants.{OpenLibrary, CloseLibrary, RemLibrary, LibOpenCnt}
 use Rattle.taskscript.specs.declared.word.row.Kind.TheVariants.{Value, Name}
-use Rattle.taskscript.specs.Rows.{RowData, answering, without_answer}
+use Rattle.taskscript.specs.{declared.word.libraries.LibraryWord.LibraryWord, Rows.RowData, Rows.answering, Rows.without_answer}
 
 abbrev pub library_words : List LibraryWord
 library_words = OpenLibrary ∷ CloseLibrary ∷ RemLibrary ∷ LibOpenCnt ∷ []

@@ -1,14 +1,9 @@
 -- One line of a body: its fields, and what it can say, a label or a command with names for variables and labels.
 use Rattle.std.specs.Prelude.{◌≡◌, ℕ, Bool, ◌==◌, List, map, Option, Some, None, option_map, Result, Ok, Err}
 use Rattle.std.specs.List.{slice_split}
-use Rattle.taskscript.specs.declared.fault.FileFault.{FileFault}
 use Rattle.taskscript.specs.declared.fault.FileFault.TheVariants.{BadCommand, OutOfMemory}
-use Rattle.taskscript.specs.declared.word.Word.{Word}
-use Rattle.taskscript.specs.declared.variable.NamedVariable.{NamedVariable}
-use Rattle.taskscript.specs.declared.named.NamedArgument.{NamedArgument}
+use Rattle.taskscript.specs.{declared.fault.FileFault.FileFault, declared.word.Word.Word, declared.variable.NamedVariable.NamedVariable, declared.named.NamedArgument.NamedArgument, declared.named.NamedCommand.NamedCommand, declared.named.Line.Line}
 use Rattle.taskscript.specs.declared.named.NamedArgument.TheVariants as argument
-use Rattle.taskscript.specs.declared.named.NamedCommand.{NamedCommand}
-use Rattle.taskscript.specs.declared.named.Line.{Line}
 use Rattle.taskscript.specs.declared.named.Line.TheVariants as said
 
 -- the parts of a line between single spaces

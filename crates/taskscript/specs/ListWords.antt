@@ -1,9 +1,8 @@
 -- Words of lists and nodes (RKM Libraries, Exec Lists and Queues).
 use Rattle.std.specs.Prelude.{codes, List, [], ◌∷◌}
-use Rattle.taskscript.specs.declared.word.lists.ListWord.{ListWord}
 use Rattle.taskscript.specs.declared.word.lists.ListWord.TheVariants.{NewList, FreeList, NewNode, FreeNode, AddHead, AddTail, Enqueue, Insert, Remove, RemHead, RemTail, First, Last, Succ, Pred, FindName}
 use Rattle.taskscript.specs.declared.word.row.Kind.TheVariants.{Value, Name, NameOrNone}
-use Rattle.taskscript.specs.Rows.{RowData, answering, without_answer}
+use Rattle.taskscript.specs.{declared.word.lists.ListWord.ListWord, Rows.RowData, Rows.answering, Rows.without_answer}
 
 abbrev pub list_words : List ListWord
 list_words = NewList ∷ FreeList ∷ NewNode ∷ FreeNode ∷ AddHead ∷ AddTail ∷ Enqueue ∷ Insert ∷ Remove ∷ RemHead ∷ RemTail ∷ First ∷ Last ∷ Succ ∷ Pred ∷ FindName ∷ []

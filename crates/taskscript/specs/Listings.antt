@@ -1,12 +1,8 @@
 -- If the commands of a file were written, and what its variables were named.
-use Rattle.std.specs.Prelude.{ℕ, List, [], length, Option, option_map}
-use Rattle.std.specs.List.{filter_map, range_with_len, zip}
+use Rattle.std.specs.Prelude.{ℕ, List, [], length, Option, option_map, filter_map, zip}
+use Rattle.std.specs.List.{range_with_len}
 use Rattle.toml.specs.Data.{Data, Members}
-use Rattle.taskscript.specs.Code.{command_said, names_of}
-use Rattle.taskscript.specs.File.{code_lines, shared_after_bodies, shared_after_servers, shared_after_softints, servers_in, softints_in, tasks_in, with_bodies}
-use Rattle.taskscript.specs.Lines.{LineData}
-use Rattle.taskscript.specs.Meaning.{says}
-use Rattle.taskscript.specs.Tree.{document_of}
+use Rattle.taskscript.specs.{Code.command_said, Code.names_of, File.code_lines, File.shared_after_bodies, File.shared_after_servers, File.shared_after_softints, File.servers_in, File.softints_in, File.tasks_in, File.with_bodies, Lines.LineData, Meaning.says, Tree.document_of}
 
 -- a body: the number (from 0) of the line of each command, and the name of each private variable, both in the order of their numbers
 pub record BodyListingData : Type 0 where

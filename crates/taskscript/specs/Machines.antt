@@ -1,16 +1,10 @@
 -- What holds of the machine of every file that is accepted.
-use Rattle.std.specs.Prelude.{◌≡◌, ◌≢◌, ◌⊎◌, ℕ, ℤ, pos, negsuc, ◌≤◌, Bool, true, false, Option, Some, None, IfSome, All, List, [], ◌∷◌, ◌++◌, bytes_eq, count_by, length, map}
-use Rattle.std.specs.List.{AllPairs, list_any, cons_option}
+use Rattle.std.specs.Prelude.{◌≡◌, ◌≢◌, ◌⊎◌, ℕ, ℤ, pos, negsuc, ◌≤◌, Bool, true, false, Option, Some, None, IfSome, All, List, [], ◌∷◌, ◌++◌, bytes_eq, count_by, length, map, AllPairs}
+use Rattle.std.specs.List.{list_any, cons_option}
 use Rattle.memlist.specs.Regions.{regions_fault}
-use Rattle.taskscript.specs.declared.word.row.Kind.{Kind}
 use Rattle.taskscript.specs.declared.word.row.Kind.TheVariants.{Value, Label, Name, NameOrNone, Softint}
-use Rattle.taskscript.specs.Commands.{ArgumentData, number, variable, quoted, place, CommandData, CommandFits}
-use Rattle.taskscript.specs.declared.variable.Variable.{Variable}
 use Rattle.taskscript.specs.declared.variable.Variable.TheVariants.{Private, Shared}
-use Rattle.taskscript.specs.File.{LibraryData, SoftintData, ServerData, TaskData, MachineData, total_of}
-use Rattle.taskscript.specs.Interrupting.{is_word_of_interrupt}
-use Rattle.taskscript.specs.Names.{is_name}
-use Rattle.taskscript.specs.Words.{kinds}
+use Rattle.taskscript.specs.{declared.word.row.Kind.Kind, Commands.ArgumentData, Commands.number, Commands.variable, Commands.quoted, Commands.place, Commands.CommandData, Commands.CommandFits, declared.variable.Variable.Variable, File.LibraryData, File.SoftintData, File.ServerData, File.TaskData, File.MachineData, File.total_of, Interrupting.is_word_of_interrupt, Names.is_name, Words.kinds}
 
 -- a jump among that many commands goes to one of them, or to the end after the last one
 abbrev pub JumpFits : ℕ → ArgumentData → Type 0

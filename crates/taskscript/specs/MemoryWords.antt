@@ -1,9 +1,7 @@
 -- Words of memory (RKM Libraries, Exec Memory Allocation).
 use Rattle.std.specs.Prelude.{codes, List, [], ◌∷◌}
-use Rattle.taskscript.specs.declared.word.memory.MemoryWord.{MemoryWord}
 use Rattle.taskscript.specs.declared.word.memory.MemoryWord.TheVariants.{AllocMem, FreeMem, AvailMem}
-use Rattle.taskscript.specs.declared.word.row.Kind.TheVariants.{Value}
-use Rattle.taskscript.specs.Rows.{RowData, answering, without_answer}
+use Rattle.taskscript.specs.{declared.word.memory.MemoryWord.MemoryWord, declared.word.row.Kind.TheVariants.Value, Rows.RowData, Rows.answering, Rows.without_answer}
 
 abbrev pub memory_words : List MemoryWord
 memory_words = AllocMem ∷ FreeMem ∷ AvailMem ∷ []

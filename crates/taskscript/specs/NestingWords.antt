@@ -1,8 +1,7 @@
 -- Words of Forbid and Disable (RKM Libraries, Exec Tasks: forbidding task switching).
 use Rattle.std.specs.Prelude.{codes, List, [], ◌∷◌}
-use Rattle.taskscript.specs.declared.word.nesting.NestingWord.{NestingWord}
 use Rattle.taskscript.specs.declared.word.nesting.NestingWord.TheVariants.{Forbid, Permit, Disable, Enable}
-use Rattle.taskscript.specs.Rows.{RowData, without_answer}
+use Rattle.taskscript.specs.{declared.word.nesting.NestingWord.NestingWord, Rows.RowData, Rows.without_answer}
 
 abbrev pub nesting_words : List NestingWord
 nesting_words = Forbid ∷ Permit ∷ Disable ∷ Enable ∷ []

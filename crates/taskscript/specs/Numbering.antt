@@ -1,14 +1,11 @@
 -- Variables by number: a name's number is its place in the order of first sight. Jumps by place.
-use Rattle.std.specs.Prelude.{◌≡◌, ℕ, Bool, true, false, ◌&&◌, nat_lt, bytes_eq, List, [], ◌∷◌, ◌++◌, map, Option, Some, None, option_map, Result, Ok, Err, if◌then◌else◌}
-use Rattle.std.specs.List.{fold, list_any, position_or_len}
+use Rattle.std.specs.Prelude.{◌≡◌, ℕ, Bool, true, false, ◌&&◌, nat_lt, bytes_eq, List, [], ◌∷◌, ◌++◌, map, Option, Some, None, option_map, Result, Ok, Err, if◌then◌else◌, fold}
+use Rattle.std.specs.List.{list_any, position_or_len}
 use Rattle.arrayvec.specs.ArrayString.{ArrayString}
-use Rattle.taskscript.specs.declared.fault.FileFault.{FileFault}
 use Rattle.taskscript.specs.declared.fault.FileFault.TheVariants.{TooMany, OutOfMemory}
-use Rattle.taskscript.specs.declared.variable.Variable.{Variable}
 use Rattle.taskscript.specs.declared.variable.Variable.TheVariants.{Private, Shared}
+use Rattle.taskscript.specs.{declared.fault.FileFault.FileFault, declared.variable.Variable.Variable, Commands.ArgumentData, Commands.CommandData, Lines.NamedVariableData, Lines.NamedArgumentData, Lines.number, Lines.variable, Lines.label, Lines.quoted, Lines.NamedCommandData}
 use Rattle.taskscript.specs.Commands as numbered
-use Rattle.taskscript.specs.Commands.{ArgumentData, CommandData}
-use Rattle.taskscript.specs.Lines.{NamedVariableData, NamedArgumentData, number, variable, label, quoted, NamedCommandData}
 
 -- ---- names in the order of first sight
 

@@ -1,21 +1,8 @@
 -- A line has at most one command.
 use Rattle.std.proofs.Common.{◌≡◌, ℕ, ◌≤◌, Bool, true, false, ◌||◌, cond, bytes_eq, codes, List, [], ◌∷◌, ◌++◌, Option, Some, None, refl, sym, ap, ◌∙◌, arith, inl, inr, nat_lt, length, get_or, option_map, ◌==◌}
-use Rattle.std.proofs.lemmas.Bool.{cases_Bool}
-use Rattle.std.proofs.lemmas.Bool.Decides.{nat_tests}
-use Rattle.std.proofs.lemmas.Option.{same_Some}
-use Rattle.std.proofs.lemmas.Slice.Eq.{bytes_eq-Decides}
-use Rattle.taskscript.specs.declared.word.Word.{Word}
-use Rattle.taskscript.specs.declared.word.row.Kind.{Kind}
+use Rattle.std.proofs.lemmas.{Bool.cases_Bool, Bool.Decides.nat_tests, Option.same_Some, Slice.Eq.bytes_eq-Decides}
 use Rattle.taskscript.specs.declared.word.row.Kind.TheVariants.{Value, Label, Name, NameOrNone, Softint}
-use Rattle.taskscript.specs.Identifiers.{is_identifier}
-use Rattle.taskscript.specs.Numbers.{is_digit, decimal_of, number_of}
-use Rattle.taskscript.specs.Words.{word_text, answers, kinds}
-use Rattle.taskscript.specs.Lines.{NamedVariableData, NamedArgumentData, variable, number, label, quoted, NamedCommandData}
-use Rattle.taskscript.specs.Parsing.{variable_of, argument_of, arguments_of, target_of, with_word, cut_target, command_of}
-use Rattle.taskscript.specs.Quotes.{quoted_from}
-use Rattle.taskscript.specs.Variables.{begins_small, variable_from}
-use Rattle.taskscript.specs.WordTable.{word_known}
-use Rattle.taskscript.specs.Says.{quote, IsVariable, IsArgument, AreArguments, IsTarget, IsLine}
+use Rattle.taskscript.specs.{declared.word.Word.Word, declared.word.row.Kind.Kind, Identifiers.is_identifier, Numbers.is_digit, Numbers.decimal_of, Numbers.number_of, Words.word_text, Words.answers, Words.kinds, Lines.NamedVariableData, Lines.NamedArgumentData, Lines.variable, Lines.number, Lines.label, Lines.quoted, Lines.NamedCommandData, Parsing.variable_of, Parsing.argument_of, Parsing.arguments_of, Parsing.target_of, Parsing.with_word, Parsing.cut_target, Parsing.command_of, Quotes.quoted_from, Variables.begins_small, Variables.variable_from, WordTable.word_known, Says.quote, Says.IsVariable, Says.IsArgument, Says.AreArguments, Says.IsTarget, Says.IsLine}
 
 same_bytes : (x y : List ℕ) → bytes_eq x y ≡ true → x ≡ y
 same_bytes x y h = (bytes_eq-Decides x y).0 h

@@ -2,13 +2,8 @@
 -- this reads exactly that is proved.
 use Rattle.std.specs.Prelude.{ℕ, ◌-◌, Bool, true, false, ◌&&◌, nat_le, ◌==◌, bytes_eq, codes, List, [], ◌∷◌, length, take, drop, slice_index, Option, Some, None, option_map, if◌then◌else◌}
 use Rattle.std.specs.Option.{option_or}
-use Rattle.taskscript.specs.declared.word.row.Kind.{Kind}
 use Rattle.taskscript.specs.declared.word.row.Kind.TheVariants.{Value, Label, Name, NameOrNone, Softint}
-use Rattle.taskscript.specs.Identifiers.{identifier_in}
-use Rattle.taskscript.specs.Lines.{NamedVariableData, NamedArgumentData, number, variable, label, quoted, NamedCommandData, LineData, label_line, command_line}
-use Rattle.taskscript.specs.Names.{is_name}
-use Rattle.taskscript.specs.Numbers.{number_of}
-use Rattle.taskscript.specs.Words.{word_of, answers, kinds}
+use Rattle.taskscript.specs.{declared.word.row.Kind.Kind, Identifiers.identifier_in, Lines.NamedVariableData, Lines.NamedArgumentData, Lines.number, Lines.variable, Lines.label, Lines.quoted, Lines.NamedCommandData, Lines.LineData, Lines.label_line, Lines.command_line, Names.is_name, Numbers.number_of, Words.word_of, Words.answers, Words.kinds}
 
 -- ---- variables
 

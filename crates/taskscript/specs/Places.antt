@@ -1,16 +1,10 @@
 -- The places of a machine file, and faults with their places.
 use Rattle.std.specs.Prelude.{ℕ, codes, List, map, Result, Ok, Err}
-use Rattle.taskscript.specs.declared.fault.FileFault.{FileFault}
-use Rattle.taskscript.specs.declared.place.Array.{Array}
 use Rattle.taskscript.specs.declared.place.Array.TheVariants.{Region, Library, Softint, Server, Task}
-use Rattle.taskscript.specs.declared.place.Key.{Key}
-use Rattle.taskscript.specs.declared.place.Key.TheVariants as key
-use Rattle.taskscript.specs.declared.place.TablePlace.{TablePlace}
-use Rattle.taskscript.specs.declared.place.TreePlace.TheVariants as tree
-use Rattle.taskscript.specs.declared.place.Owner.{Owner}
-use Rattle.taskscript.specs.declared.place.Place.{Place}
 use Rattle.taskscript.specs.declared.place.Place.TheVariants.{Tree, Line}
-use Rattle.taskscript.specs.declared.refused.Refused.{Refused}
+use Rattle.taskscript.specs.{declared.fault.FileFault.FileFault, declared.place.Array.Array, declared.place.Key.Key, declared.place.TablePlace.TablePlace, declared.place.Owner.Owner, declared.place.Place.Place, declared.refused.Refused.Refused}
+use Rattle.taskscript.specs.declared.place.Key.TheVariants as key
+use Rattle.taskscript.specs.declared.place.TreePlace.TheVariants as tree
 
 -- ---- keys
 

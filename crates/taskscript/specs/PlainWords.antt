@@ -1,9 +1,8 @@
 -- Plain words: they set variables, calculate, jump and print, and ask nothing of Exec.
 use Rattle.std.specs.Prelude.{codes, List, [], ◌∷◌}
-use Rattle.taskscript.specs.declared.word.plain.PlainWord.{PlainWord}
 use Rattle.taskscript.specs.declared.word.plain.PlainWord.TheVariants.{Set, Add, Sub, And, Or, Jump, JumpZ, JumpNZ, Print}
 use Rattle.taskscript.specs.declared.word.row.Kind.TheVariants.{Value, Label}
-use Rattle.taskscript.specs.Rows.{RowData, answering, without_answer}
+use Rattle.taskscript.specs.{declared.word.plain.PlainWord.PlainWord, Rows.RowData, Rows.answering, Rows.without_answer}
 
 abbrev pub plain_words : List PlainWord
 plain_words = Set ∷ Add ∷ Sub ∷ And ∷ Or ∷ Jump ∷ JumpZ ∷ JumpNZ ∷ Print ∷ []

@@ -1,9 +1,8 @@
 -- Words of message ports and messages (RKM Libraries, Exec Messages and Ports).
 use Rattle.std.specs.Prelude.{codes, List, [], ◌∷◌}
-use Rattle.taskscript.specs.declared.word.ports.PortWord.{PortWord}
 use Rattle.taskscript.specs.declared.word.ports.PortWord.TheVariants.{CreateMsgPort, DeleteMsgPort, AddPort, RemPort, FindPort, PortSignal, PortCause, PortIgnore, NewMsg, FreeMsg, MsgWord, SetMsgWord, MsgType, PutMsg, GetMsg, WaitPort, ReplyMsg}
 use Rattle.taskscript.specs.declared.word.row.Kind.TheVariants.{Value, Name, Softint}
-use Rattle.taskscript.specs.Rows.{RowData, answering, without_answer}
+use Rattle.taskscript.specs.{declared.word.ports.PortWord.PortWord, Rows.RowData, Rows.answering, Rows.without_answer}
 
 abbrev pub port_words : List PortWord
 port_words = CreateMsgPort ∷ DeleteMsgPort ∷ AddPort ∷ RemPort ∷ FindPort ∷ PortSignal ∷ PortCause ∷ PortIgnore ∷ NewMsg ∷ FreeMsg ∷ MsgWord ∷ SetMsgWord ∷ MsgType ∷ PutMsg ∷ GetMsg ∷ WaitPort ∷ ReplyMsg ∷ []

@@ -1,15 +1,9 @@
 -- Names between double quotes.
-use Rattle.std.proofs.Common.{◌≡◌, ℕ, suc, ◌+◌, ◌-◌, ◌<◌, ◌≤◌, arith, Bool, true, false, ◌&&◌, cond, nat_le, ◌==◌, List, [], ◌∷◌, ◌++◌, length, take, drop, Option, Some, None, length-append, refl, sym, ap, ◌∙◌}
-use Rattle.std.specs.Prelude.{slice_index}
-use Rattle.std.proofs.lemmas.Bool.{and_parts}
-use Rattle.std.proofs.lemmas.Bool.Decides.{nat_tests}
-use Rattle.std.proofs.lemmas.List.{take-append-drop, drop_more}
-use Rattle.std.proofs.lemmas.Option.{same_Some}
-use Rattle.std.proofs.Math.ListN.{drop_of_length-le}
-use Rattle.std.proofs.Math.Seq.{get_or-append_seam, take-append_seam}
-use Rattle.taskscript.specs.Names.{is_name}
-use Rattle.taskscript.specs.Parsing.{inside, quoted_in}
-use Rattle.taskscript.specs.Says.{quote}
+use Rattle.std.specs.Prelude.{◌≡◌, ℕ, suc, ◌+◌, ◌-◌, ◌<◌, ◌≤◌, Bool, true, false, ◌&&◌, cond, nat_le, ◌==◌, List, [], ◌∷◌, ◌++◌, length, take, drop, Option, Some, None, refl, slice_index}
+use Rattle.std.proofs.Common.{arith, length-append, sym, ap, ◌∙◌}
+use Rattle.std.proofs.lemmas.{Bool.and_parts, Bool.Decides.nat_tests, List.take-append-drop, List.drop_more, Option.same_Some}
+use Rattle.std.proofs.{Math.ListN.drop_of_length-le, Math.Seq.get_or-append_seam, Math.Seq.take-append_seam}
+use Rattle.taskscript.specs.{Names.is_name, Parsing.inside, Parsing.quoted_in, Says.quote}
 
 -- a quoted field of that many bytes, by its parts
 quoted_field : (n : List ℕ) (k : ℕ) → k ≡ length n → is_name n ≡ true → let f : List ℕ = 34 ∷ (n ++ 34 ∷ []) in

@@ -1,22 +1,10 @@
 -- A line is one label or one command, and not both.
-use Rattle.std.proofs.Common.{◌≡◌, ℕ, ◌+◌, ◌-◌, ◌<◌, ◌≤◌, arith, Bool, true, false, ◌&&◌, cond, nat_le, ◌==◌, codes, List, [], ◌∷◌, ◌++◌, length, take, drop, get_or, ◌⊎◌, Option, Some, None, option_map, length-append, inl, inr, refl, sym, ap, subst, ◌∙◌}
-use Rattle.std.specs.Prelude.{slice_index}
+use Rattle.std.specs.Prelude.{◌≡◌, ℕ, ◌+◌, ◌-◌, ◌<◌, ◌≤◌, Bool, true, false, ◌&&◌, cond, nat_le, ◌==◌, codes, List, [], ◌∷◌, ◌++◌, length, take, drop, get_or, ◌⊎◌, Option, Some, None, option_map, refl, slice_index}
+use Rattle.std.proofs.Common.{arith, length-append, inl, inr, sym, ap, subst, ◌∙◌}
 use Rattle.std.specs.Option.{option_or}
-use Rattle.std.proofs.lemmas.Bool.{and_parts}
-use Rattle.std.proofs.lemmas.Bool.Decides.{nat_tests}
-use Rattle.std.proofs.lemmas.List.{take-append-drop, drop_more}
-use Rattle.std.proofs.lemmas.Option.{same_Some}
-use Rattle.std.proofs.Math.ListN.{drop_of_length-le}
-use Rattle.std.proofs.Math.Seq.{get_or-append_seam, take-append_seam}
-use Rattle.taskscript.specs.declared.word.Word.{Word}
-use Rattle.taskscript.specs.Identifiers.{is_identifier, identifier_in}
-use Rattle.taskscript.specs.Words.{word_text}
-use Rattle.taskscript.specs.Lines.{NamedCommandData, LineData, label_line, command_line}
-use Rattle.taskscript.specs.Parsing.{command_of, label_in, label_of, line_of}
-use Rattle.taskscript.specs.Says.{IsLine, IsLabel, Says, IsMeaning, Meaning}
-use Rattle.taskscript.specs.OneCommand.{line_has_command}
-use Rattle.taskscript.specs.Sound.{command_is_line}
-use Rattle.taskscript.specs.WordTable.{word_is_capital}
+use Rattle.std.proofs.lemmas.{Bool.and_parts, Bool.Decides.nat_tests, List.take-append-drop, List.drop_more, Option.same_Some}
+use Rattle.std.proofs.{Math.ListN.drop_of_length-le, Math.Seq.get_or-append_seam, Math.Seq.take-append_seam}
+use Rattle.taskscript.specs.{declared.word.Word.Word, Identifiers.is_identifier, Identifiers.identifier_in, Words.word_text, Lines.NamedCommandData, Lines.LineData, Lines.label_line, Lines.command_line, Parsing.command_of, Parsing.label_in, Parsing.label_of, Parsing.line_of, Says.IsLine, Says.IsLabel, Says.Says, Says.IsMeaning, Says.Meaning, OneCommand.line_has_command, Sound.command_is_line, WordTable.word_is_capital}
 
 -- ---- labels
 

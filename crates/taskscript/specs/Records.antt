@@ -1,27 +1,9 @@
 -- What the readers of a file hold, as the data that it represents.
 use Rattle.std.specs.Prelude.{◌≡◌, ℕ, List, [], ◌++◌, map, None}
 use Rattle.toml.specs.Data.{Data, Members}
-use Rattle.taskscript.specs.declared.place.Place.TheVariants.{File}
-use Rattle.taskscript.specs.declared.refused.Refused.{Refused}
 use Rattle.taskscript.specs.declared.fault.FileFault.TheVariants.{NotToml, OutOfMemory}
-use Rattle.taskscript.specs.declared.file.LibraryRecord.{LibraryRecord}
-use Rattle.taskscript.specs.declared.file.SoftintRecord.{SoftintRecord}
-use Rattle.taskscript.specs.declared.file.ServerRecord.{ServerRecord}
-use Rattle.taskscript.specs.declared.file.TaskRecord.{TaskRecord}
-use Rattle.taskscript.specs.declared.heads.SoftintHead.{SoftintHead}
-use Rattle.taskscript.specs.declared.heads.ServerHead.{ServerHead}
-use Rattle.taskscript.specs.declared.heads.TaskHead.{TaskHead}
-use Rattle.taskscript.specs.declared.owners.Heads.{Heads}
-use Rattle.taskscript.specs.declared.owners.Owners.{Owners}
-use Rattle.taskscript.specs.declared.interrupting.Setting.{Setting as CodeSetting}
-use Rattle.taskscript.specs.Code.{code_of}
-use Rattle.taskscript.specs.Commands.{CommandData, command_view}
 use Rattle.taskscript.specs.File.{LibraryData, SoftintData, ServerData, TaskData, name_of, pri_of, server_source_of, start_of, claim_of, code_lines, softints_in, servers_in, tasks_in, item_names, names_before_tasks, shared_after_softints, shared_after_servers, softints_of, servers_of, tasks_of}
-use Rattle.taskscript.specs.Interrupting.{Setting}
-use Rattle.taskscript.specs.Listings.{listing_of}
-use Rattle.taskscript.specs.Numbering.{texts}
-use Rattle.taskscript.specs.Places.{refused}
-use Rattle.taskscript.specs.Tree.{document_of, of_items}
+use Rattle.taskscript.specs.{declared.place.Place.TheVariants.File, declared.refused.Refused.Refused, declared.file.LibraryRecord.LibraryRecord, declared.file.SoftintRecord.SoftintRecord, declared.file.ServerRecord.ServerRecord, declared.file.TaskRecord.TaskRecord, declared.heads.SoftintHead.SoftintHead, declared.heads.ServerHead.ServerHead, declared.heads.TaskHead.TaskHead, declared.owners.Heads.Heads, declared.owners.Owners.Owners, declared.interrupting.Setting.Setting as CodeSetting, Code.code_of, Commands.CommandData, Commands.command_view, Interrupting.Setting, Listings.listing_of, Numbering.texts, Places.refused, Tree.document_of, Tree.of_items}
 
 -- why there is no tree
 abbrev pub DocumentFault : Refused → List ℕ → Type 0

@@ -1,9 +1,8 @@
 -- Words of requests of timer.device (RKM Devices, Introduction to Amiga System Devices; Devices, timer device).
 use Rattle.std.specs.Prelude.{codes, List, [], ◌∷◌}
-use Rattle.taskscript.specs.declared.word.requests.RequestWord.{RequestWord}
 use Rattle.taskscript.specs.declared.word.requests.RequestWord.TheVariants.{CreateIORequest, DeleteIORequest, OpenDevice, CloseDevice, SetIO, DoIO, SendIO, CheckIO, WaitIO, AbortIO, IOSecs, IOMicros, IOError, IOFlags}
 use Rattle.taskscript.specs.declared.word.row.Kind.TheVariants.{Value, Name}
-use Rattle.taskscript.specs.Rows.{RowData, answering, without_answer}
+use Rattle.taskscript.specs.{declared.word.requests.RequestWord.RequestWord, Rows.RowData, Rows.answering, Rows.without_answer}
 
 abbrev pub request_words : List RequestWord
 request_words =

@@ -1,7 +1,6 @@
 -- The row of a word: what a line may have beside it.
 use Rattle.std.specs.Prelude.{ℕ, Bool, true, false, List}
-use Rattle.taskscript.specs.declared.word.row.Kind.{Kind}
-use Rattle.taskscript.specs.declared.word.row.Row.{Row}
+use Rattle.taskscript.specs.{declared.word.row.Kind.Kind, declared.word.row.Row.Row}
 
 -- the text of a word, in a line and in the trace; whether it answers, since a target may be only before a word that does; and the
 -- kinds of its arguments, from left to right

@@ -1,12 +1,7 @@
 -- What a line says, as a relation between its fields and a label or a command.
 use Rattle.std.specs.Prelude.{◌≡◌, ℕ, Bool, true, codes, List, [], ◌∷◌, ◌++◌, Option, Some, None, if◌then◌else◌}
-use Rattle.taskscript.specs.declared.word.row.Kind.{Kind}
 use Rattle.taskscript.specs.declared.word.row.Kind.TheVariants.{Value, Label, Name, NameOrNone, Softint}
-use Rattle.taskscript.specs.Identifiers.{is_identifier}
-use Rattle.taskscript.specs.Names.{is_name}
-use Rattle.taskscript.specs.Numbers.{number_of}
-use Rattle.taskscript.specs.Words.{word_text, answers, kinds}
-use Rattle.taskscript.specs.Lines.{NamedVariableData, NamedArgumentData, variable, number, label, quoted, NamedCommandData, LineData, label_line, command_line}
+use Rattle.taskscript.specs.{declared.word.row.Kind.Kind, Identifiers.is_identifier, Names.is_name, Numbers.number_of, Words.word_text, Words.answers, Words.kinds, Lines.NamedVariableData, Lines.NamedArgumentData, Lines.variable, Lines.number, Lines.label, Lines.quoted, Lines.NamedCommandData, Lines.LineData, Lines.label_line, Lines.command_line}
 
 -- `"`
 abbrev pub quote : List ℕ

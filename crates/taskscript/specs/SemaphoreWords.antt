@@ -1,9 +1,7 @@
 -- Words of signal semaphores (RKM Libraries, Exec Semaphores).
 use Rattle.std.specs.Prelude.{codes, List, [], ◌∷◌}
-use Rattle.taskscript.specs.declared.word.row.Kind.TheVariants.{Value}
-use Rattle.taskscript.specs.declared.word.semaphores.SemaphoreWord.{SemaphoreWord}
 use Rattle.taskscript.specs.declared.word.semaphores.SemaphoreWord.TheVariants.{NewSem, FreeSem, ObtainSemaphore, AttemptSemaphore, ReleaseSemaphore}
-use Rattle.taskscript.specs.Rows.{RowData, answering, without_answer}
+use Rattle.taskscript.specs.{declared.word.row.Kind.TheVariants.Value, declared.word.semaphores.SemaphoreWord.SemaphoreWord, Rows.RowData, Rows.answering, Rows.without_answer}
 
 abbrev pub semaphore_words : List SemaphoreWord
 semaphore_words = NewSem ∷ FreeSem ∷ ObtainSemaphore ∷ AttemptSemaphore ∷ ReleaseSemaphore ∷ []

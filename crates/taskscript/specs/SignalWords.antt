@@ -1,9 +1,7 @@
 -- Words of signals (RKM Libraries, Exec Signals).
 use Rattle.std.specs.Prelude.{codes, List, [], ◌∷◌}
-use Rattle.taskscript.specs.declared.word.task_signals.SignalWord.{SignalWord}
 use Rattle.taskscript.specs.declared.word.task_signals.SignalWord.TheVariants.{AllocSignal, FreeSignal, SetSignal, Signal, Wait}
-use Rattle.taskscript.specs.declared.word.row.Kind.TheVariants.{Value}
-use Rattle.taskscript.specs.Rows.{RowData, answering, without_answer}
+use Rattle.taskscript.specs.{declared.word.task_signals.SignalWord.SignalWord, declared.word.row.Kind.TheVariants.Value, Rows.RowData, Rows.answering, Rows.without_answer}
 
 abbrev pub signal_words : List SignalWord
 signal_words = AllocSignal ∷ FreeSignal ∷ SetSignal ∷ Signal ∷ Wait ∷ []

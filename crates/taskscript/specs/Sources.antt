@@ -1,7 +1,7 @@
 -- The sources of interrupts, by their names.
 use Rattle.std.specs.Prelude.{ℕ, codes, bytes_eq, List, Option, Some, None, if◌then◌else◌}
-use Rattle.taskscript.specs.declared.source.Source.{Source}
 use Rattle.taskscript.specs.declared.source.Source.TheVariants.{Ports, Vertb, Exter}
+use Rattle.taskscript.specs.declared.source.Source.{Source}
 
 -- the name of a source, in the texts and in the trace
 abbrev pub source_text : Source → List ℕ

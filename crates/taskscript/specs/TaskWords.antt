@@ -1,9 +1,8 @@
 -- Words of tasks (RKM Libraries, Exec Tasks).
 use Rattle.std.specs.Prelude.{codes, List, [], ◌∷◌}
-use Rattle.taskscript.specs.declared.word.tasks.TaskWord.{TaskWord}
 use Rattle.taskscript.specs.declared.word.tasks.TaskWord.TheVariants.{SetTaskPri, AddTask, RemTask, FindTask}
 use Rattle.taskscript.specs.declared.word.row.Kind.TheVariants.{Value, NameOrNone}
-use Rattle.taskscript.specs.Rows.{RowData, answering, without_answer}
+use Rattle.taskscript.specs.{declared.word.tasks.TaskWord.TaskWord, Rows.RowData, Rows.answering, Rows.without_answer}
 
 abbrev pub task_words : List TaskWord
 task_words = SetTaskPri ∷ AddTask ∷ RemTask ∷ FindTask ∷ []

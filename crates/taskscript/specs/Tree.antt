@@ -1,21 +1,10 @@
 -- The tree that a text states, and the faults of its places. Each place is judged by itself, from the tree alone.
 use Rattle.std.specs.Prelude.{ℕ, ◌+◌, Bool, true, false, not, ◌&&◌, ◌||◌, ℤ, pos, negsuc, codes, unsigned_abs, unwrap_or, int_le, is_some, nat_le, bytes_eq, List, [], ◌∷◌, ◌++◌, Option, Some, None, if◌then◌else◌}
-use Rattle.std.specs.List.{list_any}
-use Rattle.std.specs.Ordering.{int_eq}
-use Rattle.std.specs.Str.{is_utf8}
+use Rattle.std.specs.{List.list_any, Ordering.int_eq, Str.is_utf8}
 use Rattle.toml.specs.Data.{Data, string, integer, boolean, array, table, Items, no_items, item, Members, no_members, member, get_member}
 use Rattle.toml.specs.Parse.{parse_document}
-use Rattle.taskscript.specs.declared.fault.FileFault.{FileFault}
 use Rattle.taskscript.specs.declared.fault.FileFault.TheVariants.{MissingKey, BadValue, NameTwice, TooMany}
-use Rattle.taskscript.specs.declared.source.Source.{Source}
-use Rattle.taskscript.specs.declared.source.Source.TheVariants.{Ports}
-use Rattle.taskscript.specs.Faults.{check}
-use Rattle.taskscript.specs.declared.place.Array.{Array}
-use Rattle.taskscript.specs.declared.place.Place.{Place}
-use Rattle.taskscript.specs.declared.refused.Refused.{Refused}
-use Rattle.taskscript.specs.Names.{is_name}
-use Rattle.taskscript.specs.Places.{array_at, at, limit, refused}
-use Rattle.taskscript.specs.Sources.{source_of}
+use Rattle.taskscript.specs.{declared.fault.FileFault.FileFault, declared.source.Source.Source, declared.source.Source.TheVariants.Ports, Faults.check, declared.place.Array.Array, declared.place.Place.Place, declared.refused.Refused.Refused, Names.is_name, Places.array_at, Places.at, Places.limit, Places.refused, Sources.source_of}
 
 -- the tree of a text: none for bytes that are no UTF-8, and for a text that is no TOML document
 abbrev pub document_of : List ℕ → Option Members

@@ -1,13 +1,8 @@
 -- The names of variables: what is read from a field is the variable that it names.
 use Rattle.std.proofs.Common.{◌≡◌, ℕ, ◌≤◌, Bool, true, false, ◌&&◌, cond, nat_le, ◌==◌, List, [], ◌∷◌, length, Some, None, option_map, refl, sym, subst, arith}
 use Rattle.std.specs.List.{list_all}
-use Rattle.std.proofs.lemmas.Bool.{and_parts}
-use Rattle.std.proofs.lemmas.Bool.Decides.{nat_tests}
-use Rattle.std.proofs.lemmas.Option.{same_Some}
-use Rattle.taskscript.specs.Identifiers.{is_identifier, is_identifier_byte}
-use Rattle.taskscript.specs.Lines.{NamedVariableData}
-use Rattle.taskscript.specs.Parsing.{named, variable_of}
-use Rattle.taskscript.specs.Says.{IsVariable}
+use Rattle.std.proofs.lemmas.{Bool.and_parts, Bool.Decides.nat_tests, Option.same_Some}
+use Rattle.taskscript.specs.{Identifiers.is_identifier, Identifiers.is_identifier_byte, Lines.NamedVariableData, Parsing.named, Parsing.variable_of, Says.IsVariable}
 
 pub begins_small : (b : ℕ) (bs : List ℕ) → is_identifier (b ∷ bs) ≡ true → 97 ≤ b
 begins_small b bs h =

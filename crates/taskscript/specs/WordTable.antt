@@ -1,22 +1,9 @@
 -- What holds of each word, by the tables.
-use Rattle.std.proofs.Common.{◌≡◌, ◌≤◌, lit≤, Bool, true, false, nat_le, length, Some, refl}
-use Rattle.std.specs.Prelude.{count_by, slice_index}
-use Rattle.taskscript.specs.declared.word.Word.{Word}
+use Rattle.std.specs.Prelude.{◌≡◌, ◌≤◌, Bool, true, false, nat_le, length, Some, refl, count_by, slice_index}
+use Rattle.std.proofs.Common.{lit≤}
 use Rattle.taskscript.specs.declared.word.Word.TheVariants.{Plain, Signals, Nesting, Tasks, Lists, Memory, Ports, Semaphores, Interrupts, Libraries, Requests}
-use Rattle.taskscript.specs.declared.word.plain.PlainWord.TheVariants.{Set}
-use Rattle.taskscript.specs.declared.word.task_signals.SignalWord.TheVariants.{AllocSignal}
-use Rattle.taskscript.specs.declared.word.nesting.NestingWord.TheVariants.{Forbid}
-use Rattle.taskscript.specs.declared.word.tasks.TaskWord.TheVariants.{SetTaskPri}
-use Rattle.taskscript.specs.declared.word.lists.ListWord.TheVariants.{NewList}
-use Rattle.taskscript.specs.declared.word.memory.MemoryWord.TheVariants.{AllocMem}
-use Rattle.taskscript.specs.declared.word.ports.PortWord.TheVariants.{CreateMsgPort}
-use Rattle.taskscript.specs.declared.word.semaphores.SemaphoreWord.TheVariants.{NewSem}
-use Rattle.taskscript.specs.declared.word.interrupts.InterruptWord.TheVariants.{Cause}
-use Rattle.taskscript.specs.declared.word.libraries.LibraryWord.TheVariants.{OpenLibrary}
-use Rattle.taskscript.specs.declared.word.requests.RequestWord.TheVariants.{CreateIORequest}
-use Rattle.taskscript.specs.declared.word.row.Kind.{Kind}
 use Rattle.taskscript.specs.declared.word.row.Kind.TheVariants.{Value, Label, Name, NameOrNone, Softint}
-use Rattle.taskscript.specs.Words.{word_text, word_of, kinds}
+use Rattle.taskscript.specs.{declared.word.Word.Word, declared.word.plain.PlainWord.TheVariants.Set, declared.word.task_signals.SignalWord.TheVariants.AllocSignal, declared.word.nesting.NestingWord.TheVariants.Forbid, declared.word.tasks.TaskWord.TheVariants.SetTaskPri, declared.word.lists.ListWord.TheVariants.NewList, declared.word.memory.MemoryWord.TheVariants.AllocMem, declared.word.ports.PortWord.TheVariants.CreateMsgPort, declared.word.semaphores.SemaphoreWord.TheVariants.NewSem, declared.word.interrupts.InterruptWord.TheVariants.Cause, declared.word.libraries.LibraryWord.TheVariants.OpenLibrary, declared.word.requests.RequestWord.TheVariants.CreateIORequest, declared.word.row.Kind.Kind, Words.word_text, Words.word_of, Words.kinds}
 
 -- whether a name may be at a place of this kind
 abbrev pub may_be_name : Kind → Bool

@@ -1,21 +1,8 @@
 -- The words of a body. The scripts of this simulator are our own; a word that is named as a call of
 -- exec.library represents that call.
 use Rattle.std.specs.Prelude.{ℕ, Bool, bytes_eq, find, map, List, ◌++◌, Option}
-use Rattle.taskscript.specs.declared.word.Word.{Word}
 use Rattle.taskscript.specs.declared.word.Word.TheVariants.{Plain, Signals, Nesting, Tasks, Lists, Memory, Ports, Semaphores, Interrupts, Libraries, Requests}
-use Rattle.taskscript.specs.declared.word.row.Kind.{Kind}
-use Rattle.taskscript.specs.Rows.{RowData}
-use Rattle.taskscript.specs.PlainWords.{plain_words, plain_row}
-use Rattle.taskscript.specs.SignalWords.{signal_words, signal_row}
-use Rattle.taskscript.specs.NestingWords.{nesting_words, nesting_row}
-use Rattle.taskscript.specs.TaskWords.{task_words, task_row}
-use Rattle.taskscript.specs.ListWords.{list_words, list_row}
-use Rattle.taskscript.specs.MemoryWords.{memory_words, memory_row}
-use Rattle.taskscript.specs.PortWords.{port_words, port_row}
-use Rattle.taskscript.specs.SemaphoreWords.{semaphore_words, semaphore_row}
-use Rattle.taskscript.specs.InterruptWords.{interrupt_words, interrupt_row}
-use Rattle.taskscript.specs.LibraryWords.{library_words, library_row}
-use Rattle.taskscript.specs.RequestWords.{request_words, request_row}
+use Rattle.taskscript.specs.{declared.word.Word.Word, declared.word.row.Kind.Kind, Rows.RowData, PlainWords.plain_words, PlainWords.plain_row, SignalWords.signal_words, SignalWords.signal_row, NestingWords.nesting_words, NestingWords.nesting_row, TaskWords.task_words, TaskWords.task_row, ListWords.list_words, ListWords.list_row, MemoryWords.memory_words, MemoryWords.memory_row, PortWords.port_words, PortWords.port_row, SemaphoreWords.semaphore_words, SemaphoreWords.semaphore_row, InterruptWords.interrupt_words, InterruptWords.interrupt_row, LibraryWords.library_words, LibraryWords.library_row, RequestWords.request_words, RequestWords.request_row}
 
 -- the row of a word, by its group
 abbrev pub row : Word → RowData

@@ -3,15 +3,7 @@
 ghost use Rattle.std.specs.List.{cons_option};
 ghost use Rattle.std.specs.Prelude.{◌≡◌, ◌<◌, ◌≤◌, ◌^◌, ◌+◌, ◌++◌, ◌∷◌, [], map, length, IfOk, OnOk, Some};
 ghost use Rattle.toml.specs.View.{view, items_view};
-ghost use Rattle.taskscript.specs.Bodies.{nothing_read, reading_view, reading_after, faults_after, ReadsOn};
-ghost use Rattle.taskscript.specs.Meaning.{says};
-ghost use Rattle.taskscript.specs.Code.{line_in, lines_in, body_faults, code_of, shared_after};
-ghost use Rattle.taskscript.specs.Commands.{command_view};
-ghost use Rattle.taskscript.specs.Faults.{Judges};
-ghost use Rattle.taskscript.specs.Listings.{body_listing, command_lines, number_said};
-ghost use Rattle.taskscript.specs.Lines.{label_line, command_line, named_command_view};
-ghost use Rattle.taskscript.specs.Numbering.{texts};
-ghost use Rattle.taskscript.specs.Records.{setting_view};
+ghost use Rattle.taskscript.specs.{Bodies.nothing_read, Bodies.reading_view, Bodies.reading_after, Bodies.faults_after, Bodies.ReadsOn, Meaning.says, Code.line_in, Code.lines_in, Code.body_faults, Code.code_of, Code.shared_after, Commands.command_view, Faults.Judges, Listings.body_listing, Listings.command_lines, Listings.number_said, Lines.label_line, Lines.command_line, Lines.named_command_view, Numbering.texts, Records.setting_view};
 
 use crate::body::Body;
 use crate::command::Command;

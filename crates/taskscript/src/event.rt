@@ -49,8 +49,7 @@ pub struct Events {
 
 impl Model for Events {
     ghost use Rattle.std.specs.Prelude.{List};
-    ghost use Rattle.taskscript.specs.Events.{AreWithin};
-    ghost use Rattle.taskscript.specs.declared.event.Event.{Event};
+    ghost use Rattle.taskscript.specs.{Events.AreWithin, declared.event.Event.Event};
 
     ghost Value = { List Event };
 

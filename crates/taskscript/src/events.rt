@@ -1,8 +1,6 @@
 //! Reading an event text: bytes, cut at line feeds and never decoded.
 ghost use Rattle.std.specs.Prelude.{◌≡◌, map, [], IfOk, Ok, Err, MatchResult};
-ghost use Rattle.taskscript.specs.Events.{turns_of, event_of, is_skipped, are_within, text_lines, event_faults, events_of, script_of, JudgesLines};
-ghost use Rattle.taskscript.specs.Sources.{requested_source_of};
-ghost use Rattle.taskscript.specs.declared.fault.EventFault.TheVariants.{OutOfMemory};
+ghost use Rattle.taskscript.specs.{Events.turns_of, Events.event_of, Events.is_skipped, Events.are_within, Events.text_lines, Events.event_faults, Events.events_of, Events.script_of, Events.JudgesLines, Sources.requested_source_of, declared.fault.EventFault.TheVariants.OutOfMemory};
 
 use crate::event::{Event, Events};
 use crate::fault::EventFault;

@@ -1,7 +1,6 @@
 //! What a machine file states: the machine's parts, as records.
 ghost use Rattle.std.specs.Prelude.{◌≡◌, map};
-ghost use Rattle.taskscript.specs.Machines.{IsMachine};
-ghost use Rattle.taskscript.specs.Records.{library_view, softint_view, server_view, task_view};
+ghost use Rattle.taskscript.specs.{Machines.IsMachine, Records.library_view, Records.softint_view, Records.server_view, Records.task_view};
 
 use crate::command::Command;
 use crate::name::Name;
@@ -77,9 +76,7 @@ pub struct MachineFile {
 
 impl Model for MachineFile {
     ghost use Rattle.std.specs.Prelude.{map};
-    ghost use Rattle.taskscript.specs.File.{MachineData};
-    ghost use Rattle.taskscript.specs.Machines.{IsMachine};
-    ghost use Rattle.taskscript.specs.Records.{library_view, softint_view, server_view, task_view};
+    ghost use Rattle.taskscript.specs.{File.MachineData, Machines.IsMachine, Records.library_view, Records.softint_view, Records.server_view, Records.task_view};
 
     ghost Value = { MachineData };
 

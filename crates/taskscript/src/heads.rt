@@ -3,16 +3,9 @@
 ghost use Rattle.std.specs.Prelude.{◌≡◌, ◌++◌, ◌∷◌, [], Some, None, ℕ, List, codes, map, OnOk};
 ghost use Rattle.toml.specs.Data.{Data, Members, table as a_table, get_member};
 ghost use Rattle.toml.specs.View.{table_view, view, items_view};
-ghost use Rattle.taskscript.specs.Commands.{CommandData, command_view};
-ghost use Rattle.taskscript.specs.Faults.{Judges};
-ghost use Rattle.taskscript.specs.File.{LibraryData, SoftintData, ServerData, TaskData, library_faults, library_of, softint_faults, server_faults, task_faults, named_faults, named_item_faults, name_of, item_names};
-ghost use Rattle.taskscript.specs.Numbering.{texts};
 ghost use Rattle.taskscript.specs.Records.{library_view, softint_view, server_view, task_view, softint_head_view, server_head_view, task_head_view, softint_head_of, server_head_of, task_head_of, softint_with, server_with, task_with};
-ghost use Rattle.taskscript.specs.Tree.{required, optional, name_faults, string_or_nothing, code_faults, array_faults, items_or_none, of_items};
-ghost use Rattle.taskscript.specs.Places.{array_key, at, key_at};
+ghost use Rattle.taskscript.specs.{Commands.CommandData, Commands.command_view, Faults.Judges, File.LibraryData, File.SoftintData, File.ServerData, File.TaskData, File.library_faults, File.library_of, File.softint_faults, File.server_faults, File.task_faults, File.named_faults, File.named_item_faults, File.name_of, File.item_names, Numbering.texts, Tree.required, Tree.optional, Tree.name_faults, Tree.string_or_nothing, Tree.code_faults, Tree.array_faults, Tree.items_or_none, Tree.of_items, Places.array_key, Places.at, Places.key_at, declared.place.TablePlace.TablePlace, declared.refused.Refused.Refused};
 ghost use Rattle.taskscript.specs.declared.place.Key.TheVariants as a_key;
-ghost use Rattle.taskscript.specs.declared.place.TablePlace.{TablePlace};
-ghost use Rattle.taskscript.specs.declared.refused.Refused.{Refused};
 
 use crate::command::Command;
 use crate::fault::FileFault;

@@ -2,11 +2,8 @@
 //! names a software interrupt names one of the file.
 ghost use Rattle.std.specs.Prelude.{◌≡◌, ◌++◌, ◌∷◌, [], bytes_eq, length, map, option_map};
 ghost use Rattle.std.specs.List.{list_all, list_any};
-ghost use Rattle.taskscript.specs.Faults.{check, JudgesLine};
 ghost use Rattle.taskscript.specs.Interrupting.{is_of_interrupt, is_open, is_word_of_interrupt, may_stand, names_softints, softints_among};
-ghost use Rattle.taskscript.specs.Lines.{named_argument_view, named_command_view, named_variable_view};
-ghost use Rattle.taskscript.specs.Numbering.{texts, variables_of_target};
-ghost use Rattle.taskscript.specs.Records.{setting_view};
+ghost use Rattle.taskscript.specs.{Faults.check, Faults.JudgesLine, Lines.named_argument_view, Lines.named_command_view, Lines.named_variable_view, Numbering.texts, Numbering.variables_of_target, Records.setting_view};
 
 use crate::fault::FileFault;
 use crate::name::{Name, is_among};

@@ -1,9 +1,7 @@
 //! Laws of lines: what a line says is one thing, by the relation `Says`, and the machine of a file is made of exactly that. The functions
 //! do nothing; their contracts are the laws.
 ghost use Rattle.std.specs.Prelude.{◌≡◌, ℕ, List, Some, None};
-ghost use Rattle.taskscript.specs.Lines.{LineData, NamedCommandData, fields};
-ghost use Rattle.taskscript.specs.Meaning.{says};
-ghost use Rattle.taskscript.specs.Says.{IsLine, Says, Meaning};
+ghost use Rattle.taskscript.specs.{Lines.LineData, Lines.NamedCommandData, Lines.fields, Meaning.says, Says.IsLine, Says.Says, Says.Meaning};
 
 /// A line has at most one command.
 pub fn one_command()

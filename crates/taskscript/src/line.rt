@@ -1,8 +1,6 @@
 //! One line of a body: from its text to a label, or to a command with names for variables and labels.
 ghost use Rattle.std.specs.Prelude.{◌≡◌, length, map, IfOk, option_map};
-ghost use Rattle.taskscript.specs.Lines.{fields, quoted, Reads, line_view, named_argument_view, named_command_view, named_variable_view};
-ghost use Rattle.taskscript.specs.Meaning.{says};
-ghost use Rattle.taskscript.specs.Parsing.{argument_of, arguments_of, with_word, command_of, label_of, quoted_in, target_of};
+ghost use Rattle.taskscript.specs.{Lines.fields, Lines.quoted, Lines.Reads, Lines.line_view, Lines.named_argument_view, Lines.named_command_view, Lines.named_variable_view, Meaning.says, Parsing.argument_of, Parsing.arguments_of, Parsing.with_word, Parsing.command_of, Parsing.label_of, Parsing.quoted_in, Parsing.target_of};
 
 use crate::fault::FileFault;
 use crate::identifier::identifier_of;

@@ -1,8 +1,6 @@
 //! Where the commands of a machine file were written, and what its variables were named.
-ghost use Rattle.std.specs.Prelude.{◌≡◌, option_map};
-ghost use Rattle.std.specs.List.{slice_get};
-ghost use Rattle.taskscript.specs.Listings.{BodyListingData, ListingData};
-ghost use Rattle.taskscript.specs.Numbering.{texts};
+ghost use Rattle.std.specs.Prelude.{◌≡◌, option_map, slice_get};
+ghost use Rattle.taskscript.specs.{Listings.BodyListingData, Listings.ListingData, Numbering.texts};
 
 use crate::file::MachineFile;
 use crate::variable::VariableName;
@@ -17,8 +15,7 @@ pub struct BodyListing {
 }
 
 impl Model for BodyListing {
-    ghost use Rattle.taskscript.specs.Listings.{BodyListingData};
-    ghost use Rattle.taskscript.specs.Numbering.{texts};
+    ghost use Rattle.taskscript.specs.{Listings.BodyListingData, Numbering.texts};
 
     ghost Value = { BodyListingData };
 
@@ -65,8 +62,7 @@ pub struct Listing {
 }
 
 impl Model for Listing {
-    ghost use Rattle.taskscript.specs.Listings.{ListingData};
-    ghost use Rattle.taskscript.specs.Numbering.{texts};
+    ghost use Rattle.taskscript.specs.{Listings.ListingData, Numbering.texts};
 
     ghost Value = { ListingData };
 

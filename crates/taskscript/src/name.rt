@@ -1,8 +1,7 @@
 //! Names of the machine file.
 ghost use Rattle.std.specs.Prelude.{◌≡◌, bytes_eq};
 ghost use Rattle.std.specs.List.{list_all, list_any};
-ghost use Rattle.taskscript.specs.Names.{is_name, is_name_byte};
-ghost use Rattle.taskscript.specs.Numbering.{texts};
+ghost use Rattle.taskscript.specs.{Names.is_name, Names.is_name_byte, Numbering.texts};
 
 use arrayvec::ArrayString;
 

@@ -1,8 +1,6 @@
 //! Numbers as the texts write them: decimal, negative, and with `$` in base 16.
 ghost use Rattle.std.specs.Prelude.{◌≡◌, ◌≤◌, Some, None};
-ghost use Rattle.std.specs.List.{list_all};
-ghost use Rattle.std.specs.Char.{digit_value};
-ghost use Rattle.std.specs.Str.Parse.{digits_value};
+ghost use Rattle.std.specs.{List.list_all, Char.digit_value, Str.Parse.digits_value};
 ghost use Rattle.taskscript.specs.Numbers.{is_digit, is_hex_digit, below_word, decimal_of, hex_of, negated, number_of};
 
 fn digit(b: u8) -> u8

@@ -2,13 +2,7 @@
 //! second one reads their bodies, in the order of the file.
 ghost use Rattle.std.specs.Prelude.{◌≡◌, ◌≤◌, length, take, map, IfOk, OnOk};
 ghost use Rattle.toml.specs.View.{table_view, view, items_view};
-ghost use Rattle.taskscript.specs.Code.{lines_in, body_faults, shared_after};
-ghost use Rattle.taskscript.specs.Faults.{Judges};
-ghost use Rattle.taskscript.specs.File.{code_lines, bodies_faults, with_bodies, shared_after_bodies, owners_faults, lines_of_all_faults, both_passes_faults};
-ghost use Rattle.taskscript.specs.Listings.{owner_listing};
-ghost use Rattle.taskscript.specs.Numbering.{texts};
-ghost use Rattle.taskscript.specs.Records.{setting_view, made_of, AreHeads, AreOwners};
-ghost use Rattle.taskscript.specs.Tree.{of_items};
+ghost use Rattle.taskscript.specs.{Code.lines_in, Code.body_faults, Code.shared_after, Faults.Judges, File.code_lines, File.bodies_faults, File.with_bodies, File.shared_after_bodies, File.owners_faults, File.lines_of_all_faults, File.both_passes_faults, Listings.owner_listing, Numbering.texts, Records.setting_view, Records.made_of, Records.AreHeads, Records.AreOwners, Tree.of_items};
 
 use crate::code::read_code;
 use crate::file::{ServerRecord, SoftintRecord, TaskRecord};

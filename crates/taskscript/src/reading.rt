@@ -1,11 +1,7 @@
 //! Reading a machine file.
 ghost use Rattle.std.specs.Prelude.{◌≡◌, map, Ok, Err, Some, IfOk, MatchResult};
 ghost use Rattle.toml.specs.View.{table_view};
-ghost use Rattle.taskscript.specs.Faults.{Judges};
-ghost use Rattle.taskscript.specs.Listings.{listing_in, listing_of};
-ghost use Rattle.taskscript.specs.Records.{library_view};
-ghost use Rattle.taskscript.specs.Tree.{of_items};
-ghost use Rattle.taskscript.specs.File.{libraries_faults, libraries_in, library_of, settings_faults, version_of, quantum_of, tick_micros_of, pool_of, refusals, machine_of, file_of, placed_file_of};
+ghost use Rattle.taskscript.specs.{Faults.Judges, Listings.listing_in, Listings.listing_of, Records.library_view, Tree.of_items, File.libraries_faults, File.libraries_in, File.library_of, File.settings_faults, File.version_of, File.quantum_of, File.tick_micros_of, File.pool_of, File.refusals, File.machine_of, File.file_of, File.placed_file_of};
 
 use crate::fault::FileFault;
 use crate::file::{LibraryRecord, MachineFile};

@@ -1,11 +1,6 @@
 //! Commands with numbers and places for their names, once the whole body was read.
 ghost use Rattle.std.specs.Prelude.{◌≡◌, ◌≤◌, ℕ, List, [], ◌∷◌, All, length, map, take};
-ghost use Rattle.taskscript.specs.Commands.{argument_view, command_view, first_name, ArgumentFits, CommandFits, IsNamed};
-ghost use Rattle.taskscript.specs.Faults.{Judges};
-ghost use Rattle.taskscript.specs.Labels.{are_marked, jumps_faults_in, marks_view, place_at, Resolves};
-ghost use Rattle.taskscript.specs.Lines.{named_argument_view, named_command_view};
-ghost use Rattle.taskscript.specs.Machines.{QuotesOnce};
-ghost use Rattle.taskscript.specs.Numbering.{argument_in, command_in, labels_of_arguments, names_view, Names};
+ghost use Rattle.taskscript.specs.{Commands.argument_view, Commands.command_view, Commands.first_name, Commands.ArgumentFits, Commands.CommandFits, Commands.IsNamed, Faults.Judges, Labels.are_marked, Labels.jumps_faults_in, Labels.marks_view, Labels.place_at, Labels.Resolves, Lines.named_argument_view, Lines.named_command_view, Machines.QuotesOnce, Numbering.argument_in, Numbering.command_in, Numbering.labels_of_arguments, Numbering.names_view, Numbering.Names};
 
 use crate::command::{Argument, Command};
 use crate::fault::FileFault;

@@ -3,11 +3,9 @@ ghost use Rattle.std.specs.Prelude.{◌≡◌, ◌≤◌, pos, Some, None, true,
 ghost use Rattle.std.specs.List.{list_any};
 ghost use Rattle.toml.specs.Data.{get_member};
 ghost use Rattle.toml.specs.View.{table_view, view, items_view};
-ghost use Rattle.taskscript.specs.Faults.{Judges};
-ghost use Rattle.taskscript.specs.Places.{at, key_at, key_text};
-ghost use Rattle.taskscript.specs.declared.place.Key.TheVariants as a_key;
-ghost use Rattle.taskscript.specs.Records.{DocumentFault};
 ghost use Rattle.taskscript.specs.Tree.{keys_are_among, required, optional, integer_faults, pri_faults, is_softint_pri, softint_pri_faults, source_faults, boolean_faults, integer_or, pri_in, source_in, number_or, boolean_or, items_or_none, document_of, are_strings};
+ghost use Rattle.taskscript.specs.{Faults.Judges, Places.at, Places.key_at, Places.key_text, Records.DocumentFault};
+ghost use Rattle.taskscript.specs.declared.place.Key.TheVariants as a_key;
 
 use crate::fault::FileFault;
 use crate::place::{Key, TablePlace};

@@ -1,7 +1,6 @@
 //! Variables: by their names in a line, and by their numbers in a command.
 ghost use Rattle.std.specs.Prelude.{◌≡◌, option_map};
-ghost use Rattle.taskscript.specs.Lines.{named_variable_view};
-ghost use Rattle.taskscript.specs.Parsing.{named, variable_of};
+ghost use Rattle.taskscript.specs.{Lines.named_variable_view, Parsing.named, Parsing.variable_of};
 
 use crate::identifier::{Identifier, identifier_of};
 

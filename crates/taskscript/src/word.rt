@@ -3,8 +3,7 @@
 //! of `word_of`.
 ghost use Rattle.std.specs.Prelude.{◌≡◌, IfOk, bytes_eq, find};
 ghost use Rattle.std.specs.Option.{option_or};
-ghost use Rattle.taskscript.specs.Rows.{row_view};
-ghost use Rattle.taskscript.specs.Words.{all_words, answers, kinds, row, word_of, word_text};
+ghost use Rattle.taskscript.specs.{Rows.row_view, Words.all_words, Words.answers, Words.kinds, Words.row, Words.word_of, Words.word_text};
 
 mod interrupts;
 mod libraries;

@@ -1,9 +1,7 @@
 -- Of requests of two kinds the chosen one is the better of the chosen of each kind, and if these are equal the one that is first.
-use Rattle.std.proofs.Common.{◌≡◌, ℕ, suc, Bool, true, false, cond, not, eqb, List, [], ◌∷◌, refl, sym, ap, ◌∙◌, arith, inl, inr, Option, Some, None, ◌⊎◌, ◌||◌, ◌&&◌, ℤ, int_lt, filter}
-use Rattle.std.proofs.lemmas.Bool.{cond-true, cond-false, eq-eqb, ne_eqb, cases_eq, both_ways, false≢true, true≢false}
-use Rattle.std.proofs.lemmas.Int.{ints}
-use Rattle.execlist.specs.Order.{chosen, chosen_or, is_lower}
-use Rattle.execlist.specs.Lists.{part_before, times}
+use Rattle.std.proofs.Common.{◌≡◌, ℕ, suc, Bool, true, false, cond, not, eqb, List, [], ◌∷◌, refl, sym, ap, ◌∙◌, arith, inl, inr, Option, Some, None, ◌⊎◌, ◌||◌, ◌&&◌, ℤ, int_lt, filter, eq-eqb, ne_eqb, true≢false}
+use Rattle.std.proofs.lemmas.{Bool.cond-true, Bool.cond-false, Bool.cases_eq, Bool.both_ways, Bool.false≢true, Int.ints}
+use Rattle.execlist.specs.{Order.chosen, Order.chosen_or, Order.is_lower, Lists.part_before, Lists.times}
 use Rattle.execlist.proofs.OrderLaws.{le_trans, lt_le, not_self}
 use Rattle.timerdev.specs.Held.{is_before}
 use Rattle.timerdev.proofs.Times.{stands_here}

@@ -1,12 +1,8 @@
 -- The time for which a request waits, reported by its home.
-use Rattle.std.proofs.Common.{◌≡◌, ℕ, suc, ◌≤◌, Bool, true, false, cond, eqb, List, [], ◌∷◌, refl, sym, ap, ◌∙◌, arith, Option, Some, None, is_some, ◌==◌, if◌then◌else◌}
-use Rattle.std.specs.List.{find}
-use Rattle.std.specs.Option.{option_map}
-use Rattle.std.proofs.lemmas.Bool.{cond-true, cond-false, eqb-true}
+use Rattle.std.proofs.Common.{◌≡◌, ℕ, suc, ◌≤◌, Bool, true, false, cond, eqb, List, [], ◌∷◌, refl, sym, ap, ◌∙◌, arith, Option, Some, None, is_some, ◌==◌, if◌then◌else◌, find, option_map, eqb-true}
+use Rattle.std.proofs.lemmas.Bool.{cond-true, cond-false}
 use Rattle.execlist.specs.Lists.{home, is_at, times}
-use Rattle.timerdev.specs.Timing.{AtClock, AtSystem, Due, Timer, Waiting}
-use Rattle.timerdev.specs.Held.{due_at, due_for, due_in, waiting_for}
-use Rattle.timerdev.specs.DueTimes.{due_of}
+use Rattle.timerdev.specs.{Timing.AtClock, Timing.AtSystem, Timing.Due, Timing.Timer, Timing.Waiting, Held.due_at, Held.due_for, Held.due_in, Held.waiting_for, DueTimes.due_of}
 
 -- the due time that is found among requests that wait
 abbrev due_found : ℕ → List Waiting → Option Due

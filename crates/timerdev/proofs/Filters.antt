@@ -1,12 +1,10 @@
 -- The requests that pass a test, and the records of those that wait, if one more comes or one goes.
-use Rattle.std.proofs.Common.{◌≡◌, ℕ, zero, suc, ◌≤◌, Bool, true, false, cond, not, eqb, List, [], ◌∷◌, ◌++◌, refl, sym, ap, ◌∙◌, arith, inl, inr, ◌⊎◌, ◌||◌, IsTrue, filter}
-use Rattle.std.specs.List.{All, list_any}
-use Rattle.std.proofs.lemmas.Bool.{cond-true, cond-false, eq-eqb, ne_eqb, cases_eq}
-use Rattle.execlist.specs.Order.{without}
-use Rattle.execlist.specs.Lists.{times}
+use Rattle.std.proofs.Common.{◌≡◌, ℕ, zero, suc, ◌≤◌, Bool, true, false, cond, not, eqb, List, [], ◌∷◌, ◌++◌, refl, sym, ap, ◌∙◌, arith, inl, inr, ◌⊎◌, ◌||◌, IsTrue, filter, All, eq-eqb, ne_eqb}
+use Rattle.std.specs.List.{list_any}
+use Rattle.std.proofs.lemmas.Bool.{cond-true, cond-false, cases_eq}
+use Rattle.execlist.specs.{Order.without, Lists.times}
 use Rattle.execlist.proofs.PlainLemmas.{times_later}
-use Rattle.timerdev.specs.Timing.{Due, Waiting}
-use Rattle.timerdev.specs.Held.{waiting_for}
+use Rattle.timerdev.specs.{Timing.Due, Timing.Waiting, Held.waiting_for}
 use Rattle.timerdev.proofs.Times.{not_front, not_behind, stands_here}
 
 -- what holds of each request that is in a list holds at each place of it

@@ -1,6 +1,6 @@
 -- Where a request is, reported by its home.
-use Rattle.std.proofs.Common.{◌≡◌, ℕ, zero, suc, ◌<◌, ◌≤◌, cond, not, eqb, List, length, refl, sym, ap, ◌∙◌, arith, Option, Some, None, is_some, IsSome}
-use Rattle.std.proofs.lemmas.Bool.{cond-true, eq-eqb}
+use Rattle.std.proofs.Common.{◌≡◌, ℕ, zero, suc, ◌<◌, ◌≤◌, cond, not, eqb, List, length, refl, sym, ap, ◌∙◌, arith, Option, Some, None, is_some, IsSome, eq-eqb}
+use Rattle.std.proofs.lemmas.Bool.{cond-true}
 use Rattle.execlist.specs.Lists.{home, sequence, times, is_at}
 use Rattle.execlist.proofs.PlainLemmas.{home_header, home_known}
 

@@ -1,17 +1,10 @@
 -- What the code keeps of the requests that wait, if one more comes or one goes.
-use Rattle.std.proofs.Common.{◌≡◌, ℕ, suc, ◌<◌, ◌≤◌, Bool, true, false, cond, eqb, List, [], ◌∷◌, slice_set, refl, ap, ◌∙◌, arith, inl, inr, Some, None, ◌+◌, not, ◌++◌, length, sym, subst, Option, IfSome, is_some, slice_index_or, ◌⊎◌, ℤ, pos, neg_ℤ, int_lt, nat_le, find, fold, filter, IsSome, replicate}
-use Rattle.std.proofs.lemmas.Bool.{cond-false, cond-true, eq-eqb, ne_eqb, cases_eq, cases_lt}
-use Rattle.std.proofs.lemmas.Int.{ints}
-use Rattle.std.proofs.lemmas.List.{get_or-set_other, get_or-set_same, get_or-replicate, length-set, length-replicate, append-nil, get_or_past}
-use Rattle.execlist.specs.Order.{enqueue, first, is_lower, order, without}
-use Rattle.execlist.specs.Lists.{times, home, sequence, is_at}
-use Rattle.execlist.proofs.OrderLaws.{order_reads_keys, order_takes, order_leaves_out}
-use Rattle.execlist.proofs.PlainLemmas.{times_later, times-append, without_fresh, times_without, times_without_other}
-use Rattle.timerdev.specs.Held.{Rises, NoneBefore, due_at, sooner_of, Held, IsHeld, begun_in, due_for, due_in, on_timer, waiting_for}
-use Rattle.timerdev.proofs.Times.{is_front, stands_here, times_filter}
-use Rattle.timerdev.proofs.Filters.{all_that_stand, filter_joined, filter_left, waiting_joined, waiting_left}
-use Rattle.timerdev.specs.Timing.{AtClock, AtSystem, Due, Timer, Waiting}
-use Rattle.timerdev.proofs.Homes.{Stands, home_there}
+use Rattle.std.proofs.Common.{◌≡◌, ℕ, suc, ◌<◌, ◌≤◌, Bool, true, false, cond, eqb, List, [], ◌∷◌, slice_set, refl, ap, ◌∙◌, arith, inl, inr, Some, None, ◌+◌, not, ◌++◌, length, sym, subst, Option, IfSome, is_some, slice_index_or, ◌⊎◌, ℤ, pos, neg_ℤ, int_lt, nat_le, find, fold, filter, IsSome, replicate, eq-eqb, ne_eqb, get_or-set_other, get_or-set_same, length-set, append-nil}
+use Rattle.std.proofs.lemmas.{Bool.cond-false, Bool.cond-true, Bool.cases_eq, Bool.cases_lt, Int.ints, List.get_or-replicate, List.length-replicate, List.get_or_past}
+use Rattle.execlist.specs.{Order.enqueue, Order.first, Order.is_lower, Order.order, Order.without, Lists.times, Lists.home, Lists.sequence, Lists.is_at}
+use Rattle.execlist.proofs.{OrderLaws.order_reads_keys, OrderLaws.order_takes, OrderLaws.order_leaves_out, PlainLemmas.times_later, PlainLemmas.times-append, PlainLemmas.without_fresh, PlainLemmas.times_without, PlainLemmas.times_without_other}
+use Rattle.timerdev.specs.{Held.Rises, Held.NoneBefore, Held.due_at, Held.sooner_of, Held.Held, Held.IsHeld, Held.begun_in, Held.due_for, Held.due_in, Held.on_timer, Held.waiting_for, Timing.AtClock, Timing.AtSystem, Timing.Due, Timing.Timer, Timing.Waiting}
+use Rattle.timerdev.proofs.{Times.is_front, Times.stands_here, Times.times_filter, Filters.all_that_stand, Filters.filter_joined, Filters.filter_left, Filters.waiting_joined, Filters.waiting_left, Homes.Stands, Homes.home_there}
 
 -- ---- the requests of a header are by their times, and the first of them is due if any is
 

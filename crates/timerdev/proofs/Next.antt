@@ -1,19 +1,12 @@
 -- The request that finishes next is reported by the first of each header whose time has come.
-use Rattle.std.proofs.Common.{◌≡◌, ℕ, zero, suc, ◌-◌, ◌<◌, ◌≤◌, Bool, true, false, cond, not, eqb, List, [], ◌∷◌, length, refl, sym, ap, ◌∙◌, arith, inl, inr, Option, Some, None, is_some, ◌⊎◌, ◌||◌, ◌&&◌, ℤ, pos, neg_ℤ, ◌-ℤ◌, int_lt, nat_le, nat_lt, nat_eq, IsSome, filter, find, map}
+use Rattle.std.proofs.Common.{◌≡◌, ℕ, zero, suc, ◌-◌, ◌<◌, ◌≤◌, Bool, true, false, cond, not, eqb, List, [], ◌∷◌, length, refl, sym, ap, ◌∙◌, arith, inl, inr, Option, Some, None, is_some, ◌⊎◌, ◌||◌, ◌&&◌, ℤ, pos, neg_ℤ, ◌-ℤ◌, int_lt, nat_le, nat_lt, nat_eq, IsSome, filter, find, map, option_map, eq-eqb, ne_eqb, ltb-true, ltb-false, lt-ltb, le-ltb}
 use Rattle.std.specs.List.{list_any}
-use Rattle.std.specs.Option.{option_map}
-use Rattle.std.proofs.lemmas.Bool.{cond-true, eq-eqb, ne_eqb, cases_order, and_parts, ltb-true, ltb-false, lt-ltb, le-ltb}
-use Rattle.std.proofs.lemmas.Int.{ints}
-use Rattle.execlist.specs.Order.{chosen, chosen_or, is_lower}
-use Rattle.execlist.specs.Lists.{home, sequence, times, is_at}
-use Rattle.execlist.proofs.OrderLaws.{found_in_order}
-use Rattle.execlist.proofs.PlainLemmas.{home_known}
-use Rattle.execlist.proofs.Places.{at_home}
+use Rattle.std.proofs.lemmas.{Bool.cond-true, Bool.cases_order, Bool.and_parts, Int.ints}
+use Rattle.execlist.specs.{Order.chosen, Order.chosen_or, Order.is_lower, Lists.home, Lists.sequence, Lists.times, Lists.is_at}
+use Rattle.execlist.proofs.{OrderLaws.found_in_order, PlainLemmas.home_known, Places.at_home}
 use Rattle.timerdev.specs.Timing.{AtClock, AtSystem, Due, Timer, Waiting, due_next, has_come, is_system, moment, next_of, offset, sooner, until_next}
 use Rattle.timerdev.specs.Held.{IsHeld, begun_in, due_at, due_in, is_before, sooner_of, waiting_for}
-use Rattle.timerdev.proofs.Choice.{better, better_of_two, chosen_by_other, is_better}
-use Rattle.timerdev.proofs.Filters.{filter_agrees, waits_where_it_stands}
-use Rattle.timerdev.proofs.Homes.{Stands, home_there, has_home}
+use Rattle.timerdev.proofs.{Choice.better, Choice.better_of_two, Choice.chosen_by_other, Choice.is_better, Filters.filter_agrees, Filters.waits_where_it_stands, Homes.Stands, Homes.home_there, Homes.has_home}
 
 -- what is found is found by the same times
 pub found_by : {first : Option ℕ} {held dues : List ℕ} (time : ℕ) (queue : List ℕ) → first ≡ find (λ r. nat_le (due_at held r) time) queue → held ≡ dues

@@ -1,6 +1,6 @@
 -- How often a request is in a sequence.
-use Rattle.std.proofs.Common.{◌≡◌, ℕ, suc, ◌≤◌, Bool, true, false, cond, eqb, List, [], ◌∷◌, refl, ap, arith, inl, inr, ◌⊎◌, filter}
-use Rattle.std.proofs.lemmas.Bool.{cond-true, cond-false, eq-eqb, ne_eqb, cases_eq}
+use Rattle.std.proofs.Common.{◌≡◌, ℕ, suc, ◌≤◌, Bool, true, false, cond, eqb, List, [], ◌∷◌, refl, ap, arith, inl, inr, ◌⊎◌, filter, eq-eqb, ne_eqb}
+use Rattle.std.proofs.lemmas.Bool.{cond-true, cond-false, cases_eq}
 use Rattle.execlist.specs.Lists.{times}
 use Rattle.execlist.proofs.PlainLemmas.{times_later}
 

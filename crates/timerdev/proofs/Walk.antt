@@ -1,13 +1,10 @@
 -- A walk along the requests that wait, from the last of them to the first.
-use Rattle.std.proofs.Common.{length-append, ◌≡◌, ℕ, suc, ◌+◌, ◌<◌, ◌≤◌, true, false, not, eqb, List, [], ◌∷◌, ◌++◌, length, refl, sym, ap, ◌∙◌, subst, arith, inl, inr, Option, Some, None, ◌⊎◌}
-use Rattle.std.proofs.lemmas.Bool.{cond-true, cond-false, eq-eqb, ne_eqb, cases_eq}
-use Rattle.execlist.specs.Order.{enqueue}
-use Rattle.execlist.specs.Lists.{part_from, part_before, part_after, put_after, times, last}
+use Rattle.std.proofs.Common.{length-append, ◌≡◌, ℕ, suc, ◌+◌, ◌<◌, ◌≤◌, true, false, not, eqb, List, [], ◌∷◌, ◌++◌, length, refl, sym, ap, ◌∙◌, subst, arith, inl, inr, Option, Some, None, ◌⊎◌, eq-eqb, ne_eqb}
+use Rattle.std.proofs.lemmas.Bool.{cond-true, cond-false, cases_eq}
+use Rattle.execlist.specs.{Order.enqueue, Lists.part_from, Lists.part_before, Lists.part_after, Lists.put_after, Lists.times, Lists.last}
 use Rattle.timerdev.specs.Held.{Rises, due_at, is_before, sooner_of}
-use Rattle.execlist.proofs.Walks.{Once, from_before, from_last, upto, upto_before}
-use Rattle.execlist.proofs.PlainLemmas.{times_later, times-append}
-use Rattle.timerdev.proofs.Keeping.{is_later, is_not_later}
-use Rattle.timerdev.proofs.Times.{stands_here}
+use Rattle.execlist.proofs.{Walks.Once, Walks.from_before, Walks.from_last, Walks.upto, Walks.upto_before, PlainLemmas.times_later, PlainLemmas.times-append}
+use Rattle.timerdev.proofs.{Keeping.is_later, Keeping.is_not_later, Times.stands_here}
 
 -- a list falls into the parts round an item
 parts : (m : ℕ) (seq : List ℕ) → 1 ≤ times m seq → part_before m seq ++ m ∷ part_after m seq ≡ seq

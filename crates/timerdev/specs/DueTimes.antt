@@ -1,9 +1,6 @@
 -- The time for which a request waits.
-use Rattle.std.specs.Prelude.{ℕ, ◌==◌, Option}
-use Rattle.std.specs.List.{find}
-use Rattle.std.specs.Option.{option_map}
-use Rattle.timerdev.specs.Timing.{AtClock, AtSystem, Due, Timer, Waiting}
-use Rattle.timerdev.specs.declared.timer.readers.DueTime.{DueTime}
+use Rattle.std.specs.Prelude.{ℕ, ◌==◌, Option, find, option_map}
+use Rattle.timerdev.specs.{Timing.AtClock, Timing.AtSystem, Timing.Due, Timing.Timer, Timing.Waiting, declared.timer.readers.DueTime.DueTime}
 use Rattle.timerdev.specs.declared.timer.readers.DueTime.TheVariants as due
 
 abbrev pub due_view : DueTime → Due

@@ -1,7 +1,6 @@
 -- What the code of the timer keeps: each kind of request that waits by its time, and all of them in the order in which they were begun.
 use Rattle.std.specs.Prelude.{◌≡◌, ℕ, ℤ, pos, neg_ℤ, ◌<◌, ◌≤◌, ◌==◌, Bool, not, List, [], ◌∷◌, length, map, Option, Some, None, is_some, slice_index_or, filter, ⊤, if◌then◌else◌}
-use Rattle.execlist.specs.Lists.{home, is_at, part_before, sequence, times}
-use Rattle.execlist.specs.Order.{order}
+use Rattle.execlist.specs.{Lists.home, Lists.is_at, Lists.part_before, Lists.sequence, Lists.times, Order.order}
 use Rattle.timerdev.specs.Timing.{AtClock, AtSystem, Due, Timer, Waiting, waits_no_more}
 
 -- the timer, and for how many numbers of requests there is room

@@ -1,9 +1,8 @@
 -- What timer.device keeps: its clock, system time, and the requests that wait, each for a time of the clock or for a system time (Devices,
 -- timer device). A request is a number of whoever keeps it. The requests that wait are in the order in which they were begun, which is
 -- never sorted: of those whose time has come, the one that finishes next is the earliest among those of the first due time.
-use Rattle.std.specs.Prelude.{ℕ, ℤ, pos, neg_ℤ, ◌+◌, ◌-ℤ◌, ◌==◌, nat_le, Bool, true, false, not, ◌&&◌, List, [], ◌∷◌, ◌++◌, filter, Option}
+use Rattle.std.specs.Prelude.{ℕ, ℤ, pos, neg_ℤ, ◌+◌, ◌-ℤ◌, ◌==◌, nat_le, Bool, true, false, not, ◌&&◌, List, [], ◌∷◌, ◌++◌, filter, Option, option_map}
 use Rattle.std.specs.List.{list_any}
-use Rattle.std.specs.Option.{option_map}
 use Rattle.execlist.specs.Order.{chosen}
 
 -- the time for which a request waits, in microseconds

@@ -1,8 +1,7 @@
 //! Where a request goes among those that wait.
 ghost use Rattle.std.specs.Prelude.{◌≡◌, ℕ, ◌<◌, length, Some};
 ghost use Rattle.std.specs.Option.{ForSome};
-ghost use Rattle.execlist.specs.Order.{enqueue};
-ghost use Rattle.execlist.specs.Lists.{sequence, home, put_after};
+ghost use Rattle.execlist.specs.{Order.enqueue, Lists.sequence, Lists.home, Lists.put_after};
 ghost use Rattle.timerdev.specs.Held.{Rises, due_at, sooner_of};
 
 use execlist::space::{HeaderId, ListSpace, NodeId};

@@ -1,15 +1,11 @@
 -- An outcome of later ways, added to those of earlier ones, which are kept as a map from texts to tallies.
-use Rattle.std.proofs.Common.{◌≡◌, ◌∙◌, ℕ, Bool, true, false, cond, inl, inr, ◌+◌, List, [], ◌∷◌, None, Some, if◌then◌else◌, ap, ap₂, sym, bytes_eq}
-use Rattle.std.specs.Global.{Vec}
-use Rattle.std.specs.Map.{lookup, set_value}
-use Rattle.std.specs.String.{string_bytes}
+use Rattle.std.proofs.Common.{◌≡◌, ◌∙◌, ℕ, Bool, true, false, cond, inl, inr, ◌+◌, List, [], ◌∷◌, None, Some, if◌then◌else◌, ap, ap₂, sym, bytes_eq, string_bytes}
+use Rattle.std.specs.{Global.Vec, Map.lookup, Map.set_value}
 use Rattle.std.proofs.lemmas.Option.{none-some, same_Some}
 use Rattle.indexmap.specs.IndexMap.{insert_entry}
 use Rattle.ways.specs.Tables.{Entry, added}
-use Rattle.ways.proofs.Maps.{turned}
-use Rattle.ways.proofs.Merging.{either}
-use Rattle.wayreport.specs.Totals.{entry_in, entries_in}
-use Rattle.wayreport.specs.declared.total.Tally.{Tally}
+use Rattle.ways.proofs.{Maps.turned, Merging.either}
+use Rattle.wayreport.specs.{Totals.entry_in, Totals.entries_in, declared.total.Tally.Tally}
 
 abbrev both : Entry (List ℕ) → Entry (List ℕ) → Entry (List ℕ)
 both x e = record { seen = x.seen; count = x.count + e.count; first = x.first }

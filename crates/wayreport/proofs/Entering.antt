@@ -1,8 +1,7 @@
 -- The texts of entries, one more.
 use Rattle.std.proofs.Common.{◌≡◌, ◌∙◌, ℕ, ◌+◌, ◌<◌, List, ◌∷◌, ◌++◌, length, drop, get_or, map, ap, sym, subst, append_assoc}
 use Rattle.std.proofs.lemmas.List.{drop_more, get_or-map, length-map}
-use Rattle.wayreport.specs.Reports.{entries_text, entry_text, found_view}
-use Rattle.wayreport.specs.declared.report.Found.{Found}
+use Rattle.wayreport.specs.{Reports.entries_text, Reports.entry_text, Reports.found_view, declared.report.Found.Found}
 
 pub next_entry : (found : List Found) (i : ℕ) (one : Found) (before after all : List ℕ) → i < length found → one ≡ get_or found i one
     → after ≡ before ++ entry_text (i + 1) (found_view one) → before ++ entries_text (i + 1) (drop i (map found_view found)) ≡ all

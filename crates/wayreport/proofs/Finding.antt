@@ -1,8 +1,7 @@
 -- The report of a part, by its place.
 use Rattle.std.proofs.Common.{◌≡◌, ◌∙◌, ℕ, true, false, ◌+◌, ◌<◌, Bool, List, ◌∷◌, length, drop, get_or, if◌then◌else◌, ap, sym}
 use Rattle.std.proofs.lemmas.List.{drop_more}
-use Rattle.wayreport.specs.Sums.{is_numbered, outcomes_in, outcomes_of}
-use Rattle.wayreport.specs.declared.report.Report.{Report}
+use Rattle.wayreport.specs.{Sums.is_numbered, Sums.outcomes_in, Sums.outcomes_of, declared.report.Report.Report}
 
 at : (reports : List Report) (i number : ℕ) (r : Report) → i < length reports → r ≡ get_or reports i r
     → outcomes_in (drop i reports) number ≡ (if is_numbered number r.part then outcomes_of r else outcomes_in (drop (i + 1) reports) number)

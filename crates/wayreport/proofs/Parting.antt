@@ -1,16 +1,11 @@
 -- The tables of the parts of some ways, and that of all of them.
-use Rattle.std.proofs.Common.{◌≡◌, ◌∙◌, ℕ, zero, suc, true, false, ◌+◌, ◌*◌, ◌/◌, ◌-◌, ◌≤◌, List, [], ◌∷◌, ◌++◌, length, take, drop, map, if◌then◌else◌, refl, ap, ap₂, sym, arith, bytes_eq}
-use Rattle.std.proofs.Math.Nat.{mul-div_cancel, mul-suc, mul-zero, zero-div, div-mul-le_self}
+use Rattle.std.proofs.Common.{◌≡◌, ◌∙◌, ℕ, zero, suc, true, false, ◌+◌, ◌*◌, ◌/◌, ◌-◌, ◌≤◌, List, [], ◌∷◌, ◌++◌, length, take, drop, map, if◌then◌else◌, refl, ap, ap₂, sym, arith, bytes_eq, mul-div_cancel, mul-suc, mul-zero, div-mul-le_self, take_all}
+use Rattle.std.proofs.Math.Nat.{zero-div}
 use Rattle.std.proofs.lemmas.Nat.{le-div}
-use Rattle.std.proofs.lemmas.List.{take_all}
 use Rattle.taskscript.specs.declared.event.Event.{Event}
-use Rattle.ways.specs.Tables.{Entry, added, merged, table_of}
-use Rattle.ways.specs.Ways.{part_of}
+use Rattle.ways.specs.{Tables.Entry, Tables.added, Tables.merged, Tables.table_of, Ways.part_of}
 use Rattle.ways.proofs.Merging.{sum_of_parts}
-use Rattle.wayreport.specs.Parts.{part_numbered}
-use Rattle.wayreport.specs.Reports.{told}
-use Rattle.wayreport.specs.Sums.{outcomes_in, summed}
-use Rattle.wayreport.specs.declared.report.Report.{Report}
+use Rattle.wayreport.specs.{Parts.part_numbered, Reports.told, Sums.outcomes_in, Sums.summed, declared.report.Report.Report}
 
 -- ---- the texts of first ways make no difference to a sum
 

@@ -1,10 +1,7 @@
 -- The text of a way.
-use Rattle.std.specs.Prelude.{ℕ, ◌++◌, List, [], ◌∷◌, codes}
-use Rattle.std.specs.Fmt.{decimal}
-use Rattle.std.specs.List.{flat_map}
-use Rattle.taskscript.specs.Sources.{source_text}
-use Rattle.taskscript.specs.declared.event.Event.{Event}
+use Rattle.std.specs.Prelude.{ℕ, ◌++◌, List, [], ◌∷◌, codes, decimal, flat_map}
 use Rattle.taskscript.specs.declared.event.Event.TheVariants.{Run, Tick, Irq}
+use Rattle.taskscript.specs.{Sources.source_text, declared.event.Event.Event}
 
 -- an event, as an event text has it
 abbrev pub event_text : Event → List ℕ

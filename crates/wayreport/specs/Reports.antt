@@ -1,14 +1,8 @@
 -- What a report has in it, and its text.
-use Rattle.std.specs.Prelude.{◌≡◌, ℕ, ◌+◌, ◌==◌, ◌++◌, Bool, true, List, [], ◌∷◌, Option, None, Some, codes, length, map, if◌then◌else◌}
-use Rattle.std.specs.Fmt.{decimal}
-use Rattle.std.specs.String.{string_bytes}
+use Rattle.std.specs.Prelude.{◌≡◌, ℕ, ◌+◌, ◌==◌, ◌++◌, Bool, true, List, [], ◌∷◌, Option, None, Some, codes, length, map, if◌then◌else◌, decimal, string_bytes}
 use Rattle.taskscript.specs.declared.event.Event.{Event}
-use Rattle.ways.specs.Grouping.{grouped}
-use Rattle.ways.specs.Tables.{Entry}
-use Rattle.wayreport.specs.Events.{listed}
-use Rattle.wayreport.specs.declared.report.Found.{Found}
-use Rattle.wayreport.specs.declared.report.Part.{Part}
-use Rattle.wayreport.specs.declared.report.Report.{Report}
+use Rattle.ways.specs.{Grouping.grouped, Tables.Entry}
+use Rattle.wayreport.specs.{Events.listed, declared.report.Found.Found, declared.report.Part.Part, declared.report.Report.Report}
 
 -- ---- what is in it
 

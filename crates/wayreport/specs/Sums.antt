@@ -1,10 +1,7 @@
 -- The sum of the reports of all parts.
-use Rattle.std.specs.Prelude.{◌≡◌, ℕ, zero, suc, nat_eq, if◌then◌else◌, Bool, false, All, List, [], ◌∷◌, length, map, Option, None, Some, sum_by}
-use Rattle.std.specs.String.{string_bytes}
+use Rattle.std.specs.Prelude.{◌≡◌, ℕ, zero, suc, nat_eq, if◌then◌else◌, Bool, false, All, List, [], ◌∷◌, length, map, Option, None, Some, sum_by, string_bytes}
 use Rattle.ways.specs.Tables.{Entry, merged}
-use Rattle.wayreport.specs.Reports.{found_view}
-use Rattle.wayreport.specs.declared.report.Part.{Part}
-use Rattle.wayreport.specs.declared.report.Report.{Report}
+use Rattle.wayreport.specs.{Reports.found_view, declared.report.Part.Part, declared.report.Report.Report}
 
 -- whether a report is of the part of this number
 abbrev pub is_numbered : ℕ → Option Part → Bool

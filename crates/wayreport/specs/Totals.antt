@@ -1,7 +1,6 @@
 -- The entries that tallies represent.
-use Rattle.std.specs.Prelude.{ℕ, List, map}
+use Rattle.std.specs.Prelude.{ℕ, List, map, string_bytes}
 use Rattle.std.specs.Global.{Vec}
-use Rattle.std.specs.String.{string_bytes}
 use Rattle.ways.specs.Tables.{Entry}
 use Rattle.wayreport.specs.declared.total.Tally.{Tally}
 

@@ -1,7 +1,5 @@
 //! The text of a way: the fewest events that ask for its actions.
-ghost use Rattle.std.specs.Prelude.{◌≡◌, ◌++◌, IfOk, OnOk, codes};
-ghost use Rattle.std.specs.List.{flat_map};
-ghost use Rattle.std.specs.String.{string_bytes};
+ghost use Rattle.std.specs.Prelude.{◌≡◌, ◌++◌, IfOk, OnOk, codes, flat_map, string_bytes};
 ghost use Rattle.ways.specs.Grouping.{grouped};
 ghost use Rattle.wayreport.specs.Events.{event_line, event_text, listed, marked_event};
 

@@ -2,10 +2,7 @@
 ghost use Rattle.std.specs.Prelude.{◌≡◌, ◌≤◌, [], ℕ, List, map};
 ghost use Rattle.taskscript.specs.declared.event.Event.{Event};
 ghost use Rattle.ways.specs.Tables.{table_of};
-ghost use Rattle.wayreport.specs.Parts.{part_numbered};
-ghost use Rattle.wayreport.specs.Reports.{told};
-ghost use Rattle.wayreport.specs.Sums.{outcomes_in, summed};
-ghost use Rattle.wayreport.specs.declared.report.Report.{Report};
+ghost use Rattle.wayreport.specs.{Parts.part_numbered, Reports.told, Sums.outcomes_in, Sums.summed, declared.report.Report.Report};
 
 /// If each report has the outcomes of its part of some ways, the sum of the reports of all parts has the outcomes of all ways.
 pub fn sum_of_all_parts()

@@ -1,6 +1,5 @@
 //! The reading of a report.
-ghost use Rattle.std.specs.Prelude.{◌≡◌, All, IfOk, OnOk};
-ghost use Rattle.std.specs.String.{string_bytes};
+ghost use Rattle.std.specs.Prelude.{◌≡◌, All, IfOk, OnOk, string_bytes};
 ghost use Rattle.wayreport.specs.Reports.{IsFirst, report_view, text_of};
 
 use crate::events::first_text;

@@ -1,6 +1,5 @@
 //! What a report has in it.
-ghost use Rattle.std.specs.Prelude.{◌≡◌, ◌++◌, [], map, take, IfOk, OnOk};
-ghost use Rattle.std.specs.String.{string_bytes};
+ghost use Rattle.std.specs.Prelude.{◌≡◌, ◌++◌, [], map, take, IfOk, OnOk, string_bytes};
 ghost use Rattle.ways.specs.Entries.{entry_of, entries_of};
 ghost use Rattle.wayreport.specs.Reports.{found_view, told};
 

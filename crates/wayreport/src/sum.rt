@@ -1,9 +1,7 @@
 //! The sum of the reports of all parts: the report of the whole.
-ghost use Rattle.std.specs.Prelude.{◌≡◌, ◌+◌, ◌≤◌, ◌<◌, true, All, IfOk, IfSome, OnOk, length, map, sum_by};
-ghost use Rattle.std.specs.String.{string_bytes};
+ghost use Rattle.std.specs.Prelude.{◌≡◌, ◌+◌, ◌≤◌, ◌<◌, true, All, IfOk, IfSome, OnOk, length, map, sum_by, string_bytes};
 ghost use Rattle.ways.specs.Tables.{merged};
-ghost use Rattle.wayreport.specs.Reports.{found_view};
-ghost use Rattle.wayreport.specs.Sums.{IsPartOf, IsSum, is_numbered, outcomes_in, outcomes_of, parts_of, summed};
+ghost use Rattle.wayreport.specs.{Reports.found_view, Sums.IsPartOf, Sums.IsSum, Sums.is_numbered, Sums.outcomes_in, Sums.outcomes_of, Sums.parts_of, Sums.summed};
 
 use crate::report::{Found, Part, Report};
 use crate::total::Total;

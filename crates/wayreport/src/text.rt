@@ -1,6 +1,5 @@
 //! The text of a report.
-ghost use Rattle.std.specs.Prelude.{◌≡◌, ◌+◌, ◌==◌, ◌++◌, Bool, true, IfOk, OnOk, map, codes};
-ghost use Rattle.std.specs.String.{string_bytes};
+ghost use Rattle.std.specs.Prelude.{◌≡◌, ◌+◌, ◌==◌, ◌++◌, Bool, true, IfOk, OnOk, map, codes, string_bytes};
 ghost use Rattle.wayreport.specs.Reports.{digest_lines, entries_text, entry_line, entry_text, found_view, head_text, indented, outcomes_text, part_text, report_view, seen_lines, text_of, title_line, ways_text};
 
 use crate::report::{Found, Part, Report};

@@ -1,9 +1,7 @@
 //! The outcomes of several parts, each text once.
-ghost use Rattle.std.specs.Prelude.{◌≡◌, [], map, IfOk, OnOk};
-ghost use Rattle.std.specs.String.{string_bytes};
+ghost use Rattle.std.specs.Prelude.{◌≡◌, [], map, IfOk, OnOk, string_bytes};
 ghost use Rattle.ways.specs.Tables.{added};
-ghost use Rattle.wayreport.specs.Reports.{found_view};
-ghost use Rattle.wayreport.specs.Totals.{entries_in};
+ghost use Rattle.wayreport.specs.{Reports.found_view, Totals.entries_in};
 
 use crate::report::Found;
 use crate::sum::SumFault;

@@ -3,13 +3,8 @@ use Rattle.std.proofs.Common.{◌≡◌, ◌∙◌, ℕ, zero, suc, Bool, true, 
 use Rattle.exectrace.specs.Trace.{printed}
 use Rattle.scheduler.specs.Schedule.{Schedule, task_count}
 use Rattle.execmodel.specs.State.{Outcome, Scripts, State}
-use Rattle.execsim.specs.Agreement.{Agrees, Seen, in_order}
-use Rattle.execsim.specs.Headline.{flow_of}
-use Rattle.execsim.specs.declared.machine.Flow.{Flow}
-use Rattle.execsim.specs.Standing.{runs_text, standing_text, wait_text, waits_text}
-use Rattle.wayrun.specs.Seen.{ending, last_in}
-use Rattle.wayrun.specs.SoFar.{stops}
-use Rattle.wayrun.specs.declared.see.See.{See}
+use Rattle.execsim.specs.{Agreement.Agrees, Agreement.Seen, Agreement.in_order, Headline.flow_of, declared.machine.Flow.Flow, Standing.runs_text, Standing.standing_text, Standing.wait_text, Standing.waits_text}
+use Rattle.wayrun.specs.{Seen.ending, Seen.last_in, SoFar.stops, declared.see.See.See}
 use Rattle.wayrun.proofs.Steps.{stops_flow}
 
 -- in which order the ready tasks are kept makes no difference

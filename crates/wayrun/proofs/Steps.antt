@@ -1,26 +1,12 @@
 -- A run that goes on by one event.
-use Rattle.std.proofs.Common.{◌≡◌, ◌≢◌, ◌∙◌, ℕ, ◌+◌, ◌*◌, ◌^◌, ◌<◌, ◌≤◌, Bool, true, false, List, [], ◌∷◌, ◌++◌, take, drop, get_or, length, refl, ap, ap₂, sym, subst, append_assoc, arith, sum_by}
-use Rattle.std.specs.Prelude.{Result, Ok, Err, IsOk, Option, Some}
-use Rattle.std.proofs.lemmas.List.{append-nil, take_more, drop_more, take_all}
-use Rattle.std.proofs.lemmas.List.Sums.{sum_by-cons}
-use Rattle.exectrace.specs.Sink.{Tape, TakesAll}
-use Rattle.exectrace.specs.Trace.{TraceLine, printed}
-use Rattle.exectrace.specs.declared.sinks.WriteFault.{WriteFault}
-use Rattle.taskscript.specs.File.{MachineData}
-use Rattle.taskscript.specs.Events.{ticks as ticks_of}
-use Rattle.taskscript.specs.declared.event.Event.{Event}
-use Rattle.execmodel.specs.State.{State, Outcome, Mark, quiet, andthen, booted}
-use Rattle.execmodel.specs.Step.{starts, event, events, run}
+use Rattle.std.proofs.Common.{◌≡◌, ◌≢◌, ◌∙◌, ℕ, ◌+◌, ◌*◌, ◌^◌, ◌<◌, ◌≤◌, Bool, true, false, List, [], ◌∷◌, ◌++◌, take, drop, get_or, length, refl, ap, ap₂, sym, subst, append_assoc, arith, sum_by, Result, Ok, Err, IsOk, Option, Some, append-nil, take_all}
+use Rattle.std.proofs.lemmas.{List.take_more, List.drop_more, List.Sums.sum_by-cons}
+use Rattle.exectrace.specs.{Sink.Tape, Sink.TakesAll, Trace.TraceLine, Trace.printed, declared.sinks.WriteFault.WriteFault, declared.sinks.SinkState.SinkState, declared.sinks.SinkState.TheVariants.Good}
+use Rattle.taskscript.specs.{File.MachineData, Events.ticks as ticks_of, declared.event.Event.Event}
+use Rattle.execmodel.specs.{State.State, State.Outcome, State.Mark, State.quiet, State.andthen, State.booted, Step.starts, Step.event, Step.events, Step.run}
 use Rattle.execmodel.proofs.Moments.{events_more}
-use Rattle.execsim.specs.Agreement.{Seen, Agrees}
-use Rattle.execsim.specs.Time.{HasTimeFor}
-use Rattle.execsim.specs.Headline.{Shown, Acts, flow_of}
-use Rattle.execsim.specs.declared.machine.Flow.{Flow}
-use Rattle.exectrace.specs.declared.sinks.SinkState.{SinkState}
-use Rattle.exectrace.specs.declared.sinks.SinkState.TheVariants.{Good}
-use Rattle.wayrun.specs.Texts.{last_of, shown_of, whole_lines}
-use Rattle.wayrun.specs.declared.see.See.{See}
-use Rattle.wayrun.specs.SoFar.{so_far, stops}
+use Rattle.execsim.specs.{Agreement.Seen, Agreement.Agrees, Time.HasTimeFor, Headline.Shown, Headline.Acts, Headline.flow_of, declared.machine.Flow.Flow}
+use Rattle.wayrun.specs.{Texts.last_of, Texts.shown_of, Texts.whole_lines, declared.see.See.See, SoFar.so_far, SoFar.stops}
 use Rattle.wayrun.proofs.Texts.{last-append, shown-append}
 
 pub whole_is_run : (machine : MachineData) (list : List Event) → so_far machine list ≡ run machine list

@@ -1,12 +1,8 @@
 -- Texts that end in a line feed, by their lines.
-use Rattle.std.proofs.Common.{◌≡◌, ◌≢◌, ◌∙◌, ◌<◌, length, arith, ℕ, suc, Bool, ◌==◌, true, false, List, [], ◌∷◌, ◌++◌, if◌then◌else◌, codes, refl, ap, ap₂, sym, append_assoc}
-use Rattle.std.specs.List.{flat_map}
-use Rattle.std.proofs.lemmas.List.{append-nil}
-use Rattle.std.proofs.lemmas.Bool.Decides.{nat_tests}
-use Rattle.std.proofs.lemmas.Grind.{flat_map-append}
+use Rattle.std.proofs.Common.{◌≡◌, ◌≢◌, ◌∙◌, ◌<◌, length, arith, ℕ, suc, Bool, ◌==◌, true, false, List, [], ◌∷◌, ◌++◌, if◌then◌else◌, codes, refl, ap, ap₂, sym, append_assoc, flat_map, append-nil}
+use Rattle.std.proofs.lemmas.{Bool.Decides.nat_tests, Grind.flat_map-append}
 use Rattle.exectrace.specs.Trace.{TraceLine, Switch, Idle, Call, Serve, Timer, Server, Softint, Alert, printed, printed_line, argument_text, outcome_text, value_text}
-use Rattle.wayrun.specs.Texts.{IsCut, IsPart, whole_lines, last_line, last_of, shown_line, shown_of}
-use Rattle.wayrun.specs.declared.see.See.{See}
+use Rattle.wayrun.specs.{Texts.IsCut, Texts.IsPart, Texts.whole_lines, Texts.last_line, Texts.last_of, Texts.shown_line, Texts.shown_of, declared.see.See.See}
 
 pub whole_lines-append : (begun xs ys : List ℕ) → whole_lines begun (xs ++ ys) ≡ whole_lines begun xs ++ whole_lines (last_line begun xs) ys
 whole_lines-append begun [] ys = refl

@@ -2,15 +2,12 @@
 -- one, at the end; any other has who runs, and the line of the call of each task that waits.
 use Rattle.std.specs.Prelude.{ℕ, Bool, true, false, List, [], ◌∷◌, ◌++◌}
 use Rattle.exectrace.specs.Trace.{printed}
-use Rattle.taskscript.specs.File.{MachineData}
-use Rattle.taskscript.specs.declared.event.Event.{Event}
+use Rattle.taskscript.specs.{File.MachineData, declared.event.Event.Event}
 use Rattle.scheduler.specs.Schedule.{Schedule}
-use Rattle.execmodel.specs.State.{Outcome, Scripts}
-use Rattle.execmodel.specs.Step.{run}
+use Rattle.execmodel.specs.{State.Outcome, State.Scripts, Step.run}
 use Rattle.execsim.specs.Standing.{standing_text}
-use Rattle.wayrun.specs.Texts.{last_of, shown_of, whole_lines}
-use Rattle.wayrun.specs.declared.see.See.{See}
 use Rattle.wayrun.specs.declared.see.See.TheVariants.{End, Prints, Trace}
+use Rattle.wayrun.specs.{Texts.last_of, Texts.shown_of, Texts.whole_lines, declared.see.See.See}
 
 -- the line of an alert, which a trace has among its lines
 abbrev pub alert_text : See → List ℕ → List ℕ

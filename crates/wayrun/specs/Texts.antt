@@ -1,9 +1,8 @@
 -- The lines of a text, and which of them are shown.
-use Rattle.std.specs.Prelude.{◌≡◌, ◌≢◌, ◌<◌, ℕ, Bool, ◌==◌, List, [], ◌∷◌, ◌++◌, Option, Some, None, codes, bytes_eq, length, slice_index, take, if◌then◌else◌}
-use Rattle.std.specs.List.{flat_map}
+use Rattle.std.specs.Prelude.{◌≡◌, ◌≢◌, ◌<◌, ℕ, Bool, ◌==◌, List, [], ◌∷◌, ◌++◌, Option, Some, None, codes, bytes_eq, length, slice_index, take, if◌then◌else◌, flat_map}
+use Rattle.wayrun.specs.declared.see.See.TheVariants.{End, Prints, Trace}
 use Rattle.wayrun.specs.declared.see.See.{See}
 use Rattle.std.specs.Borrow.{Bor}
-use Rattle.wayrun.specs.declared.see.See.TheVariants.{End, Prints, Trace}
 
 -- the lines of some bytes that end in a line feed, of which the first was begun before
 abbrev pub whole_lines : List ℕ → List ℕ → List (List ℕ)

@@ -1,6 +1,5 @@
 //! The lines of a trace that are shown.
-ghost use Rattle.std.specs.Prelude.{◌≡◌, ◌++◌, ◌∷◌, [], OnOk};
-ghost use Rattle.std.specs.List.{flat_map};
+ghost use Rattle.std.specs.Prelude.{◌≡◌, ◌++◌, ◌∷◌, [], OnOk, flat_map};
 ghost use Rattle.wayrun.specs.Texts.{IsCutAt, is_print, last_line, last_of, shown_line, whole_lines};
 
 use crate::see::See;

@@ -1,7 +1,6 @@
 //! Room for the lines of one event.
 ghost use Rattle.std.specs.Prelude.{◌≡◌, [], Some};
-ghost use Rattle.exectrace.specs.Sink.{Tape};
-ghost use Rattle.exectrace.specs.declared.sinks.SinkState.{SinkState};
+ghost use Rattle.exectrace.specs.{Sink.Tape, declared.sinks.SinkState.SinkState};
 
 use exectrace::{Sink, SinkFault, SinkState};
 use std::alloc::Global;

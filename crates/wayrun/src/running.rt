@@ -2,14 +2,9 @@
 ghost use Rattle.std.specs.Prelude.{◌≡◌, ◌≤◌, ◌++◌, false, IfOk, OnOk, sum_by};
 ghost use Rattle.exectrace.specs.declared.sinks.SinkState.{SinkState};
 ghost use Rattle.taskscript.specs.Events.{ticks as ticks_of};
-ghost use Rattle.execmodel.specs.State.{booted};
-ghost use Rattle.execmodel.specs.Step.{run};
-ghost use Rattle.execsim.specs.Agreement.{Agrees};
-ghost use Rattle.execsim.specs.Headline.{flow_of};
-ghost use Rattle.execsim.specs.Standing.{standing_text};
-ghost use Rattle.execsim.specs.Time.{HasTimeFor};
-ghost use Rattle.wayrun.specs.Seen.{alert_text, ending, seen_of};
-ghost use Rattle.wayrun.specs.SoFar.{stops};
+ghost use Rattle.execmodel.specs.{State.booted, Step.run};
+ghost use Rattle.execsim.specs.{Agreement.Agrees, Headline.flow_of, Standing.standing_text, Time.HasTimeFor};
+ghost use Rattle.wayrun.specs.{Seen.alert_text, Seen.ending, Seen.seen_of, SoFar.stops};
 
 use crate::lines::{keep_lines, push_line};
 use crate::room::Room;

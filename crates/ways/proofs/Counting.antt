@@ -1,7 +1,7 @@
 -- How many ways there are.
-use Rattle.std.proofs.Common.{◌≡◌, ◌∙◌, ℕ, zero, suc, ◌+◌, ◌*◌, ◌^◌, ◌<◌, List, [], ◌∷◌, length, refl, ap, ap₂, sym, arith}
-use Rattle.std.proofs.Math.Nat.{pow-suc, pow-zero}
-use Rattle.std.proofs.lemmas.List.{length-append, length-map}
+use Rattle.std.proofs.Common.{◌≡◌, ◌∙◌, ℕ, zero, suc, ◌+◌, ◌*◌, ◌^◌, ◌<◌, List, [], ◌∷◌, length, refl, ap, ap₂, sym, arith, pow-suc, length-append}
+use Rattle.std.proofs.Math.Nat.{pow-zero}
+use Rattle.std.proofs.lemmas.List.{length-map}
 use Rattle.ways.specs.Ways.{exactly, with_before, with_each, ways, choose, count, count_all}
 
 pub length-with_each : {E : Type 0} (kinds : List E) (ws : List (List E)) → length (with_each kinds ws) ≡ length kinds * length ws

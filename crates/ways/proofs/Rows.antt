@@ -1,9 +1,7 @@
 -- Rows of numbers of ways.
-use Rattle.std.proofs.Common.{◌≡◌, ◌∙◌, ℕ, zero, suc, ◌+◌, ◌*◌, ◌-◌, ◌<◌, ◌⊎◌, inl, inr, List, [], ◌∷◌, ◌++◌, length, get_or, Option, None, Some, refl, ap, ap₂, sym, subst, arith}
-use Rattle.std.proofs.lemmas.List.{get_or_append_left, get_or-append-add, get_or_push, length_push}
-use Rattle.std.proofs.lemmas.Nat.{mul-add-lt}
-use Rattle.ways.specs.Ways.{count}
-use Rattle.ways.specs.Rows.{IsRow, AreRows, number_of}
+use Rattle.std.proofs.Common.{◌≡◌, ◌∙◌, ℕ, zero, suc, ◌+◌, ◌*◌, ◌-◌, ◌<◌, ◌⊎◌, inl, inr, List, [], ◌∷◌, ◌++◌, length, get_or, Option, None, Some, refl, ap, ap₂, sym, subst, arith, get_or-append-add}
+use Rattle.std.proofs.lemmas.{List.get_or_append_left, List.get_or_push, List.length_push, Nat.mul-add-lt}
+use Rattle.ways.specs.{Ways.count, Rows.IsRow, Rows.AreRows, Rows.number_of}
 
 less_or_last : (j r : ℕ) → j < r + 1 → (j < r) ⊎ (j ≡ r)
 less_or_last zero zero lt = inr refl

@@ -1,8 +1,6 @@
 -- Ways one by one, and their number.
-use Rattle.std.proofs.Common.{◌≡◌, ◌∙◌, ℕ, suc, ◌+◌, ◌-◌, ◌<◌, ◌≤◌, List, [], ◌∷◌, ◌++◌, map, length, take, drop, get_or, refl, ap, ap₂, sym, append_assoc, arith}
-use Rattle.std.specs.List.{fold}
-use Rattle.std.proofs.lemmas.List.{append-nil, map-append, map-id, drop_more, drop_all, take_more, take-append-le, length_push}
-use Rattle.std.proofs.lemmas.Grind.{fold-append, flat_map-append}
+use Rattle.std.proofs.Common.{◌≡◌, ◌∙◌, ℕ, suc, ◌+◌, ◌-◌, ◌<◌, ◌≤◌, List, [], ◌∷◌, ◌++◌, map, length, take, drop, get_or, refl, ap, ap₂, sym, append_assoc, arith, fold, append-nil, map-id}
+use Rattle.std.proofs.lemmas.{List.map-append, List.drop_more, List.drop_all, List.take_more, List.take-append-le, List.length_push, Grind.fold-append, Grind.flat_map-append}
 use Rattle.ways.specs.Ways.{exactly, with_before, with_each, ways}
 
 module _ {E : Type 0} where

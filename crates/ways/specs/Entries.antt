@@ -2,9 +2,7 @@
 use Rattle.std.specs.Prelude.{ℕ, List, map}
 use Rattle.std.specs.Global.{Vec}
 use Rattle.taskscript.specs.declared.event.Event.{Event}
-use Rattle.ways.specs.Tables.{Entry}
-use Rattle.ways.specs.declared.table.Outcome.{Outcome}
-use Rattle.ways.specs.declared.table.Tally.{Tally}
+use Rattle.ways.specs.{Tables.Entry, declared.table.Outcome.Outcome, declared.table.Tally.Tally}
 
 abbrev pub entry_of : Outcome → Entry (List Event)
 entry_of o = record { seen = o.seen.items; count = o.count; first = o.first.items }

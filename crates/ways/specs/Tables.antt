@@ -1,6 +1,5 @@
 -- What is seen of some ways: an entry for each different text, by first sight.
-use Rattle.std.specs.Prelude.{Bool, Option, None, Some, ℕ, ◌+◌, List, [], ◌∷◌, bytes_eq, if◌then◌else◌}
-use Rattle.std.specs.List.{fold}
+use Rattle.std.specs.Prelude.{Bool, Option, None, Some, ℕ, ◌+◌, List, [], ◌∷◌, bytes_eq, if◌then◌else◌, fold}
 
 -- a text that was seen, how many ways show it, and the first of them
 pub record Entry (W : Type 0) : Type 0 where

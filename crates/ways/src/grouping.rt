@@ -1,7 +1,6 @@
 //! The actions that events ask for, and the fewest events that ask for some actions.
 ghost use Rattle.std.specs.Prelude.{◌≡◌, ◌+◌, ◌++◌, IfOk, OnOk, replicate};
-ghost use Rattle.ways.specs.Ways.{actions, actions_in};
-ghost use Rattle.ways.specs.Grouping.{Joins, grouped, joined};
+ghost use Rattle.ways.specs.{Ways.actions, Ways.actions_in, Grouping.Joins, Grouping.grouped, Grouping.joined};
 
 use std::alloc::{AllocError, Global};
 use taskscript::Event;

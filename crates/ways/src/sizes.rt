@@ -1,7 +1,6 @@
 //! How many ways each subtree has.
 ghost use Rattle.std.specs.Prelude.{◌≡◌, ◌≤◌, ◌<◌, ◌*◌, ◌+◌, ℕ, get_or, length, IfSome, IfOk, suc, None, Some, ◌-◌, ◌/◌};
-ghost use Rattle.ways.specs.Ways.{count, count_all};
-ghost use Rattle.ways.specs.Rows.{IsRow, AreRows, number_of};
+ghost use Rattle.ways.specs.{Ways.count, Ways.count_all, Rows.IsRow, Rows.AreRows, Rows.number_of};
 
 use crate::visiting::Window;
 use std::alloc::{AllocError, Global};

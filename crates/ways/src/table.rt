@@ -1,8 +1,7 @@
 //! The table of what is seen: an outcome for each different text, in the order in which they are first seen.
 ghost use Rattle.std.specs.Prelude.{◌≡◌, [], ℕ, length, OnOk, IfOk};
 ghost use Rattle.taskscript.specs.declared.event.Event.{Event};
-ghost use Rattle.ways.specs.Tables.{noted};
-ghost use Rattle.ways.specs.Entries.{entries_in, entries_of};
+ghost use Rattle.ways.specs.{Tables.noted, Entries.entries_in, Entries.entries_of};
 
 use crate::fault::SearchFault;
 use indexmap::IndexMap;
@@ -35,10 +34,9 @@ pub struct Table {
 }
 
 impl Model for Table {
-    ghost use Rattle.ways.specs.Entries.{entries_in};
+    ghost use Rattle.ways.specs.{Entries.entries_in, Tables.Entry};
     ghost use Rattle.std.specs.Prelude.{List};
     ghost use Rattle.taskscript.specs.declared.event.Event.{Event};
-    ghost use Rattle.ways.specs.Tables.{Entry};
 
     ghost Value = { List (Entry (List Event)) };
 

@@ -1,10 +1,7 @@
 //! Shows each way, and notes what is seen.
 ghost use Rattle.std.specs.Prelude.{◌≡◌, ◌≤◌, ◌+◌, [], Bool, IfOk, OnOk, List, ℕ, length};
 ghost use Rattle.taskscript.specs.declared.event.Event.{Event};
-ghost use Rattle.ways.specs.Ways.{ways as ways_of, part_of};
-ghost use Rattle.ways.specs.Tables.{noted, number_where, one_if, table_of};
-ghost use Rattle.ways.specs.Entries.{entries_of};
-ghost use Rattle.ways.specs.Tabled.{Tabled};
+ghost use Rattle.ways.specs.{Ways.ways as ways_of, Ways.part_of, Tables.noted, Tables.number_where, Tables.one_if, Tables.table_of, Entries.entries_of, Tabled.Tabled};
 
 use crate::fault::SearchFault;
 use crate::sizes::Sizes;
@@ -48,8 +45,7 @@ pub struct Tabler<S: Show, P: Watcher> {
 }
 
 impl<S: Show, P: Watcher> Model for Tabler<S, P> {
-    ghost use Rattle.ways.specs.Tabled.{Tabled};
-    ghost use Rattle.ways.specs.Entries.{entries_of};
+    ghost use Rattle.ways.specs.{Tabled.Tabled, Entries.entries_of};
 
     ghost Value = { Tabled S };
 

@@ -1,9 +1,7 @@
 //! Visits each way of a part once, in their order, with no list of ways in memory.
-ghost use Rattle.std.specs.Prelude.{◌≡◌, ◌++◌, ◌≤◌, ◌<◌, List, map, drop, length, OnOk};
-ghost use Rattle.std.specs.List.{fold};
+ghost use Rattle.std.specs.Prelude.{◌≡◌, ◌++◌, ◌≤◌, ◌<◌, List, map, drop, length, OnOk, fold};
 ghost use Rattle.taskscript.specs.declared.event.Event.{Event};
-ghost use Rattle.ways.specs.Ways.{exactly, with_each, ways, passes, part_of};
-ghost use Rattle.ways.specs.Windows.{passing};
+ghost use Rattle.ways.specs.{Ways.exactly, Ways.with_each, Ways.ways, Ways.passes, Ways.part_of, Windows.passing};
 
 use crate::fault::SearchFault;
 use crate::sizes::Sizes;

@@ -1,9 +1,7 @@
 //! Libraries, and the blocks into which they are loaded: by number, and opened, closed and removed by address (RKM Libraries, Exec Libraries).
 ghost use Rattle.std.specs.Prelude.{◌≡◌, None, Some, IfSome, IsTrue, IfOk, OnErr, OnOk};
 ghost use Rattle.execlib.specs.Libraries.{close_fault, count_of, is_loaded};
-ghost use Rattle.execheap.specs.Table.{base_at, library_at};
-ghost use Rattle.execheap.specs.Numbered.{IsKnown, shown_memory, shown_heap};
-ghost use Rattle.execheap.specs.Refusals.{alert_of};
+ghost use Rattle.execheap.specs.{Table.base_at, Table.library_at, Numbered.IsKnown, Numbered.shown_memory, Numbered.shown_heap, Refusals.alert_of};
 ghost use Rattle.execmodel.specs.Libraries as model;
 
 use crate::heap::Heap;

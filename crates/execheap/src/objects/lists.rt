@@ -1,16 +1,9 @@
 //! Lists and nodes: by number, with the blocks in which they live; how they are found by address; and the calls by address.
 ghost use Rattle.std.specs.Prelude.{◌≡◌, [], None, Some, find, map, option_map, IfOk, IfSome, IsSome, OnErr, OnOk};
 ghost use Rattle.std.specs.Option.{ForSome};
-ghost use Rattle.execlist.specs.Order.{first};
-ghost use Rattle.execlist.specs.Lists.{home, is_named, last, part_after, part_before, part_from, sequence};
-ghost use Rattle.execlist.specs.Pool.{slot};
-ghost use Rattle.execmodel.specs.State.{ListHead, Node, on_heap};
-ghost use Rattle.execmodel.specs.Memory.{freed, placed};
-ghost use Rattle.execmodel.specs.GivingWay.{after_asking_for_object};
-ghost use Rattle.execmodel.specs.Objects.{place_for_object};
-ghost use Rattle.execheap.specs.Numbered.{IsKnown, places, shown_memory, address_in, shown_heap};
-ghost use Rattle.execheap.specs.Changes.{key_with, at_head, at_tail, queued, put, taken_out, head_taken, tail_taken};
-ghost use Rattle.execheap.specs.Refusals.{alert_of, is_none_or_in};
+ghost use Rattle.execlist.specs.{Order.first, Lists.home, Lists.is_named, Lists.last, Lists.part_after, Lists.part_before, Lists.part_from, Lists.sequence, Pool.slot};
+ghost use Rattle.execmodel.specs.{State.ListHead, State.Node, State.on_heap, Memory.freed, Memory.placed, GivingWay.after_asking_for_object, Objects.place_for_object};
+ghost use Rattle.execheap.specs.{Numbered.IsKnown, Numbered.places, Numbered.shown_memory, Numbered.address_in, Numbered.shown_heap, Changes.key_with, Changes.at_head, Changes.at_tail, Changes.queued, Changes.put, Changes.taken_out, Changes.head_taken, Changes.tail_taken, Refusals.alert_of, Refusals.is_none_or_in};
 ghost use Rattle.execheap.specs.declared.tag.Kind.TheVariants as variant;
 ghost use Rattle.execmodel.specs.Lists as model;
 

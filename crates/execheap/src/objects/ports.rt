@@ -1,20 +1,11 @@
 //! Ports and messages: by number, with the blocks in which they live; how they are found by address; and the calls by address.
 ghost use Rattle.std.specs.Prelude.{◌≡◌, ◌<◌, ◌≤◌, not, [], None, Some, IfSome, IsSome, IsTrue, ◌≢◌, IfOk, option_map, OnErr, OnOk, find};
-ghost use Rattle.execlist.specs.Order.{first};
-ghost use Rattle.execlist.specs.Lists.{home};
-ghost use Rattle.execlist.specs.Pool.{slot};
-ghost use Rattle.msgport.specs.Port.{acting, new_port};
+ghost use Rattle.execlist.specs.{Order.first, Lists.home, Pool.slot};
 ghost use Rattle.msgport.specs.Ports.{has_messages, is_message, is_port, is_public, message_at, messages_of, new_message, port_at, made_private, made_public, nt_freemsg, nt_message, nt_replymsg, posted, taken_off, typed, with_message, with_port};
-ghost use Rattle.execmodel.specs.State.{Message, MsgPort, on_heap};
-ghost use Rattle.execmodel.specs.Memory.{freed, placed};
-ghost use Rattle.execmodel.specs.GivingWay.{after_asking_for_object};
-ghost use Rattle.execmodel.specs.Objects.{place_for_object};
-ghost use Rattle.execheap.specs.Numbered.{message_places, places, shown_memory, IsKnown, address_in, shown_heap};
-ghost use Rattle.execheap.specs.Changes.{on_ports};
+ghost use Rattle.msgport.specs.Port.{acting, new_port};
+ghost use Rattle.execmodel.specs.{State.Message, State.MsgPort, State.on_heap, Memory.freed, Memory.placed, GivingWay.after_asking_for_object, Objects.place_for_object, Lists.or_none};
+ghost use Rattle.execheap.specs.{Numbered.message_places, Numbered.places, Numbered.shown_memory, Numbered.IsKnown, Numbered.address_in, Numbered.shown_heap, Changes.on_ports, Refusals.alert_of, Listing.listed, Listing.replied_by, Listing.replying};
 ghost use Rattle.std.specs.Option.{ForSome};
-ghost use Rattle.execmodel.specs.Lists.{or_none};
-ghost use Rattle.execheap.specs.Refusals.{alert_of};
-ghost use Rattle.execheap.specs.Listing.{listed, replied_by, replying};
 ghost use Rattle.execmodel.specs.Ports as model;
 ghost use Rattle.execheap.specs.declared.tag.Kind.TheVariants as variant;
 

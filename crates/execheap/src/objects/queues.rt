@@ -1,18 +1,14 @@
 //! What is in a queue, one after another: the nodes of a list, the messages of a port, the tasks that wait for a semaphore; and where a
 //! message, a request and a public port are. Nothing here changes any of them.
-ghost use Rattle.std.specs.Prelude.{◌≡◌, ◌≢◌, ℕ, find, map, None, Some, IfSome, IsSome, IsTrue, MatchOption};
-ghost use Rattle.std.specs.Option.{option_map};
-ghost use Rattle.execlist.specs.Lists.{is_named, part_from, sequence};
-ghost use Rattle.execlist.specs.Order.{first};
-ghost use Rattle.execlist.specs.Pool.{slot};
+ghost use Rattle.std.specs.Prelude.{◌≡◌, ◌≢◌, ℕ, find, map, None, Some, IfSome, IsSome, IsTrue, MatchOption, option_map};
+ghost use Rattle.execlist.specs.{Lists.is_named, Lists.part_from, Lists.sequence, Order.first, Pool.slot};
 ghost use Rattle.msgport.specs.Ports.{is_message, is_port, messages_of};
 ghost use Rattle.sigsem.specs.Semaphores.{is_sem, waiters_of};
 ghost use Rattle.timerdev.specs.DueTimes.{due_of, due_view};
 ghost use Rattle.execmodel.specs.Lists as lists;
 ghost use Rattle.execmodel.specs.Ports as ports;
 ghost use Rattle.execmodel.specs.Semaphores as semaphores;
-ghost use Rattle.execheap.specs.Numbered.{IsKnown, address_in, message_places, places, shown_heap, shown_timer};
-ghost use Rattle.execheap.specs.Queues.{port_named, port_with};
+ghost use Rattle.execheap.specs.{Numbered.IsKnown, Numbered.address_in, Numbered.message_places, Numbered.places, Numbered.shown_heap, Numbered.shown_timer, Queues.port_named, Queues.port_with};
 ghost use Rattle.execheap.specs.declared.tag.Kind.TheVariants as variant;
 
 use crate::heap::Heap;

@@ -1,12 +1,9 @@
 //! What is seen of the memory, of the objects in it and of the timer, by number and by address. Nothing here changes any of them.
-ghost use Rattle.std.specs.Prelude.{◌≡◌, slice_get};
-ghost use Rattle.std.specs.Option.{option_map};
+ghost use Rattle.std.specs.Prelude.{◌≡◌, slice_get, option_map};
 ghost use Rattle.execlist.specs.Lists.{key_at};
 ghost use Rattle.memlist.specs.Readers.{gap_from as first_from, gaps_in};
 ghost use Rattle.execmodel.specs.Memory.{block_at};
-ghost use Rattle.execheap.specs.BlockViews.{block_view, object_view, port_view};
-ghost use Rattle.execheap.specs.Queues.{gap_from};
-ghost use Rattle.execheap.specs.Numbered.{object_of, shown_heap, shown_tagged};
+ghost use Rattle.execheap.specs.{BlockViews.block_view, BlockViews.object_view, BlockViews.port_view, Queues.gap_from, Numbered.object_of, Numbered.shown_heap, Numbered.shown_tagged};
 ghost use Rattle.msgport.specs.Ports.{port_at};
 
 use crate::heap::Heap;

@@ -1,23 +1,12 @@
 //! Requests and the timer: by number, with the blocks in which they live and their replies; how they are found by address; and the calls
 //! by address (RKM Devices, Introduction to Amiga System Devices; Devices, timer device).
 ghost use Rattle.std.specs.Prelude.{◌≡◌, ◌<◌, ◌≤◌, ◌+◌, ◌^◌, false, negsuc, None, Some, IfSome, IsSome, IsTrue, length, option_map, IfOk, true, OnErr, OnOk};
-ghost use Rattle.execlist.specs.Lists.{home};
-ghost use Rattle.execlist.specs.Pool.{slot};
-ghost use Rattle.iorequest.specs.declared.request.ReqState.TheVariants.{Replied};
-ghost use Rattle.iorequest.specs.Request.{finished, idle_request, is_open, is_under_way, reply_port, time_of};
-ghost use Rattle.iorequest.specs.Requests.{closed, is_request, opened, request_at, unit_error, with_request, written_with};
+ghost use Rattle.execlist.specs.{Lists.home, Pool.slot};
+ghost use Rattle.iorequest.specs.{declared.request.ReqState.TheVariants.Replied, Request.finished, Request.idle_request, Request.is_open, Request.is_under_way, Request.reply_port, Request.time_of, Requests.closed, Requests.is_request, Requests.opened, Requests.request_at, Requests.unit_error, Requests.with_request, Requests.written_with};
 ghost use Rattle.msgport.specs.Ports.{is_message, is_port, is_queued};
 ghost use Rattle.timerdev.specs.Timing.{due_next, looked_at, ticked, until_next};
-ghost use Rattle.execmodel.specs.State.{Request, on_heap, on_timer};
-ghost use Rattle.execmodel.specs.Memory.{freed, placed};
-ghost use Rattle.execmodel.specs.GivingWay.{after_asking_for_object};
-ghost use Rattle.execmodel.specs.Objects.{place_for_object};
-ghost use Rattle.execheap.specs.Changes.{reserved};
-ghost use Rattle.execheap.specs.Numbered.{IsKnown, message_of_request, places, shown_memory, shown_heap};
-ghost use Rattle.execheap.specs.Requesting.{on_requests, on_timing};
-ghost use Rattle.execmodel.specs.Ports.{port_of, port_alert};
-ghost use Rattle.execheap.specs.Refusals.{alert_of};
-ghost use Rattle.execheap.specs.Listing.{IsSignal, aborted, aborting, acting_begun, awaited_for, ended_if, finishing, taken_if_replied};
+ghost use Rattle.execmodel.specs.{State.Request, State.on_heap, State.on_timer, Memory.freed, Memory.placed, GivingWay.after_asking_for_object, Objects.place_for_object, Ports.port_of, Ports.port_alert};
+ghost use Rattle.execheap.specs.{Changes.reserved, Numbered.IsKnown, Numbered.message_of_request, Numbered.places, Numbered.shown_memory, Numbered.shown_heap, Requesting.on_requests, Requesting.on_timing, Refusals.alert_of, Listing.IsSignal, Listing.aborted, Listing.aborting, Listing.acting_begun, Listing.awaited_for, Listing.ended_if, Listing.finishing, Listing.taken_if_replied};
 ghost use Rattle.execmodel.specs.Requests as model;
 ghost use Rattle.execheap.specs.declared.tag.Kind.TheVariants as variant;
 ghost use Rattle.execheap.specs.Requesting as next;

@@ -2,8 +2,7 @@
 ghost use Rattle.std.specs.Prelude.{◌≡◌, ◌↔◌, [], map, true};
 ghost use Rattle.taskscript.specs.Records.{library_view};
 ghost use Rattle.timerdev.specs.Timing.{new_timer};
-ghost use Rattle.execheap.specs.Numbered.{shown_library, shown_memory};
-ghost use Rattle.execheap.specs.Resetting.{IsAsLarge};
+ghost use Rattle.execheap.specs.{Numbered.shown_library, Numbered.shown_memory, Resetting.IsAsLarge};
 
 use crate::objects::Objects;
 use execlist::space::ListSpace;

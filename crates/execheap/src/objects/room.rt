@@ -1,8 +1,7 @@
 //! The room for the objects of a memory beside its table, if none is made yet: for a group of kinds each a function, since each part that
 //! can fail multiplies the proof.
 ghost use Rattle.std.specs.Prelude.{◌≡◌, ◌≤◌, ◌+◌, [], None, replicate, IfOk};
-ghost use Rattle.execlist.specs.Lists.{blank};
-ghost use Rattle.execlist.specs.Pool.{all_free};
+ghost use Rattle.execlist.specs.{Lists.blank, Pool.all_free};
 ghost use Rattle.msgport.specs.Ports.{no_ports};
 ghost use Rattle.sigsem.specs.Semaphores.{no_sems};
 ghost use Rattle.timerdev.specs.Timing.{new_timer};

@@ -20,7 +20,7 @@ struct Row {
     y: Px,
     /// Where the source was requested, if it was not served yet.
     asked: Option<Px>,
-    /// From where there is room for a name.
+    /// From which place on there is room for a name.
     free: Px,
 }
 

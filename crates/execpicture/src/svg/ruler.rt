@@ -133,7 +133,7 @@ fn shows_clock(scene: &Scene<'_>, column: u32, turn: Turn) -> bool {
     column == 0 || matches!(turn, Turn::Tick)
 }
 
-/// Writes what the clock shows, where there is room for it.
+/// Writes what the clock shows, if there is room for it.
 fn write_clock(scene: &Scene<'_>, plan: &Plan<'_>, page: &mut Page) {
     let mut free = Px(0);
     for column in scene.columns.iter() {

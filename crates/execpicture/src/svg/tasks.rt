@@ -119,7 +119,7 @@ fn write_priority(pri: i8, page: &mut Page) {
     write!(page, "{pri}</text>\n")
 }
 
-/// Writes the name of a task at the left of its row: behind its number if the row is dense, or else above its number and its priority.
+/// Writes the name of a task at the left of its row: after its number if the row is dense, or else above its number and its priority.
 fn write_name(scene: &Scene<'_>, plan: &Plan<'_>, t: usize, page: &mut Page) {
     let Some(task) = scene.file.machine.tasks().get(t) else {
         return;

@@ -1,13 +1,9 @@
 //! What is in the queues of a machine, one after another, and where a message, a request and a public port are; and the free memory. Nothing
 //! here changes the machine, and nothing takes memory. Each call may be made between any two events.
-ghost use Rattle.std.specs.Prelude.{◌≡◌};
-ghost use Rattle.std.specs.Option.{option_map};
-ghost use Rattle.execlist.specs.Lists.{part_from};
-ghost use Rattle.execlist.specs.Order.{first};
+ghost use Rattle.std.specs.Prelude.{◌≡◌, option_map};
+ghost use Rattle.execlist.specs.{Lists.part_from, Order.first};
 ghost use Rattle.timerdev.specs.DueTimes.{due_of, due_view};
-ghost use Rattle.execmodel.specs.Lists.{nodes_of};
-ghost use Rattle.execmodel.specs.Ports.{messages_of};
-ghost use Rattle.execmodel.specs.Semaphores.{waiters_of};
+ghost use Rattle.execmodel.specs.{Lists.nodes_of, Ports.messages_of, Semaphores.waiters_of};
 ghost use Rattle.execheap.specs.Queues.{gap_from, port_named, port_with};
 
 use super::Machine;

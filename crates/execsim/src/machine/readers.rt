@@ -1,16 +1,11 @@
 //! What a machine shows: its tasks, the ready ones, its variables, its clock, and the interrupts that are pending. Nothing here changes the
 //! machine, and nothing takes memory. Each call may be made between any two events.
-ghost use Rattle.std.specs.Prelude.{◌≡◌, IfSome, is_some, length, nat_lt, option_copied, slice_get};
-ghost use Rattle.std.specs.Option.{option_map};
-ghost use Rattle.execlist.specs.Lists.{part_from};
-ghost use Rattle.execlist.specs.Order.{first};
+ghost use Rattle.std.specs.Prelude.{◌≡◌, IfSome, is_some, length, nat_lt, option_copied, slice_get, option_map};
+ghost use Rattle.execlist.specs.{Lists.part_from, Order.first};
 ghost use Rattle.scheduler.specs.Schedule.{name_of};
 ghost use Rattle.execheap.specs.BlockViews.{block_view};
-ghost use Rattle.execmodel.specs.Memory.{block_at};
-ghost use Rattle.execmodel.specs.State.{program_of};
-ghost use Rattle.execsim.specs.Actions.{softint_seen};
-ghost use Rattle.execsim.specs.Readers.{actor_seen, machine_view, task_seen};
-ghost use Rattle.execsim.specs.Views.{call_view};
+ghost use Rattle.execmodel.specs.{Memory.block_at, State.program_of};
+ghost use Rattle.execsim.specs.{Actions.softint_seen, Readers.actor_seen, Readers.machine_view, Readers.task_seen, Views.call_view};
 
 use super::Machine;
 use crate::call::Call;

@@ -1,8 +1,7 @@
 //! What is seen of ports and messages. Nothing here changes them.
 ghost use Rattle.std.specs.Prelude.{◌≡◌, Some, IfSome, IsTrue};
 ghost use Rattle.std.specs.Option.{ForSome};
-ghost use Rattle.execlist.specs.Lists.{home, part_from};
-ghost use Rattle.execlist.specs.Order.{first};
+ghost use Rattle.execlist.specs.{Lists.home, Lists.part_from, Order.first};
 ghost use Rattle.msgport.specs.Ports.{is_message, is_port, message_at, messages_of, port_at};
 
 use super::{MsgId, PortId, Ports};

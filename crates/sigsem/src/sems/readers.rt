@@ -1,8 +1,7 @@
 //! What is seen of semaphores. Nothing here changes them.
 ghost use Rattle.std.specs.Prelude.{◌≡◌, ◌<◌, IfSome, IsTrue, length};
 ghost use Rattle.std.specs.Option.{ForSome};
-ghost use Rattle.execlist.specs.Lists.{part_from};
-ghost use Rattle.execlist.specs.Order.{first};
+ghost use Rattle.execlist.specs.{Lists.part_from, Order.first};
 ghost use Rattle.sigsem.specs.Semaphores.{is_sem, sem_at, waiters_of};
 
 use super::{FREE, SemId, Sems};

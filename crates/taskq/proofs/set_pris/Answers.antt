@@ -1,7 +1,6 @@
 -- One more priority is set.
 use Rattle.std.proofs.Common.{rules, ◌<◌, ◌+◌, ℕ, Option, None, take, length, map, slice_index_or, sym, ap, ◌∙◌, arith, pos, w8, SFits}
-use Rattle.std.proofs.lemmas.Int.{to_z-of_z}
-use Rattle.std.proofs.lemmas.List.{get_or-map, length-map, length-replicate}
+use Rattle.std.proofs.lemmas.{Int.to_z-of_z, List.get_or-map, List.length-map, List.length-replicate}
 use Rattle.taskq.proofs.TaskLemmas.{pris_set}
 use Rattle.taskq.specs.Tasks.{pris_of}
 use Rattle.taskq.proofs.set_pris.Goals as goal

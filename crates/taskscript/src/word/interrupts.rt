@@ -1,7 +1,6 @@
 //! Words of interrupts (RKM Libraries, Exec Interrupts).
 ghost use Rattle.std.specs.Prelude.{◌≡◌};
-ghost use Rattle.taskscript.specs.InterruptWords.{interrupt_row};
-ghost use Rattle.taskscript.specs.Rows.{row_view};
+ghost use Rattle.taskscript.specs.{InterruptWords.interrupt_row, Rows.row_view};
 
 use crate::word::Word;
 use crate::word::row::{Kind, Row};

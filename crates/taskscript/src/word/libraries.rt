@@ -1,7 +1,6 @@
 //! Words of libraries (RKM Libraries, Exec Libraries).
 ghost use Rattle.std.specs.Prelude.{◌≡◌};
-ghost use Rattle.taskscript.specs.LibraryWords.{library_row};
-ghost use Rattle.taskscript.specs.Rows.{row_view};
+ghost use Rattle.taskscript.specs.{LibraryWords.library_row, Rows.row_view};
 
 use crate::word::Word;
 use crate::word::row::{Kind, Row};

@@ -1,7 +1,6 @@
 //! Words of lists and nodes (RKM Libraries, Exec Lists and Queues).
 ghost use Rattle.std.specs.Prelude.{◌≡◌};
-ghost use Rattle.taskscript.specs.ListWords.{list_row};
-ghost use Rattle.taskscript.specs.Rows.{row_view};
+ghost use Rattle.taskscript.specs.{ListWords.list_row, Rows.row_view};
 
 use crate::word::Word;
 use crate::word::row::{Kind, Row};

@@ -1,7 +1,6 @@
 //! Words of memory (RKM Libraries, Exec Memory Allocation).
 ghost use Rattle.std.specs.Prelude.{◌≡◌};
-ghost use Rattle.taskscript.specs.MemoryWords.{memory_row};
-ghost use Rattle.taskscript.specs.Rows.{row_view};
+ghost use Rattle.taskscript.specs.{MemoryWords.memory_row, Rows.row_view};
 
 use crate::word::Word;
 use crate::word::row::{Kind, Row};

@@ -1,7 +1,6 @@
 //! Words of Forbid and Disable (RKM Libraries, Exec Tasks: forbidding task switching).
 ghost use Rattle.std.specs.Prelude.{◌≡◌};
-ghost use Rattle.taskscript.specs.NestingWords.{nesting_row};
-ghost use Rattle.taskscript.specs.Rows.{row_view};
+ghost use Rattle.taskscript.specs.{NestingWords.nesting_row, Rows.row_view};
 
 use crate::word::Word;
 use crate::word::row::Row;

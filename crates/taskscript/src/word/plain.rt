@@ -1,7 +1,6 @@
 //! Plain words: they set variables, calculate, jump and print, and ask nothing of Exec.
 ghost use Rattle.std.specs.Prelude.{◌≡◌};
-ghost use Rattle.taskscript.specs.PlainWords.{plain_row};
-ghost use Rattle.taskscript.specs.Rows.{row_view};
+ghost use Rattle.taskscript.specs.{PlainWords.plain_row, Rows.row_view};
 
 use crate::word::Word;
 use crate::word::row::{Kind, Row};

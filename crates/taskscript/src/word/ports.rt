@@ -1,7 +1,6 @@
 //! Words of message ports and messages (RKM Libraries, Exec Messages and Ports).
 ghost use Rattle.std.specs.Prelude.{◌≡◌};
-ghost use Rattle.taskscript.specs.PortWords.{port_row};
-ghost use Rattle.taskscript.specs.Rows.{row_view};
+ghost use Rattle.taskscript.specs.{PortWords.port_row, Rows.row_view};
 
 use crate::word::Word;
 use crate::word::row::{Kind, Row};

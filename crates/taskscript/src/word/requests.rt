@@ -1,7 +1,6 @@
 //! Words of requests of timer.device (RKM Devices, Introduction to Amiga System Devices; Devices, timer device).
 ghost use Rattle.std.specs.Prelude.{◌≡◌};
-ghost use Rattle.taskscript.specs.RequestWords.{request_row};
-ghost use Rattle.taskscript.specs.Rows.{row_view};
+ghost use Rattle.taskscript.specs.{RequestWords.request_row, Rows.row_view};
 
 use crate::word::Word;
 use crate::word::row::{Kind, Row};

@@ -1,7 +1,6 @@
 //! Words of signal semaphores (RKM Libraries, Exec Semaphores).
 ghost use Rattle.std.specs.Prelude.{◌≡◌};
-ghost use Rattle.taskscript.specs.Rows.{row_view};
-ghost use Rattle.taskscript.specs.SemaphoreWords.{semaphore_row};
+ghost use Rattle.taskscript.specs.{Rows.row_view, SemaphoreWords.semaphore_row};
 
 use crate::word::Word;
 use crate::word::row::{Kind, Row};

@@ -1,7 +1,6 @@
 //! Words of signals (RKM Libraries, Exec Signals).
 ghost use Rattle.std.specs.Prelude.{◌≡◌};
-ghost use Rattle.taskscript.specs.SignalWords.{signal_row};
-ghost use Rattle.taskscript.specs.Rows.{row_view};
+ghost use Rattle.taskscript.specs.{SignalWords.signal_row, Rows.row_view};
 
 use crate::word::Word;
 use crate::word::row::{Kind, Row};

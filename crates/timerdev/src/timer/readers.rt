@@ -1,8 +1,6 @@
 //! What is seen of a request that waits. Nothing here changes it.
-ghost use Rattle.std.specs.Prelude.{◌≡◌, ◌<◌};
-ghost use Rattle.std.specs.Option.{option_map};
-ghost use Rattle.timerdev.specs.DueTimes.{due_of, due_view};
-ghost use Rattle.timerdev.specs.Held.{due_for};
+ghost use Rattle.std.specs.Prelude.{◌≡◌, ◌<◌, option_map};
+ghost use Rattle.timerdev.specs.{DueTimes.due_of, DueTimes.due_view, Held.due_for};
 
 use super::{ReqId, Timer};
 use crate::place::SYSTEM;

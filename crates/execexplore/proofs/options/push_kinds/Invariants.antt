@@ -1,7 +1,5 @@
 -- What is left is still to be added.
-use Rattle.std.proofs.Common.{◌≡◌, ◌++◌, drop}
-use Rattle.std.specs.List.{flat_map}
-use Rattle.std.specs.String.{string_bytes}
+use Rattle.std.proofs.Common.{◌≡◌, ◌++◌, drop, flat_map, string_bytes}
 use Rattle.execexplore.specs.Reporting.{marked_kind}
 use Rattle.execexplore.proofs.options.push_kinds.Given as goal
 

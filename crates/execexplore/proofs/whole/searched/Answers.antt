@@ -3,9 +3,7 @@ use Rattle.std.proofs.Common.{◌≡◌, ◌∙◌, ℕ, List, [], ap, ap₂, sy
 use Rattle.std.specs.Global.{Vec}
 use Rattle.std.proofs.lemmas.Option.{none-some}
 use Rattle.taskscript.specs.declared.event.Event.{Event}
-use Rattle.ways.specs.Ways.{part_of, ways}
-use Rattle.ways.specs.Tables.{Entry, number_where, table_of}
-use Rattle.ways.specs.Entries.{entries_of}
+use Rattle.ways.specs.{Ways.part_of, Ways.ways, Tables.Entry, Tables.number_where, Tables.table_of, Entries.entries_of}
 use Rattle.wayrun.specs.Seen.{is_alerted, seen_of}
 use Rattle.wayreport.specs.Reports.{text_of}
 use Rattle.execexplore.specs.Reporting.{report_with}

@@ -1,12 +1,10 @@
 -- One more library is the same.
-use Rattle.std.proofs.Common.{◌≡◌, ◌<◌, true, false, length, map, slice_get, Some, refl, ap, arith, sym, ◌∙◌}
-use Rattle.std.specs.Prelude.{option_map}
+use Rattle.std.proofs.Common.{◌≡◌, ◌<◌, true, false, length, map, slice_get, Some, refl, ap, arith, sym, ◌∙◌, option_map}
 use Rattle.std.proofs.lemmas.Option.{slice_get_read, slice_get-map}
 use Rattle.taskscript.specs.Records.{library_view}
 use Rattle.execlib.specs.Libraries.{description_of}
 use Rattle.execheap.specs.Numbered.{shown_library}
-use Rattle.execheap.proofs.Alike.{same_more}
-use Rattle.execheap.proofs.Entries.{some_same}
+use Rattle.execheap.proofs.{Alike.same_more, Entries.some_same}
 use Rattle.execheap.proofs.table.are_libraries.Goals as goal
 
 pub loop-i-preserved : goal.loop-i-preserved

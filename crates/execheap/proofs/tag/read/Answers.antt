@@ -1,10 +1,6 @@
 -- A tag is read as it is defined: a library, nothing, or by the kind of its last three bits.
-use Rattle.std.proofs.Common.{◌≡◌, ℕ, zero, suc, ◌-◌, ◌/◌, ◌%◌, ◌<◌, ap, sym, ◌∙◌, arith}
-use Rattle.std.specs.Prelude.{Option, None, Some, if◌then◌else◌, slice_get}
-use Rattle.std.proofs.lemmas.Bool.{lt-ltb, le-ltb}
-use Rattle.execheap.specs.declared.tag.Kind.{Kind}
-use Rattle.execheap.specs.declared.tag.Tagged.TheVariants.{Library}
-use Rattle.execheap.specs.Tags.{kinds, libraries, object_or_plain, object_tagged, tagged}
+use Rattle.std.proofs.Common.{◌≡◌, ℕ, zero, suc, ◌-◌, ◌/◌, ◌%◌, ◌<◌, ap, sym, ◌∙◌, arith, Option, None, Some, if◌then◌else◌, slice_get, lt-ltb, le-ltb}
+use Rattle.execheap.specs.{declared.tag.Kind.Kind, declared.tag.Tagged.TheVariants.Library, Tags.kinds, Tags.libraries, Tags.object_or_plain, Tags.object_tagged, Tags.tagged}
 use Rattle.execheap.proofs.tag.read.Goals as goal
 
 below : (tag : ℕ) → tag < libraries → tagged tag ≡ object_tagged tag

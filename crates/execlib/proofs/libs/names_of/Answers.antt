@@ -1,6 +1,6 @@
 -- One more node is linked, with the name of its library.
-use Rattle.std.proofs.Common.{◌<◌, ◌+◌, length, map, slice_set, take, sym, ◌∙◌, ap, arith, [], ◌∷◌, ◌++◌, Some}
-use Rattle.std.proofs.lemmas.List.{get_or-map, length-map, length-set}
+use Rattle.std.proofs.Common.{◌<◌, ◌+◌, length, map, slice_set, take, sym, ◌∙◌, ap, arith, [], ◌∷◌, ◌++◌, Some, length-set}
+use Rattle.std.proofs.lemmas.List.{get_or-map, length-map}
 use Rattle.execlist.specs.Lists.{blank, home, sequence}
 use Rattle.execlist.proofs.PlainLemmas.{one_more}
 use Rattle.execlib.specs.Libraries.{no_library, description_of, key_of}

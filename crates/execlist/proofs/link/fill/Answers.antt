@@ -1,7 +1,6 @@
 -- One key of a new node more is stored.
 use Rattle.std.proofs.Common.{◌≡◌, ◌≤◌, ◌+◌, ◌-◌, [], ◌∷◌, ◌++◌, length, replicate, ap, ◌∙◌, arith, is_ok, if◌then◌else◌}
-use Rattle.execlist.specs.Lists.{blank}
-use Rattle.execlist.specs.DigestKeys.{digest_keys_of}
+use Rattle.execlist.specs.{Lists.blank, DigestKeys.digest_keys_of}
 use Rattle.execlist.proofs.KeyLemmas.{pushed, stored-length}
 use Rattle.execlist.proofs.link.fill.Goals as goal
 

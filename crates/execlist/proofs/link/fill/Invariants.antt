@@ -1,8 +1,6 @@
 -- As many keys of new nodes were stored as numbers were gone through.
-use Rattle.std.proofs.Common.{◌≡◌, ◌≤◌, ◌+◌, ◌-◌, ◌++◌, length, replicate}
-use Rattle.execlist.specs.Lists.{blank}
-use Rattle.execlist.specs.DigestKeys.{digest_keys_of}
-use Rattle.std.specs.Vec.{vec_capacity}
+use Rattle.std.proofs.Common.{◌≡◌, ◌≤◌, ◌+◌, ◌-◌, ◌++◌, length, replicate, vec_capacity}
+use Rattle.execlist.specs.{Lists.blank, DigestKeys.digest_keys_of}
 use Rattle.execlist.proofs.link.fill.Given as goal
 
 abbrev pub invariant-loop-n : goal.invariant-loop-n

@@ -1,7 +1,6 @@
 -- No node from here on is one of the header.
 use Rattle.std.proofs.Common.{◌≡◌, ◌≤◌, take, length}
-use Rattle.execlist.specs.Lists.{last}
-use Rattle.execlist.specs.Plain.{nodes_of}
+use Rattle.execlist.specs.{Lists.last, Plain.nodes_of}
 use Rattle.execlist.proofs.plain.last_of.Given as goal
 
 abbrev pub invariant-loop-i : goal.invariant-loop-i

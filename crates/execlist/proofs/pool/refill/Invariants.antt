@@ -1,7 +1,6 @@
 -- The numbers so far are in the stack.
-use Rattle.std.proofs.Common.{◌≡◌, ◌≤◌}
+use Rattle.std.proofs.Common.{◌≡◌, ◌≤◌, vec_capacity}
 use Rattle.std.specs.List.{range_with_len}
-use Rattle.std.specs.Vec.{vec_capacity}
 use Rattle.execlist.proofs.pool.refill.Given as goal
 
 abbrev pub invariant-loop-n : goal.invariant-loop-n

@@ -1,7 +1,6 @@
 -- A node of another header has no successor there.
 use Rattle.std.proofs.Common.{cond, ap, sym, ◌∙◌}
-use Rattle.execlist.specs.Order.{first}
-use Rattle.execlist.specs.Lists.{sequence, part_from, is_at}
+use Rattle.execlist.specs.{Order.first, Lists.sequence, Lists.part_from, Lists.is_at}
 use Rattle.execlist.proofs.Walks.{stops}
 use Rattle.execlist.proofs.walk.next_node.Goals as goal
 

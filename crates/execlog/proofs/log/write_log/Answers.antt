@@ -1,6 +1,5 @@
 -- All was put, and the sink says whether it took all of it.
-use Rattle.std.proofs.Common.{◌≡◌, ℕ, List, true, false, ◌∙◌, ap, subst, sym}
-use Rattle.std.specs.Prelude.{is_ok}
+use Rattle.std.proofs.Common.{◌≡◌, ℕ, List, true, false, ◌∙◌, ap, subst, sym, is_ok}
 use Rattle.exectrace.specs.Sink.{Puts}
 use Rattle.execlog.proofs.Logging.{page_ends, wrote_all, wrote_part}
 use Rattle.execlog.proofs.log.write_log.Goals as goal

@@ -1,6 +1,5 @@
 -- The two parts are all cells.
-use Rattle.std.proofs.Common.{◌≡◌, ◌-◌, List, ℕ, take, drop, arith, length-drop}
-use Rattle.std.proofs.lemmas.List.{take_all}
+use Rattle.std.proofs.Common.{◌≡◌, ◌-◌, List, ℕ, take, drop, arith, length-drop, take_all}
 use Rattle.execlog.proofs.Sheets.{two_parts}
 use Rattle.execlog.proofs.moves.write_cells.Goals as goal
 

@@ -1,6 +1,5 @@
 -- The two moves write the text, and what is after it is kept.
-use Rattle.std.proofs.Common.{◌≡◌, ◌≤◌, ◌+◌, ◌-◌, ℕ, length, take, drop, refl, ap, sym, ◌∙◌, length-drop, arith}
-use Rattle.std.proofs.lemmas.List.{length-take-le}
+use Rattle.std.proofs.Common.{◌≡◌, ◌≤◌, ◌+◌, ◌-◌, ℕ, length, take, drop, refl, ap, sym, ◌∙◌, length-drop, arith, length-take-le}
 use Rattle.exectrace.proofs.Drafts.{both_ends}
 use Rattle.execlog.proofs.Sheets.{kept_after}
 use Rattle.execlog.proofs.moves.write_ends.Goals as goal

@@ -1,8 +1,7 @@
 -- The first of the spaces are that many.
 use Rattle.std.proofs.Common.{ℕ, List, ◌+◌, ◌-◌, ◌++◌, ◌∙◌, take, replicate, ap, arith, sym}
 use Rattle.std.proofs.lemmas.List.{replicate-append-replicate}
-use Rattle.execlog.proofs.Laying.{spaces_taken}
-use Rattle.execlog.proofs.Logging.{made_whole, whole_then}
+use Rattle.execlog.proofs.{Laying.spaces_taken, Logging.made_whole, Logging.whole_then}
 use Rattle.execlog.proofs.rows.push_gap.Goals as goal
 
 pub returns : goal.returns

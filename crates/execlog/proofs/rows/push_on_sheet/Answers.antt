@@ -1,7 +1,6 @@
 -- The line is over the spaces of the sheet.
 use Rattle.std.proofs.Common.{◌≤◌, ◌+◌, List, ℕ, length, ap, ◌++◌, ◌∙◌, arith}
-use Rattle.execlog.proofs.Logging.{whole_then}
-use Rattle.execlog.proofs.Sheets.{sheet_row}
+use Rattle.execlog.proofs.{Logging.whole_then, Sheets.sheet_row}
 use Rattle.execlog.specs.Rows.{columns}
 use Rattle.execlog.proofs.rows.push_on_sheet.Goals as goal
 

@@ -1,6 +1,5 @@
 -- The spaces before the digits are there.
-use Rattle.std.proofs.Common.{refl, arith}
-use Rattle.std.specs.Prelude.{decimal}
+use Rattle.std.proofs.Common.{refl, arith, decimal}
 use Rattle.execlog.proofs.Laying.{blank_before, column_put}
 use Rattle.execlog.proofs.rows.put_column.Goals as goal
 

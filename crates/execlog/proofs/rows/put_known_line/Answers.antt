@@ -1,6 +1,5 @@
 -- The spaces before the colon are there.
-use Rattle.std.proofs.Common.{refl, arith}
-use Rattle.std.specs.Prelude.{decimal}
+use Rattle.std.proofs.Common.{refl, arith, decimal}
 use Rattle.execlog.proofs.Laying.{blank_before, colon_put}
 use Rattle.execlog.proofs.rows.put_known_line.Goals as goal
 

@@ -1,13 +1,8 @@
 -- A name that differs from all before it is put in after them.
-use Rattle.std.proofs.Common.{◌≡◌, ◌+◌, List, ap, refl, sym, ◌∙◌, ◌≢◌, map, take, subst, ℕ}
-use Rattle.std.specs.List.{AllPairs}
+use Rattle.std.proofs.Common.{◌≡◌, ◌+◌, List, ap, refl, sym, ◌∙◌, ◌≢◌, map, take, subst, ℕ, AllPairs}
 use Rattle.arrayvec.specs.ArrayString.{ArrayString}
-use Rattle.taskscript.specs.declared.file.SoftintRecord.{SoftintRecord}
-use Rattle.taskscript.specs.File.{SoftintData}
-use Rattle.taskscript.specs.Numbering.{texts}
-use Rattle.taskscript.specs.Records.{softint_view}
-use Rattle.execsim.proofs.BodyNames.{name_put_in}
-use Rattle.execsim.proofs.Calling.{map-map_as}
+use Rattle.taskscript.specs.{declared.file.SoftintRecord.SoftintRecord, File.SoftintData, Numbering.texts, Records.softint_view}
+use Rattle.execsim.proofs.{BodyNames.name_put_in, Calling.map-map_as}
 use Rattle.execsim.proofs.bodies.names_of.Goals as goal
 
 named : (xs : List SoftintRecord) → map (λ (r : SoftintRecord). r.name.bytes) xs ≡ map (λ (i : SoftintData). i.name) (map softint_view xs)

@@ -1,8 +1,6 @@
 -- the names so far are put in
 use Rattle.std.proofs.Common.{◌≡◌, map, take}
-use Rattle.taskscript.specs.Machines.{softint_names}
-use Rattle.taskscript.specs.Numbering.{texts}
-use Rattle.taskscript.specs.Records.{softint_view}
+use Rattle.taskscript.specs.{Machines.softint_names, Numbering.texts, Records.softint_view}
 use Rattle.execsim.proofs.bodies.names_of.Given as goal
 
 abbrev pub invariant-loop-softint : goal.invariant-loop-softint

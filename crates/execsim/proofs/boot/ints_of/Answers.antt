@@ -1,12 +1,8 @@
 -- The priorities and the sources are those of the records.
 use Rattle.std.proofs.Common.{All, sym, subst}
-use Rattle.softint.specs.Interrupts.{IsPriority}
-use Rattle.softint.specs.declared.interrupt.Soft.{Soft}
-use Rattle.taskscript.specs.declared.file.SoftintRecord.{SoftintRecord}
-use Rattle.taskscript.specs.File.{SoftintData}
-use Rattle.taskscript.specs.Records.{softint_view}
-use Rattle.execsim.proofs.Accepted.{all_shown, all_under}
-use Rattle.execsim.proofs.Calling.{map-map_as}
+use Rattle.softint.specs.{Interrupts.IsPriority, declared.interrupt.Soft.Soft}
+use Rattle.taskscript.specs.{declared.file.SoftintRecord.SoftintRecord, File.SoftintData, Records.softint_view}
+use Rattle.execsim.proofs.{Accepted.all_shown, Accepted.all_under, Calling.map-map_as}
 use Rattle.execsim.proofs.boot.ints_of.Goals as goal
 
 pub new-requires-clause-priorities : goal.new-requires-clause-priorities

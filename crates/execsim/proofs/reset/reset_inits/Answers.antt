@@ -1,7 +1,6 @@
 -- One more task has given its name and its priority.
-use Rattle.std.proofs.Common.{rules, ◌<◌, length, arith, refl, ◌∙◌}
+use Rattle.std.proofs.Common.{rules, ◌<◌, length, arith, refl, ◌∙◌, length-set}
 use Rattle.std.proofs.lemmas.Int.{to_z-of_z}
-use Rattle.std.proofs.lemmas.List.{length-set}
 use Rattle.taskq.specs.declared.TaskInit.{TaskInit}
 use Rattle.taskscript.specs.declared.file.TaskRecord.{TaskRecord}
 use Rattle.execsim.proofs.Written.{one_more_seen}

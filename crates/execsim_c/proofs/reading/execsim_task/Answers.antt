@@ -1,9 +1,7 @@
 -- The proof of `execsim_task`: the task is shown if there is one, and the machine stays as it is.
-use Rattle.std.proofs.Common.{◌∙◌, Some, ap, sym}
-use Rattle.std.specs.Option.{option_map}
+use Rattle.std.proofs.Common.{◌∙◌, Some, ap, sym, option_map}
 use Rattle.execsim.specs.Readers.{task_seen}
-use Rattle.execsim_c.specs.Shown.{task_shown}
-use Rattle.execsim_c.specs.declared.session.Session.{Session}
+use Rattle.execsim_c.specs.{Shown.task_shown, declared.session.Session.Session}
 use Rattle.execsim_c.proofs.reading.execsim_task.Goals as goal
 
 pub returns-in-Some-found-clause-shown : goal.returns-in-Some-found-clause-shown

@@ -1,8 +1,7 @@
 -- The proof of `execsim_view`: the machine is shown, and stays as it is.
 use Rattle.std.proofs.Common.{◌∙◌, ap, sym}
 use Rattle.execsim.specs.Readers.{machine_view}
-use Rattle.execsim_c.specs.Shown.{machine_shown}
-use Rattle.execsim_c.specs.declared.session.Session.{Session}
+use Rattle.execsim_c.specs.{Shown.machine_shown, declared.session.Session.Session}
 use Rattle.execsim_c.proofs.reading.execsim_view.Goals as goal
 
 pub returns-clause-shown : goal.returns-clause-shown

@@ -2,8 +2,7 @@
 use Rattle.std.proofs.Common.{◌∙◌, List, Some, ap, subst, sym}
 use Rattle.taskscript.specs.declared.event.Event.{Event}
 use Rattle.execmodel.specs.Step.{events}
-use Rattle.execsim_c.specs.Stepping.{Does}
-use Rattle.execsim_c.specs.declared.session.Session.{Session}
+use Rattle.execsim_c.specs.{Stepping.Does, declared.session.Session.Session}
 use Rattle.execsim_c.proofs.stepping.execsim_events.Goals as goal
 
 pub returns-in-Ok-after-clause-ran : goal.returns-in-Ok-after-clause-ran

@@ -1,8 +1,7 @@
 -- The proof of `add_arguments`.
 use Rattle.exectrace.proofs.Pieces.{adds_none, adds_then, flat_map_mapped_next}
 use Rattle.std.proofs.Common.{sym}
-use Rattle.exectrace.specs.Trace.{argument_text}
-use Rattle.exectrace.specs.Shown.{shown_argument}
+use Rattle.exectrace.specs.{Trace.argument_text, Shown.shown_argument}
 use Rattle.exectrace.proofs.printing.add_arguments.Goals as goal
 
 pub loop-argument-init : goal.loop-argument-init

@@ -1,9 +1,6 @@
 -- What holds in the loops of `add_arguments`.
-use Rattle.std.proofs.Common.{take, map}
-use Rattle.std.specs.List.{flat_map}
-use Rattle.exectrace.specs.Sink.{Adds}
-use Rattle.exectrace.specs.Trace.{argument_text}
-use Rattle.exectrace.specs.Shown.{shown_argument}
+use Rattle.std.proofs.Common.{take, map, flat_map}
+use Rattle.exectrace.specs.{Sink.Adds, Trace.argument_text, Shown.shown_argument}
 use Rattle.exectrace.proofs.printing.add_arguments.Given as goal
 
 -- the arguments so far were added

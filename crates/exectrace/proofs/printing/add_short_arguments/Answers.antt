@@ -1,7 +1,6 @@
 -- The proof of `add_short_arguments`.
 use Rattle.exectrace.proofs.Pieces.{adds_none, adds_then, flat_map_mapped_more}
-use Rattle.exectrace.specs.Trace.{argument_text}
-use Rattle.exectrace.specs.Short.{short_argument}
+use Rattle.exectrace.specs.{Trace.argument_text, Short.short_argument}
 use Rattle.exectrace.proofs.printing.add_short_arguments.Goals as goal
 
 pub loop-argument-init : goal.loop-argument-init

@@ -1,7 +1,6 @@
 -- The proof of `end_line`: adds how a call ended, and the line feed, which have room.
 use Rattle.std.proofs.Common.{◌++◌, ap, sym, codes, append_assoc, ◌∙◌}
-use Rattle.exectrace.specs.Trace.{outcome_text}
-use Rattle.exectrace.specs.Shown.{shown_outcome}
+use Rattle.exectrace.specs.{Trace.outcome_text, Shown.shown_outcome}
 use Rattle.exectrace.proofs.printing.end_line.Goals as goal
 
 pub returns-in-Answers : goal.returns-in-Answers

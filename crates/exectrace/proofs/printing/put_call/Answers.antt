@@ -1,8 +1,7 @@
 -- The proof of `put_call`: puts `NAME WORD{ ARG}`, and ` -> VALUE` or ` waits` by the outcome: the task, server or software interrupt of
 -- this name made the call of this word.
 use Rattle.std.proofs.Common.{refl, codes}
-use Rattle.exectrace.specs.Trace.{outcome_text}
-use Rattle.exectrace.specs.Shown.{shown_outcome}
+use Rattle.exectrace.specs.{Trace.outcome_text, Shown.shown_outcome}
 use Rattle.exectrace.proofs.Pieces.{adds_then, adds_both, adds_all}
 use Rattle.exectrace.proofs.printing.put_call.Goals as goal
 

@@ -1,7 +1,6 @@
 -- The proof of `put_long_call`: puts the line of a call whose parts may have no room in one piece.
 use Rattle.std.proofs.Common.{refl, codes}
-use Rattle.exectrace.specs.Trace.{outcome_text}
-use Rattle.exectrace.specs.Shown.{shown_outcome}
+use Rattle.exectrace.specs.{Trace.outcome_text, Shown.shown_outcome}
 use Rattle.exectrace.proofs.Pieces.{adds_then, adds_both, adds_all}
 use Rattle.exectrace.proofs.printing.put_long_call.Goals as goal
 

@@ -1,8 +1,6 @@
 -- What holds in the loop of `try_arguments`.
-use Rattle.std.proofs.Common.{◌≡◌, ◌≤◌, ◌++◌, length, take, map}
-use Rattle.std.specs.List.{flat_map}
-use Rattle.exectrace.specs.Trace.{argument_text}
-use Rattle.exectrace.specs.Short.{short_argument}
+use Rattle.std.proofs.Common.{◌≡◌, ◌≤◌, ◌++◌, length, take, map, flat_map}
+use Rattle.exectrace.specs.{Trace.argument_text, Short.short_argument}
 use Rattle.exectrace.proofs.printing.try_arguments.Given as goal
 
 -- the arguments so far were added, and there is room for an end

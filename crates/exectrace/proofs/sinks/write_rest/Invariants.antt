@@ -2,8 +2,7 @@
 -- did not all take none.
 use Rattle.std.proofs.Common.{length, take, ◌-◌, ◌≡◌, ◌<◌, ◌≤◌, ◌+◌, ◌*◌}
 use Rattle.std.specs.Io.KnownBytes.{Appends}
-use Rattle.exectrace.specs.Sink.{empties}
-use Rattle.exectrace.specs.declared.sinks.SinkState.TheVariants.{Good}
+use Rattle.exectrace.specs.{Sink.empties, declared.sinks.SinkState.TheVariants.Good}
 use Rattle.exectrace.proofs.sinks.write_rest.Given as goal
 
 -- the bytes so far were taken, and the sink is open, and good at the end

@@ -1,6 +1,5 @@
 -- The sums of what is taken.
-use Rattle.std.proofs.Common.{◌≡◌, ◌≤◌}
-use Rattle.std.specs.Prelude.{sum_by}
+use Rattle.std.proofs.Common.{◌≡◌, ◌≤◌, sum_by}
 use Rattle.taskscript.specs.Events.{ticks as ticks_of}
 use Rattle.execlog.specs.Log.{turns}
 use Rattle.logforms.proofs.events.events_up_to.Given as goal

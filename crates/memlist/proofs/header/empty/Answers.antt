@@ -1,7 +1,6 @@
 -- The proof of `empty`: one slot more is empty.
 use Rattle.std.proofs.Common.{List, set, ap, ◌∙◌, arith}
-use Rattle.memlist.specs.declared.slot.Slot.{Slot}
-use Rattle.memlist.specs.Areas.{empty_slot}
+use Rattle.memlist.specs.{declared.slot.Slot.Slot, Areas.empty_slot}
 use Rattle.memlist.proofs.Resets.{slot_emptied}
 use Rattle.memlist.proofs.header.empty.Goals as goal
 

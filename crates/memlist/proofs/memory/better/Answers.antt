@@ -1,7 +1,6 @@
 -- The proof of `better`: what is chosen once the header at a place is looked at too.
 use Rattle.std.proofs.Common.{◌≡◌, drop, sym, subst, ◌∙◌, Option, Some, IsSomeAnd}
-use Rattle.memlist.specs.Areas.{Area, area_gaps}
-use Rattle.memlist.specs.Choice.{IsLowest, chosen_of}
+use Rattle.memlist.specs.{Areas.Area, Areas.area_gaps, Choice.IsLowest, Choice.chosen_of}
 use Rattle.memlist.proofs.Choices.{area_at, drop_area, offer_outranked, offer_chosen, offers_by}
 use Rattle.memlist.proofs.memory.better.Goals as goal
 

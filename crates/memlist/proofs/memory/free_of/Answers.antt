@@ -1,8 +1,7 @@
 -- The proof of `free_of`: the bytes that are free in the suitable regions.
 use Rattle.std.proofs.Common.{arith, sym, ◌∙◌, true, false}
-use Rattle.memlist.proofs.Choices.{free_more}
+use Rattle.memlist.proofs.{Choices.free_more, memory.free_of.Goals.then-is_suitable, memory.free_of.Goals.else-is_suitable}
 use Rattle.memlist.proofs.memory.free_of.Goals as goal
-use Rattle.memlist.proofs.memory.free_of.Goals.{then-is_suitable, else-is_suitable}
 
 pub overflow_add-total : goal.overflow_add-total
 overflow_add-total c =

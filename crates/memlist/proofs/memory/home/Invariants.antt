@@ -1,8 +1,7 @@
 -- What holds in the loops of `home`: the place of the header in whose region an address lies.
 use Rattle.std.proofs.Common.{◌≡◌, false}
 use Rattle.std.specs.List.{AllWithin}
-use Rattle.memlist.specs.Areas.{Area}
-use Rattle.memlist.specs.Blocks.{is_in}
+use Rattle.memlist.specs.{Areas.Area, Blocks.is_in}
 use Rattle.memlist.proofs.memory.home.Given as goal
 
 abbrev pub invariant-loop-place : goal.invariant-loop-place

@@ -1,8 +1,7 @@
 -- The proof of `largest_of`: the size of the greatest gap of the suitable regions, or 0 if there is none.
 use Rattle.std.proofs.Common.{arith, sym, ◌∙◌, true, false}
-use Rattle.memlist.proofs.Choices.{largest_more}
+use Rattle.memlist.proofs.{Choices.largest_more, memory.largest_of.Goals.then-is_suitable, memory.largest_of.Goals.else-is_suitable}
 use Rattle.memlist.proofs.memory.largest_of.Goals as goal
-use Rattle.memlist.proofs.memory.largest_of.Goals.{then-is_suitable, else-is_suitable}
 
 pub loop-header-preserved : goal.loop-header-preserved
 loop-header-preserved c =

@@ -1,6 +1,5 @@
 -- The machine has gone on over each event so far.
-use Rattle.std.proofs.Common.{◌≡◌, false, take, drop}
-use Rattle.std.specs.Prelude.{sum_by}
+use Rattle.std.proofs.Common.{◌≡◌, false, take, drop, sum_by}
 use Rattle.exectrace.specs.declared.sinks.SinkState.TheVariants.{Good}
 use Rattle.taskscript.specs.Events.{ticks as ticks_of}
 use Rattle.execsim.specs.Time.{HasTimeFor}

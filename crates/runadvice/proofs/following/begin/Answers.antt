@@ -1,8 +1,7 @@
 -- The machine agrees with the state after the start, and the room has its lines.
 use Rattle.std.proofs.Common.{◌++◌, ℕ, List, ap, refl, ◌∙◌}
 use Rattle.exectrace.specs.Trace.{printed}
-use Rattle.execmodel.specs.State.{booted}
-use Rattle.execmodel.specs.Step.{starts}
+use Rattle.execmodel.specs.{State.booted, Step.starts}
 use Rattle.runadvice.proofs.following.begin.Goals as goal
 
 pub returns-in-Ok-clause-agrees : goal.returns-in-Ok-clause-agrees

@@ -1,8 +1,7 @@
 -- The running task runs, and the tasks with it ready are those of `displaced`.
 use Rattle.std.proofs.Common.{ap, ◌∙◌, None}
 use Rattle.execlist.specs.Disciplines.{by_priority}
-use Rattle.scheduler.specs.Schedule.{Schedule}
-use Rattle.scheduler.specs.Dispatch.{displaced}
+use Rattle.scheduler.specs.{Schedule.Schedule, Dispatch.displaced}
 use Rattle.scheduler.proofs.ScheduleLemmas.{runner_runs, displaced_is}
 use Rattle.scheduler.proofs.Sched.displace.Goals as goal
 

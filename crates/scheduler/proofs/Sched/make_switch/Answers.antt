@@ -1,8 +1,7 @@
 -- A ready task is still ready when the running one is put back, and begins then.
 use Rattle.std.proofs.Common.{ap, sym, ◌∙◌, Some}
 use Rattle.execlist.specs.Disciplines.{by_priority}
-use Rattle.scheduler.specs.Schedule.{begins}
-use Rattle.scheduler.specs.Dispatch.{displaced, after_switch}
+use Rattle.scheduler.specs.{Schedule.begins, Dispatch.displaced, Dispatch.after_switch}
 use Rattle.scheduler.proofs.ScheduleLemmas.{to_ready, displaced_ready, begins-vacant}
 use Rattle.scheduler.proofs.Sched.make_switch.Goals as goal
 

@@ -1,7 +1,6 @@
 -- Nothing is in the headers so far.
 use Rattle.std.proofs.Common.{◌≡◌, ℕ, ◌<◌, ◌≤◌, ◌+◌, None}
-use Rattle.execlist.specs.Order.{first}
-use Rattle.execlist.specs.Lists.{sequence}
+use Rattle.execlist.specs.{Order.first, Lists.sequence}
 use Rattle.softint.proofs.caused.first_below.Given as goal
 
 abbrev pub invariant-loop-k : goal.invariant-loop-k

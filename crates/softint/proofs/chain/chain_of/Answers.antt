@@ -2,8 +2,7 @@
 use Rattle.std.proofs.Common.{rules, ◌≡◌, ◌<◌, length, insert, All, sym, ◌∙◌, ap, subst, arith}
 use Rattle.execlist.specs.Order.{enqueue}
 use Rattle.softint.specs.Interrupts.{server_pri, serves}
-use Rattle.softint.proofs.Chains.{chain_begins, chain_takes, chain_skips, chain_known}
-use Rattle.softint.proofs.chain.chain_of.Goals.{then-serves+in_ok-insert, else-serves}
+use Rattle.softint.proofs.{Chains.chain_begins, Chains.chain_takes, Chains.chain_skips, Chains.chain_known, chain.chain_of.Goals.then-serves+in_ok-insert, chain.chain_of.Goals.else-serves}
 use Rattle.softint.proofs.chain.chain_of.Goals as goal
 
 pub loop-s-init : goal.loop-s-init

@@ -1,7 +1,6 @@
 -- What the space enqueues by its keys is enqueued by the priorities.
 use Rattle.std.proofs.Common.{ap, ◌∙◌}
-use Rattle.execlist.specs.Order.{enqueue}
-use Rattle.execlist.specs.Disciplines.{pri_at}
+use Rattle.execlist.specs.{Order.enqueue, Disciplines.pri_at}
 use Rattle.taskq.proofs.TaskLemmas.{arrived}
 use Rattle.taskq.proofs.TaskQ.make_ready.Goals as goal
 

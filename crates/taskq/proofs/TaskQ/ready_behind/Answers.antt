@@ -1,7 +1,6 @@
 -- There is no task of that number, so none is after it.
 use Rattle.std.proofs.Common.{◌≡◌, ◌≤◌, ℕ, cond, length, None, ap, sym, ◌∙◌, arith, slice_index_or}
-use Rattle.execlist.specs.Order.{first}
-use Rattle.execlist.specs.Lists.{home, is_at, part_after, sequence}
+use Rattle.execlist.specs.{Order.first, Lists.home, Lists.is_at, Lists.part_after, Lists.sequence}
 use Rattle.execlist.proofs.Walks.{absent_after}
 use Rattle.taskq.specs.Tasks.{Tasks}
 use Rattle.taskq.proofs.TaskLemmas.{home_beyond}

@@ -1,9 +1,7 @@
 -- A ready task leaves its header; any other was in none, and leaving it out changes nothing.
 use Rattle.std.proofs.Common.{◌<◌, None, ap, ◌∙◌, sym, arith, length, slice_set}
-use Rattle.execlist.specs.Order.{without}
-use Rattle.execlist.specs.Lists.{home, sequence}
-use Rattle.taskq.specs.declared.TaskState.TheVariants.{Removed}
-use Rattle.taskq.specs.Tasks.{home_for}
+use Rattle.execlist.specs.{Order.without, Lists.home, Lists.sequence}
+use Rattle.taskq.specs.{declared.TaskState.TheVariants.Removed, Tasks.home_for}
 use Rattle.taskq.proofs.TaskLemmas.{departed, not_there, home_read, home_for_none, known_live, homes_written, written_same, states_kept}
 use Rattle.taskq.proofs.TaskQ.remove.Goals.{in-Ready, in_default}
 use Rattle.taskq.proofs.TaskQ.remove.Goals as goal

@@ -2,8 +2,7 @@
 use Rattle.std.proofs.Common.{◌≡◌, length, map, replicate, sym, ap, ◌∙◌}
 use Rattle.std.proofs.lemmas.List.{length-map, length-replicate}
 use Rattle.taskq.proofs.TaskLemmas.{homes_absent}
-use Rattle.taskq.specs.declared.TaskState.TheVariants.{Absent}
-use Rattle.taskq.specs.Tasks.{Tasks, home_for}
+use Rattle.taskq.specs.{declared.TaskState.TheVariants.Absent, Tasks.Tasks, Tasks.home_for}
 use Rattle.taskq.proofs.TaskQ.reset.Goals as goal
 
 pub invariant_of-self : goal.invariant_of-self

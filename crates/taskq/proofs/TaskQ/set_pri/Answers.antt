@@ -1,10 +1,8 @@
 -- A ready task leaves its header and is enqueued by its new priority; for any other nothing moves.
 use Rattle.std.proofs.Common.{◌≡◌, ◌<◌, ap, ◌∙◌, sym, arith, length}
 use Rattle.std.proofs.lemmas.Bool.{cond-true, cond-false}
-use Rattle.execlist.specs.Order.{enqueue, without}
-use Rattle.execlist.specs.Lists.{home, sequence}
+use Rattle.execlist.specs.{Order.enqueue, Order.without, Lists.home, Lists.sequence, Disciplines.pri_at}
 use Rattle.taskq.specs.Tasks.{home_for, is_ready, state_at, pris_of}
-use Rattle.execlist.specs.Disciplines.{pri_at}
 use Rattle.taskq.proofs.TaskLemmas.{arrived, departed, home_read, state_read, is_ready_false}
 use Rattle.taskq.proofs.TaskQ.set_pri.Goals as goal
 

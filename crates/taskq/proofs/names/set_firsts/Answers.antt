@@ -1,8 +1,7 @@
 -- The proof of `set_firsts`: one more task, before those so far, is noted.
 use Rattle.std.proofs.Common.{◌≡◌, ◌<◌, ◌-◌, [], length, map, sym, ap, ◌∙◌, arith}
 use Rattle.std.proofs.lemmas.List.{get_or-map, length-map}
-use Rattle.taskq.specs.Marks.{mark}
-use Rattle.taskq.specs.Tasks.{name_at}
+use Rattle.taskq.specs.{Marks.mark, Tasks.name_at}
 use Rattle.taskq.proofs.Marking.{noted}
 use Rattle.taskq.proofs.names.set_firsts.Goals as goal
 

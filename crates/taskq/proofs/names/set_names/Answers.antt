@@ -1,6 +1,6 @@
 -- One more name is set.
-use Rattle.std.proofs.Common.{◌<◌, length, map, slice_index_or, sym, ◌∙◌, arith}
-use Rattle.std.proofs.lemmas.List.{get_or-map, length-map, length-set}
+use Rattle.std.proofs.Common.{◌<◌, length, map, slice_index_or, sym, ◌∙◌, arith, length-set}
+use Rattle.std.proofs.lemmas.List.{get_or-map, length-map}
 use Rattle.taskq.proofs.TaskLemmas.{set_more}
 use Rattle.taskq.proofs.names.set_names.Goals as goal
 

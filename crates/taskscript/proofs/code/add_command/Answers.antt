@@ -2,13 +2,8 @@
 use Rattle.std.proofs.Common.{◌∙◌, Bool, Some, sym, ap}
 use Rattle.std.proofs.lemmas.Result.{err_from_is_err_and}
 use Rattle.taskscript.specs.declared.fault.FileFault.TheVariants.{BadCommand, NotInInterrupt, TooMany}
-use Rattle.taskscript.specs.Bodies.{reading_view}
+use Rattle.taskscript.specs.{Bodies.reading_view, Faults.check, Interrupting.may_stand, Interrupting.names_softints, Lines.named_command_view, Numbering.have_room, Numbering.variables_of, Records.setting_view}
 use Rattle.execlist.specs.Order.{first}
-use Rattle.taskscript.specs.Faults.{check}
-use Rattle.taskscript.specs.Interrupting.{may_stand, names_softints}
-use Rattle.taskscript.specs.Lines.{named_command_view}
-use Rattle.taskscript.specs.Numbering.{have_room, variables_of}
-use Rattle.taskscript.specs.Records.{setting_view}
 use Rattle.taskscript.proofs.Firsts.{before_third, third}
 use Rattle.taskscript.proofs.code.add_command.Goals as goal
 

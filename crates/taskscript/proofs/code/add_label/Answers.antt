@@ -1,16 +1,10 @@
 -- The proof of `add_label`.
-use Rattle.std.proofs.Common.{◌≡◌, ℕ, ◌∙◌, arith, List, ◌++◌, ◌∷◌, [], map, length, Some, None, sym, ap, Option, Bool, not}
-use Rattle.std.specs.Prelude.{is_some}
+use Rattle.std.proofs.Common.{◌≡◌, ℕ, ◌∙◌, arith, List, ◌++◌, ◌∷◌, [], map, length, Some, None, sym, ap, Option, Bool, not, is_some}
 use Rattle.std.proofs.lemmas.List.{length-map}
 use Rattle.taskscript.specs.declared.fault.FileFault.TheVariants.{NotInInterrupt, BadLabel}
-use Rattle.taskscript.specs.Bodies.{Reading}
+use Rattle.taskscript.specs.{Bodies.Reading, Faults.check, Labels.Mark, Labels.place_in, Labels.marks_view, Lines.NamedCommandData, Lines.named_command_view, Numbering.Names, Numbering.names_view}
 use Rattle.execlist.specs.Order.{first}
-use Rattle.taskscript.specs.Faults.{check}
-use Rattle.taskscript.specs.Labels.{Mark, place_in, marks_view}
-use Rattle.taskscript.specs.Lines.{NamedCommandData, named_command_view}
-use Rattle.taskscript.specs.Numbering.{Names, names_view}
-use Rattle.taskscript.proofs.Firsts.{first_none}
-use Rattle.taskscript.proofs.LabelPlaces.{place_looked_up, marks_grown}
+use Rattle.taskscript.proofs.{Firsts.first_none, LabelPlaces.place_looked_up, LabelPlaces.marks_grown}
 use Rattle.taskscript.proofs.code.add_label.Goals as goal
 
 abbrev reading : List NamedCommandData → Names → List Mark → Reading

@@ -1,12 +1,8 @@
 -- The proof of `body_of`.
 use Rattle.std.proofs.Common.{◌≡◌, ◌∙◌, sym, arith}
 use Rattle.toml.specs.View.{view}
-use Rattle.taskscript.specs.Bodies.{reading_view, reading_with}
-use Rattle.taskscript.specs.Code.{line_in}
-use Rattle.taskscript.specs.Meaning.{says}
-use Rattle.taskscript.specs.Records.{setting_view}
-use Rattle.taskscript.proofs.BodyReading.{next_line, line_stops, line_goes_on, line_read}
-use Rattle.taskscript.proofs.Listings.{lines_go_on}
+use Rattle.taskscript.specs.{Bodies.reading_view, Bodies.reading_with, Code.line_in, Meaning.says, Records.setting_view}
+use Rattle.taskscript.proofs.{BodyReading.next_line, BodyReading.line_stops, BodyReading.line_goes_on, BodyReading.line_read, Listings.lines_go_on}
 use Rattle.taskscript.proofs.code.body_of.Goals as goal
 
 pub returns-in-Err-clause-judged : goal.returns-in-Err-clause-judged

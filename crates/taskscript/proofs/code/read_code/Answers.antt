@@ -1,16 +1,10 @@
 -- The proof of `read_code`: the commands of a body, whose lines are these items, and its listing.
 use Rattle.std.proofs.Common.{◌≤◌, ◌∙◌, length, Ok, Err}
-use Rattle.std.proofs.lemmas.List.{length-map}
-use Rattle.std.proofs.lemmas.Result.{err_from_is_err_and}
+use Rattle.std.proofs.lemmas.{List.length-map, Result.err_from_is_err_and}
 use Rattle.toml.specs.View.{items_view}
-use Rattle.taskscript.specs.Bodies.{reading_view}
-use Rattle.taskscript.specs.Code.{lines_in}
-use Rattle.taskscript.specs.Lines.{named_command_view}
-use Rattle.taskscript.specs.Numbering.{texts}
-use Rattle.taskscript.specs.Records.{setting_view}
+use Rattle.taskscript.specs.{Bodies.reading_view, Code.lines_in, Lines.named_command_view, Numbering.texts, Records.setting_view}
 use Rattle.taskscript.proofs.BodyReading.{lines_counted, too_long, line_decides, code_decided, lines_fill, shared_read}
-use Rattle.taskscript.proofs.Listings.{body_listed}
-use Rattle.taskscript.proofs.Fitting.{commands_within, commands_once}
+use Rattle.taskscript.proofs.{Listings.body_listed, Fitting.commands_within, Fitting.commands_once}
 use Rattle.taskscript.proofs.code.read_code.Goals as goal
 
 pub returns-then-lines-gt-LINE_LIMIT-clause-judged :

@@ -1,7 +1,6 @@
 -- The proof of `lines_of`: the lines of what has a `code`, or none.
 use Rattle.std.proofs.Common.{◌==◌, rules}
-use Rattle.std.proofs.lemmas.Iterator.Consumers.{map_from_collect}
-use Rattle.std.proofs.lemmas.Iterator.Splits.{YieldsList-from_slice_split}
+use Rattle.std.proofs.lemmas.{Iterator.Consumers.map_from_collect, Iterator.Splits.YieldsList-from_slice_split}
 use Rattle.taskscript.proofs.events.lines_of.Goals as goal
 
 pub returns : goal.returns

@@ -1,8 +1,6 @@
 -- What holds in the loops of `are_known`.
 use Rattle.std.proofs.Common.{◌≡◌, drop, map}
-use Rattle.taskscript.specs.Interrupting.{softints_among}
-use Rattle.taskscript.specs.Lines.{named_argument_view}
-use Rattle.taskscript.specs.Numbering.{texts}
+use Rattle.taskscript.specs.{Interrupting.softints_among, Lines.named_argument_view, Numbering.texts}
 use Rattle.taskscript.proofs.Interrupts.{are_known}
 use Rattle.taskscript.proofs.interrupting.are_known.Given as goal
 

@@ -1,7 +1,6 @@
 -- What holds in the loops of `arguments_of`.
 use Rattle.std.proofs.Common.{◌≡◌, drop, length, map}
-use Rattle.taskscript.specs.Lines.{named_argument_view}
-use Rattle.taskscript.specs.Parsing.{arguments_of}
+use Rattle.taskscript.specs.{Lines.named_argument_view, Parsing.arguments_of}
 use Rattle.taskscript.proofs.Arguments.{with_front}
 use Rattle.taskscript.proofs.line.arguments_of.Given as goal
 

@@ -1,7 +1,6 @@
 -- The proof of `fields_of`.
 use Rattle.std.proofs.Common.{lit<}
-use Rattle.std.proofs.lemmas.Iterator.Consumers.{map_from_collect}
-use Rattle.std.proofs.lemmas.Iterator.Splits.{YieldsList-from_str_split}
+use Rattle.std.proofs.lemmas.{Iterator.Consumers.map_from_collect, Iterator.Splits.YieldsList-from_str_split}
 use Rattle.taskscript.proofs.line.fields_of.Goals as goal
 
 pub returns : goal.returns

@@ -1,8 +1,7 @@
 -- The proof of `below_word`.
 use Rattle.std.proofs.Common.{◌≡◌, ◌+◌, arith, take, ◌*◌}
 use Rattle.std.specs.Str.Parse.{digits_value}
-use Rattle.std.proofs.lemmas.Int.Digits.{digits_value_more}
-use Rattle.std.proofs.lemmas.Str.Parse.{digits_value-take-le}
+use Rattle.std.proofs.lemmas.{Int.Digits.digits_value_more, Str.Parse.digits_value-take-le}
 use Rattle.taskscript.proofs.Below.{not_below}
 use Rattle.taskscript.proofs.number.below_word.Goals as goal
 

@@ -1,7 +1,6 @@
 -- What holds in the loops of `see_arguments`.
 use Rattle.std.proofs.Common.{◌≡◌, drop, map}
-use Rattle.taskscript.specs.Lines.{named_argument_view}
-use Rattle.taskscript.specs.Numbering.{names_view, names_after, variables_of_arguments, have_room}
+use Rattle.taskscript.specs.{Lines.named_argument_view, Numbering.names_view, Numbering.names_after, Numbering.variables_of_arguments, Numbering.have_room}
 use Rattle.taskscript.proofs.numbering.see_arguments.Given as goal
 
 abbrev pub invariant-loop-argument : goal.invariant-loop-argument

@@ -6,10 +6,7 @@ use Rattle.toml.specs.Data.{get_member}
 use Rattle.toml.specs.View.{table_view}
 use Rattle.execlist.specs.Order.{first}
 use Rattle.taskscript.specs.declared.place.Array.TheVariants as array
-use Rattle.taskscript.specs.Faults.{IsFirst}
-use Rattle.taskscript.specs.File.{softint_faults, server_faults, task_faults, named_faults, item_names, softints_in, servers_in, tasks_in, names_before_servers, names_before_tasks}
-use Rattle.taskscript.specs.Numbering.{texts}
-use Rattle.taskscript.specs.Tree.{optional, array_faults}
+use Rattle.taskscript.specs.{Faults.IsFirst, File.softint_faults, File.server_faults, File.task_faults, File.named_faults, File.item_names, File.softints_in, File.servers_in, File.tasks_in, File.names_before_servers, File.names_before_tasks, Numbering.texts, Tree.optional, Tree.array_faults}
 use Rattle.taskscript.proofs.Firsts.{first_some, skip, both}
 use Rattle.taskscript.proofs.owners.heads_in.Goals as goal
 

@@ -5,14 +5,8 @@ use Rattle.toml.specs.Data.{Items}
 use Rattle.toml.specs.View.{table_view, items_view}
 use Rattle.execlist.specs.Order.{first}
 use Rattle.taskscript.specs.declared.place.Owner.TheVariants.{Softint, Server, Task}
-use Rattle.taskscript.specs.File.{item_names, softints_in, servers_in, tasks_in, setting_of, bodies_faults, shared_after_bodies, with_bodies, shared_after_softints, shared_after_servers, softint_of, server_of, task_of}
-use Rattle.taskscript.specs.Interrupting.{Setting}
-use Rattle.taskscript.specs.Listings.{owner_listing}
-use Rattle.taskscript.specs.Numbering.{texts}
-use Rattle.taskscript.specs.Records.{softint_head_view, softint_head_of}
-use Rattle.taskscript.proofs.Firsts.{first_some, skip, both}
-use Rattle.taskscript.proofs.Listings.{listing_is}
-use Rattle.taskscript.proofs.OwnerTurns.{front_names, front_fits, of_three}
+use Rattle.taskscript.specs.{File.item_names, File.softints_in, File.servers_in, File.tasks_in, File.setting_of, File.bodies_faults, File.shared_after_bodies, File.with_bodies, File.shared_after_softints, File.shared_after_servers, File.softint_of, File.server_of, File.task_of, Interrupting.Setting, Listings.owner_listing, Numbering.texts, Records.softint_head_view, Records.softint_head_of}
+use Rattle.taskscript.proofs.{Firsts.first_some, Firsts.skip, Firsts.both, Listings.listing_is, OwnerTurns.front_names, OwnerTurns.front_fits, OwnerTurns.of_three}
 use Rattle.taskscript.proofs.owners.owners_in.Goals as goal
 
 abbrev setting : Bool → List (List ℕ) → Setting

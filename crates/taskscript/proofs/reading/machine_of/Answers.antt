@@ -2,16 +2,9 @@
 use Rattle.std.proofs.Common.{sym, ◌∙◌, ◌++◌, ap, map, Bool, None, Some}
 use Rattle.std.proofs.lemmas.Result.{err_from_is_err_and}
 use Rattle.toml.specs.View.{table_view}
-use Rattle.taskscript.specs.declared.fault.FileFault.TheVariants.{UnknownKey}
-use Rattle.taskscript.specs.declared.place.TablePlace.TheVariants.{Top}
+use Rattle.taskscript.specs.{declared.fault.FileFault.TheVariants.UnknownKey, declared.place.TablePlace.TheVariants.Top, Faults.check, File.top_keys, File.total_of, File.version_of, File.settings_faults, File.regions_faults, File.libraries_faults, File.both_passes_faults, Places.at, Places.unknown_key_at, Records.library_view, Records.softint_view, Records.server_view, Records.task_view, Tree.keys_are_among}
 use Rattle.execlist.specs.Order.{first}
-use Rattle.taskscript.specs.Faults.{check}
-use Rattle.taskscript.specs.File.{top_keys, total_of, version_of, settings_faults, regions_faults, libraries_faults, both_passes_faults}
-use Rattle.taskscript.specs.Places.{at, unknown_key_at}
-use Rattle.taskscript.specs.Records.{library_view, softint_view, server_view, task_view}
-use Rattle.taskscript.specs.Tree.{keys_are_among}
-use Rattle.taskscript.proofs.Firsts.{first_some, skip, both}
-use Rattle.taskscript.proofs.Machines.{in_version, read_holds, read_is}
+use Rattle.taskscript.proofs.{Firsts.first_some, Firsts.skip, Firsts.both, Machines.in_version, Machines.read_holds, Machines.read_is}
 use Rattle.taskscript.proofs.reading.machine_of.Goals as goal
 
 pub invariant_of-machine : goal.invariant_of-machine

@@ -4,9 +4,7 @@ use Rattle.std.proofs.lemmas.Result.{err_from_is_err_and}
 use Rattle.toml.specs.Data.{get_member}
 use Rattle.toml.specs.View.{table_view}
 use Rattle.taskscript.specs.declared.place.Key.TheVariants as key
-use Rattle.taskscript.specs.declared.place.TablePlace.TheVariants.{Top}
-use Rattle.taskscript.specs.Places.{at, key_at}
-use Rattle.taskscript.specs.Tree.{optional, integer_faults, number_or}
+use Rattle.taskscript.specs.{declared.place.TablePlace.TheVariants.Top, Places.at, Places.key_at, Tree.optional, Tree.integer_faults, Tree.number_or}
 use Rattle.taskscript.proofs.Firsts.{skip, both}
 use Rattle.taskscript.proofs.reading.settings_of.Goals as goal
 

@@ -4,12 +4,8 @@ use Rattle.std.proofs.lemmas.Result.{err_from_is_err_and}
 use Rattle.toml.specs.Data.{get_member}
 use Rattle.toml.specs.View.{table_view}
 use Rattle.taskscript.specs.declared.place.Key.TheVariants as key
-use Rattle.taskscript.specs.declared.fault.FileFault.TheVariants.{UnknownKey}
+use Rattle.taskscript.specs.{declared.fault.FileFault.TheVariants.UnknownKey, Faults.check, File.region_keys, Places.at, Places.key_at, Places.unknown_key_at, Tree.required, Tree.optional, Tree.keys_are_among, Tree.integer_faults, Tree.pri_faults, Tree.number_or, Tree.pri_in}
 use Rattle.execlist.specs.Order.{first}
-use Rattle.taskscript.specs.Faults.{check}
-use Rattle.taskscript.specs.File.{region_keys}
-use Rattle.taskscript.specs.Places.{at, key_at, unknown_key_at}
-use Rattle.taskscript.specs.Tree.{required, optional, keys_are_among, integer_faults, pri_faults, number_or, pri_in}
 use Rattle.taskscript.proofs.Firsts.{skip, both}
 use Rattle.taskscript.proofs.regions.region_in.Goals as goal
 

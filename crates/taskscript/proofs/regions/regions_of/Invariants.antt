@@ -2,8 +2,7 @@
 use Rattle.std.proofs.Common.{◌≡◌, drop, ◌++◌}
 use Rattle.toml.specs.View.{items_view}
 use Rattle.execlist.specs.Order.{first}
-use Rattle.taskscript.specs.File.{region_item_faults, regions_of}
-use Rattle.taskscript.specs.Tree.{items_faults}
+use Rattle.taskscript.specs.{File.region_item_faults, File.regions_of, Tree.items_faults}
 use Rattle.taskscript.proofs.regions.regions_of.Given as goal
 
 abbrev pub invariant-loop-i : goal.invariant-loop-i

@@ -1,13 +1,7 @@
 -- The proof of `arguments_in`.
-use Rattle.std.proofs.Common.{◌≡◌, ◌∙◌, ◌+◌, ◌∷◌, drop, map, take, true, sym, arith}
-use Rattle.std.proofs.Math.ListN.{length-set}
-use Rattle.taskscript.specs.Commands.{argument_view, ArgumentFits, IsNamed}
-use Rattle.taskscript.specs.Labels.{marks_view, place_at}
-use Rattle.taskscript.specs.Lines.{named_argument_view}
-use Rattle.taskscript.specs.Numbering.{names_view, argument_in}
-use Rattle.taskscript.proofs.Naming.{holds_at}
-use Rattle.taskscript.proofs.Resolved.{marked_more, front_grown, made_more, arguments_resolved}
-use Rattle.taskscript.proofs.Turns.{left_split}
+use Rattle.std.proofs.Common.{◌≡◌, ◌∙◌, ◌+◌, ◌∷◌, drop, map, take, true, sym, arith, length-set}
+use Rattle.taskscript.specs.{Commands.argument_view, Commands.ArgumentFits, Commands.IsNamed, Labels.marks_view, Labels.place_at, Lines.named_argument_view, Numbering.names_view, Numbering.argument_in}
+use Rattle.taskscript.proofs.{Naming.holds_at, Resolved.marked_more, Resolved.front_grown, Resolved.made_more, Resolved.arguments_resolved, Turns.left_split}
 use Rattle.taskscript.proofs.resolving.arguments_in.Goals as goal
 
 pub argument_in-requires : goal.argument_in-requires

@@ -1,9 +1,6 @@
 -- What holds in the loops of `arguments_in`.
 use Rattle.std.proofs.Common.{◌≡◌, ◌++◌, ℕ, List, All, drop, take, map, length}
-use Rattle.taskscript.specs.Commands.{argument_view, IsNamed}
-use Rattle.taskscript.specs.Labels.{are_marked, marks_view, place_at}
-use Rattle.taskscript.specs.Lines.{named_argument_view}
-use Rattle.taskscript.specs.Numbering.{names_view, argument_in, labels_of_arguments}
+use Rattle.taskscript.specs.{Commands.argument_view, Commands.IsNamed, Labels.are_marked, Labels.marks_view, Labels.place_at, Lines.named_argument_view, Numbering.names_view, Numbering.argument_in, Numbering.labels_of_arguments}
 use Rattle.taskscript.proofs.resolving.arguments_in.Given as goal
 
 abbrev pub invariant-loop-i : goal.invariant-loop-i

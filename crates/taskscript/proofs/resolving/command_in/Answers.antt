@@ -1,7 +1,6 @@
 -- The proof of `command_in`.
 use Rattle.std.proofs.Common.{ap, length}
-use Rattle.taskscript.specs.Labels.{marks_view, place_at}
-use Rattle.taskscript.specs.Numbering.{names_view}
+use Rattle.taskscript.specs.{Labels.marks_view, Labels.place_at, Numbering.names_view}
 use Rattle.taskscript.proofs.Resolved.{command_made}
 use Rattle.taskscript.proofs.resolving.command_in.Goals as goal
 

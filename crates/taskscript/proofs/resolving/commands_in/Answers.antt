@@ -2,13 +2,8 @@
 -- these.
 use Rattle.std.proofs.Common.{◌≡◌, ◌∙◌, ◌+◌, ◌∷◌, drop, get_or, map, arith}
 use Rattle.std.proofs.lemmas.List.{drop_more, map_push}
-use Rattle.taskscript.specs.Commands.{CommandFits, command_view}
-use Rattle.taskscript.specs.Labels.{marks_view, place_at}
-use Rattle.taskscript.specs.Lines.{named_command_view}
-use Rattle.taskscript.specs.Machines.{QuotesOnce}
-use Rattle.taskscript.specs.Numbering.{names_view, command_in}
-use Rattle.taskscript.proofs.Naming.{holds_at}
-use Rattle.taskscript.proofs.Resolved.{next_command, made_more, jump_goes_on, jump_stops}
+use Rattle.taskscript.specs.{Commands.CommandFits, Commands.command_view, Labels.marks_view, Labels.place_at, Lines.named_command_view, Machines.QuotesOnce, Numbering.names_view, Numbering.command_in}
+use Rattle.taskscript.proofs.{Naming.holds_at, Resolved.next_command, Resolved.made_more, Resolved.jump_goes_on, Resolved.jump_stops}
 use Rattle.taskscript.proofs.resolving.commands_in.Goals as goal
 
 pub command_in-requires-clause-fits : goal.command_in-requires-clause-fits

@@ -1,8 +1,6 @@
 -- What holds in the loops of `name_among`.
 use Rattle.std.proofs.Common.{◌≡◌, ℕ, List, drop, map}
-use Rattle.taskscript.specs.Commands.{first_name}
-use Rattle.taskscript.specs.Lines.{named_argument_view}
-use Rattle.taskscript.specs.Numbering.{Names, argument_in}
+use Rattle.taskscript.specs.{Commands.first_name, Lines.named_argument_view, Numbering.Names, Numbering.argument_in}
 use Rattle.taskscript.proofs.resolving.name_among.Given as goal
 
 abbrev pub invariant-loop-argument : goal.invariant-loop-argument

@@ -1,7 +1,6 @@
 -- The proof of `variable_of`: the variable that a field names, if it names one: `name`, or `@name` for a shared one (project rule).
 use Rattle.std.proofs.Common.{arith}
-use Rattle.std.proofs.lemmas.Str.{IsCharBoundary-after_ascii}
-use Rattle.std.proofs.lemmas.Bool.Decides.{nat_tests}
+use Rattle.std.proofs.lemmas.{Str.IsCharBoundary-after_ascii, Bool.Decides.nat_tests}
 use Rattle.taskscript.proofs.variable.variable_of.Goals as goal
 
 pub range_from-requires : goal.range_from-requires

@@ -1,19 +1,7 @@
 -- The proof of `word_of`: the word of a text, if there is one.
 use Rattle.std.proofs.Common.{Bool, bytes_eq, map}
-use Rattle.taskscript.specs.declared.word.Word.{Word}
 use Rattle.taskscript.specs.declared.word.Word.TheVariants.{Plain, Signals, Nesting, Tasks, Lists, Memory, Ports, Semaphores, Interrupts, Libraries, Requests}
-use Rattle.taskscript.specs.PlainWords.{plain_words}
-use Rattle.taskscript.specs.SignalWords.{signal_words}
-use Rattle.taskscript.specs.NestingWords.{nesting_words}
-use Rattle.taskscript.specs.TaskWords.{task_words}
-use Rattle.taskscript.specs.ListWords.{list_words}
-use Rattle.taskscript.specs.MemoryWords.{memory_words}
-use Rattle.taskscript.specs.PortWords.{port_words}
-use Rattle.taskscript.specs.SemaphoreWords.{semaphore_words}
-use Rattle.taskscript.specs.InterruptWords.{interrupt_words}
-use Rattle.taskscript.specs.LibraryWords.{library_words}
-use Rattle.taskscript.specs.RequestWords.{request_words}
-use Rattle.taskscript.specs.Words.{word_text}
+use Rattle.taskscript.specs.{declared.word.Word.Word, PlainWords.plain_words, SignalWords.signal_words, NestingWords.nesting_words, TaskWords.task_words, ListWords.list_words, MemoryWords.memory_words, PortWords.port_words, SemaphoreWords.semaphore_words, InterruptWords.interrupt_words, LibraryWords.library_words, RequestWords.request_words, Words.word_text}
 use Rattle.taskscript.proofs.WordGroups.{LookedIn, looked_on}
 use Rattle.taskscript.proofs.word.word_of.Goals as goal
 

@@ -2,8 +2,7 @@
 use Rattle.std.proofs.Common.{rules, ◌≡◌, sym, ◌∙◌, subst, None}
 use Rattle.execlist.specs.Lists.{sequence, home}
 use Rattle.execlist.proofs.Walks.{once_from}
-use Rattle.timerdev.proofs.Homes.{stands_once}
-use Rattle.timerdev.proofs.Walk.{Tells, walk_shorter, tells_first, tells_further, tells_here, tells_none}
+use Rattle.timerdev.proofs.{Homes.stands_once, Walk.Tells, Walk.walk_shorter, Walk.tells_first, Walk.tells_further, Walk.tells_here, Walk.tells_none}
 use Rattle.timerdev.proofs.first.is_before.Goals as goal
 
 pub loop-next-init : goal.loop-next-init

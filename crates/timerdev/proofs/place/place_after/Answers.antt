@@ -1,11 +1,9 @@
 -- The walk stops at the first request that is due by then, or has passed them all.
 use Rattle.std.proofs.Common.{rules, ◌≡◌, ◌<◌, ◌≤◌, length, arith, sym, ◌∙◌, subst, None}
 use Rattle.execlist.specs.Lists.{sequence, home}
-use Rattle.execlist.proofs.Walks.{once_from}
-use Rattle.execlist.proofs.PlainLemmas.{home_known}
+use Rattle.execlist.proofs.{Walks.once_from, PlainLemmas.home_known}
 use Rattle.timerdev.specs.Held.{due_at}
-use Rattle.timerdev.proofs.Homes.{stands_once}
-use Rattle.timerdev.proofs.Walk.{Passed, walk_begins, walk_steps, walk_shorter, place_first, place_behind}
+use Rattle.timerdev.proofs.{Homes.stands_once, Walk.Passed, Walk.walk_begins, Walk.walk_steps, Walk.walk_shorter, Walk.place_first, Walk.place_behind}
 use Rattle.timerdev.proofs.place.place_after.Goals as goal
 
 pub bounds-dues-m : goal.bounds-dues-m

@@ -1,7 +1,5 @@
 -- What is left is still to be added.
-use Rattle.std.proofs.Common.{◌≡◌, ◌++◌, drop}
-use Rattle.std.specs.List.{flat_map}
-use Rattle.std.specs.String.{string_bytes}
+use Rattle.std.proofs.Common.{◌≡◌, ◌++◌, drop, flat_map, string_bytes}
 use Rattle.wayreport.specs.Events.{marked_event}
 use Rattle.wayreport.proofs.events.push_rest.Given as goal
 

@@ -1,8 +1,6 @@
 -- Those so far are.
-use Rattle.std.proofs.Common.{ℕ, ◌<◌, get_or}
-use Rattle.std.specs.String.{string_bytes}
-use Rattle.wayreport.specs.Reports.{IsFirst}
-use Rattle.wayreport.specs.declared.report.Found.{Found}
+use Rattle.std.proofs.Common.{ℕ, ◌<◌, get_or, string_bytes}
+use Rattle.wayreport.specs.{Reports.IsFirst, declared.report.Found.Found}
 use Rattle.wayreport.proofs.reading.check_firsts.Given as goal
 
 abbrev pub invariant-loop-i : goal.invariant-loop-i

@@ -1,7 +1,6 @@
 -- Those so far are.
 use Rattle.std.proofs.Common.{ℕ, ◌<◌, get_or}
-use Rattle.wayreport.specs.Sums.{IsPartOf}
-use Rattle.wayreport.specs.declared.report.Report.{Report}
+use Rattle.wayreport.specs.{Sums.IsPartOf, declared.report.Report.Report}
 use Rattle.wayreport.proofs.sum.check_each.Given as goal
 
 abbrev pub invariant-loop-i : goal.invariant-loop-i

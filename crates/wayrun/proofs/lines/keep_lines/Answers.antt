@@ -1,6 +1,5 @@
 -- The proof of `keep_lines`: one more line is cut off; what is left has no line feed.
-use Rattle.std.proofs.Common.{◌∙◌, List, ℕ, [], ◌++◌, ap, ap₂, sym, append_assoc, append-nil}
-use Rattle.std.specs.List.{flat_map}
+use Rattle.std.proofs.Common.{◌∙◌, List, ℕ, [], ◌++◌, ap, ap₂, sym, append_assoc, append-nil, flat_map}
 use Rattle.wayrun.specs.Texts.{last_line, last_of, shown_line, whole_lines}
 use Rattle.wayrun.proofs.Texts.{cut_last, cut_lines, part_last, part_lines}
 use Rattle.wayrun.proofs.lines.keep_lines.Goals as goal

@@ -1,6 +1,5 @@
 -- What was done, and what the rest of the bytes gives, is what all of them give.
-use Rattle.std.proofs.Common.{◌≡◌, ◌++◌, length}
-use Rattle.std.specs.List.{flat_map}
+use Rattle.std.proofs.Common.{◌≡◌, ◌++◌, length, flat_map}
 use Rattle.wayrun.specs.Texts.{last_line, last_of, shown_line, whole_lines}
 use Rattle.wayrun.proofs.lines.keep_lines.Given as goal
 

@@ -1,20 +1,12 @@
 -- The proof of `run_on`: runs a way on a machine that was not started, that of the file.
 use Rattle.std.proofs.Common.{◌≡◌, ◌∙◌, ◌≤◌, ◌+◌, List, ℕ, [], ◌++◌, get_or, take, drop, refl, ap, ap₂, sym, subst, arith, sum_by}
 use Rattle.exectrace.specs.Trace.{printed}
-use Rattle.taskscript.specs.Events.{ticks as ticks_of}
-use Rattle.taskscript.specs.declared.event.Event.TheVariants.{Run}
-use Rattle.execmodel.specs.State.{Outcome, booted}
-use Rattle.execmodel.specs.Step.{starts, event}
-use Rattle.execsim.specs.Agreement.{Agrees}
-use Rattle.execsim.specs.Headline.{flow_of}
-use Rattle.execsim.specs.Time.{HasTimeFor}
+use Rattle.taskscript.specs.{Events.ticks as ticks_of, declared.event.Event.TheVariants.Run}
+use Rattle.execmodel.specs.{State.Outcome, State.booted, Step.starts, Step.event}
+use Rattle.execsim.specs.{Agreement.Agrees, Headline.flow_of, Time.HasTimeFor}
 use Rattle.execsim.proofs.Clock.{time_for_fewer}
-use Rattle.wayrun.specs.Seen.{seen_in}
-use Rattle.wayrun.specs.Texts.{last_of, shown_of, whole_lines}
-use Rattle.wayrun.specs.SoFar.{so_far, stops}
-use Rattle.wayrun.proofs.Standing.{ending_is}
-use Rattle.wayrun.proofs.Texts.{line_after, last_after, kept_after}
-use Rattle.wayrun.proofs.Steps.{acted, starts_only, state_next, shown_next, last_next, ticks_left, all_so_far}
+use Rattle.wayrun.specs.{Seen.seen_in, Texts.last_of, Texts.shown_of, Texts.whole_lines, SoFar.so_far, SoFar.stops}
+use Rattle.wayrun.proofs.{Standing.ending_is, Texts.line_after, Texts.last_after, Texts.kept_after, Steps.acted, Steps.starts_only, Steps.state_next, Steps.shown_next, Steps.last_next, Steps.ticks_left, Steps.all_so_far}
 use Rattle.wayrun.proofs.running.run_on.Goals as goal
 
 pub loop-event-init : goal.loop-event-init

@@ -1,13 +1,9 @@
 -- The run so far, and its time.
 use Rattle.std.proofs.Common.{◌≡◌, ◌++◌, take, drop, false, [], sum_by}
-use Rattle.exectrace.specs.Trace.{printed}
-use Rattle.exectrace.specs.declared.sinks.SinkState.TheVariants.{Good}
+use Rattle.exectrace.specs.{Trace.printed, declared.sinks.SinkState.TheVariants.Good}
 use Rattle.taskscript.specs.Events.{ticks as ticks_of}
-use Rattle.execsim.specs.Agreement.{Agrees}
-use Rattle.execsim.specs.Headline.{flow_of}
-use Rattle.execsim.specs.Time.{HasTimeFor}
-use Rattle.wayrun.specs.Texts.{last_of, shown_of, whole_lines}
-use Rattle.wayrun.specs.SoFar.{so_far}
+use Rattle.execsim.specs.{Agreement.Agrees, Headline.flow_of, Time.HasTimeFor}
+use Rattle.wayrun.specs.{Texts.last_of, Texts.shown_of, Texts.whole_lines, SoFar.so_far}
 use Rattle.wayrun.proofs.running.run_on.Given as goal
 
 abbrev pub invariant-loop-event : goal.invariant-loop-event

@@ -1,10 +1,7 @@
 -- The proof of `search`: runs each way of a part from the first state of the machine, and answers the table of what is seen.
 use Rattle.std.proofs.Common.{◌≡◌, ◌∙◌, ◌+◌, ap, arith}
-use Rattle.ways.specs.Ways.{ways as ways_of, part_of}
-use Rattle.ways.specs.Tabled.{Tabled}
-use Rattle.ways.specs.Tables.{number_where, table_of}
-use Rattle.wayrun.specs.Seen.{is_alerted, seen_of}
-use Rattle.wayrun.specs.Sought.{Sought}
+use Rattle.ways.specs.{Ways.ways as ways_of, Ways.part_of, Tabled.Tabled, Tables.number_where, Tables.table_of}
+use Rattle.wayrun.specs.{Seen.is_alerted, Seen.seen_of, Sought.Sought}
 use Rattle.wayrun.proofs.searching.search.Goals as goal
 
 pub returns-clause-table : goal.returns-clause-table

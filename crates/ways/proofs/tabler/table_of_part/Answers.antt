@@ -2,8 +2,7 @@
 -- among the actions those that the part names by their numbers.
 use Rattle.std.proofs.Common.{◌∙◌, ap}
 use Rattle.std.proofs.lemmas.Result.{on_ok_weaker}
-use Rattle.ways.specs.Ways.{ways as ways_of, part_of}
-use Rattle.ways.specs.Tabled.{Tabled}
+use Rattle.ways.specs.{Ways.ways as ways_of, Ways.part_of, Tabled.Tabled}
 use Rattle.ways.proofs.Folding.{after_all}
 use Rattle.ways.proofs.tabler.table_of_part.Goals as goal
 

@@ -1,11 +1,8 @@
 -- The proof of `+visiting`.
-use Rattle.std.proofs.Common.{◌≡◌, ◌++◌, ◌-◌, suc, arith, ap, refl, drop, map}
-use Rattle.std.specs.List.{fold}
+use Rattle.std.proofs.Common.{◌≡◌, ◌++◌, ◌-◌, suc, arith, ap, refl, drop, map, fold}
 use Rattle.std.proofs.lemmas.Grind.{common_steps}
-use Rattle.ways.specs.Ways.{exactly, passes}
-use Rattle.ways.specs.Windows.{passing}
-use Rattle.ways.proofs.WayLemmas.{front_longer, front_kept, kind_more, place_more}
-use Rattle.ways.proofs.Skips.{none_left, all_skipped}
+use Rattle.ways.specs.{Ways.exactly, Ways.passes, Windows.passing}
+use Rattle.ways.proofs.{WayLemmas.front_longer, WayLemmas.front_kept, WayLemmas.kind_more, WayLemmas.place_more, Skips.none_left, Skips.all_skipped}
 use Rattle.ways.proofs.visiting.+visiting.Goals as goal
 
 pub visit_from-loop-at-preserved : goal.visit_from-loop-at-preserved

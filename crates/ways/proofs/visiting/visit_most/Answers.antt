@@ -1,7 +1,6 @@
 -- The proof of `visit_most`: visits the ways of a part with at most that many extras.
 use Rattle.std.proofs.Common.{◌+◌, arith}
-use Rattle.ways.specs.Ways.{passes}
-use Rattle.ways.specs.Windows.{passing}
+use Rattle.ways.specs.{Ways.passes, Windows.passing}
 use Rattle.ways.proofs.WayLemmas.{extra_more}
 use Rattle.ways.proofs.visiting.visit_most.Goals as goal
 

@@ -1,8 +1,7 @@
 -- The request that is shown is ended, if it is under way.
 use Rattle.std.proofs.Common.{Some, ap, sym, ◌∙◌}
 use Rattle.execmodel.specs.State.{Memory}
-use Rattle.execheap.specs.Listing.{aborted, aborting}
-use Rattle.execheap.specs.Numbered.{shown_memory}
+use Rattle.execheap.specs.{Listing.aborted, Listing.aborting, Numbered.shown_memory}
 use Rattle.execheap.proofs.RequestAnswers.{aborted_rest, aborted_way, aborting_rest, aborting_way}
 use Rattle.execheap.proofs.heap.Heap.abort_request.Goals as goal
 

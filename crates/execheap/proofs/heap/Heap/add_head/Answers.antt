@@ -1,7 +1,6 @@
 -- The node is first in the list that is shown.
 use Rattle.std.proofs.Common.{ap, ◌∙◌}
-use Rattle.execmodel.specs.State.{on_heap}
-use Rattle.execmodel.specs.Lists.{added_head}
+use Rattle.execmodel.specs.{State.on_heap, Lists.added_head}
 use Rattle.execheap.specs.Numbered.{shown_memory}
 use Rattle.execheap.proofs.Linking.{at_head_shown}
 use Rattle.execheap.proofs.heap.Heap.add_head.Goals as goal

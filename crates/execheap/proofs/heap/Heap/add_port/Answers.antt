@@ -1,12 +1,9 @@
 -- The port that is shown is public under the name.
 use Rattle.std.proofs.Common.{rules, ap, arith, ◌∙◌}
 use Rattle.std.proofs.lemmas.Int.{to_z-of_z}
-use Rattle.execheap.specs.Changes.{on_ports}
+use Rattle.execheap.specs.{Changes.on_ports, Listing.listed, Numbered.shown_memory}
 use Rattle.msgport.specs.Ports.{made_public}
-use Rattle.execheap.specs.Listing.{listed}
-use Rattle.execheap.specs.Numbered.{shown_memory}
-use Rattle.execheap.proofs.Public.{made_public_shown}
-use Rattle.execheap.proofs.Posted.{item_known}
+use Rattle.execheap.proofs.{Public.made_public_shown, Posted.item_known}
 use Rattle.execheap.proofs.heap.Heap.add_port.Goals as goal
 use mir.Syntax.{w8}
 use mir.Val.{SFits}

@@ -1,7 +1,6 @@
 -- The node is last in the list that is shown.
 use Rattle.std.proofs.Common.{ap, ◌∙◌}
-use Rattle.execmodel.specs.State.{on_heap}
-use Rattle.execmodel.specs.Lists.{added_tail}
+use Rattle.execmodel.specs.{State.on_heap, Lists.added_tail}
 use Rattle.execheap.specs.Numbered.{shown_memory}
 use Rattle.execheap.proofs.Linking.{at_tail_shown}
 use Rattle.execheap.proofs.heap.Heap.add_tail.Goals as goal

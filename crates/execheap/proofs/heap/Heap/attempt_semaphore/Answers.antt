@@ -1,16 +1,12 @@
 -- The task has the semaphore that is shown, or nothing changes.
-use Rattle.std.proofs.Common.{◌≡◌, ap, sym, subst, ◌∙◌}
-use Rattle.std.specs.Prelude.{IfOk, OnOk}
-use Rattle.execmodel.specs.State.{Memory, on_heap}
-use Rattle.execmodel.specs.Semaphores.{obtain_alert, attempted, sem_of}
+use Rattle.std.proofs.Common.{◌≡◌, ap, sym, subst, ◌∙◌, IfOk, OnOk}
+use Rattle.execmodel.specs.{State.Memory, State.on_heap, Semaphores.obtain_alert, Semaphores.attempted, Semaphores.sem_of}
 use Rattle.execlist.specs.Answers.{fault_or}
 use Rattle.sigsem.specs.Semaphores as sems
 use Rattle.sigsem.specs.Semaphores.{Semaphores, deep_fault, is_open}
-use Rattle.execheap.specs.Refusals.{alert_of, told}
-use Rattle.execheap.specs.Numbered.{shown_heap, shown_memory}
-use Rattle.execheap.proofs.Dropping.{attempted_shown}
+use Rattle.execheap.specs.{Refusals.alert_of, Refusals.told, Numbered.shown_heap, Numbered.shown_memory}
 use Rattle.execheap.proofs.SemaphoreAlerts.{obtain_refused, obtain_told, sem_of_shown, told_answer, told_next}
-use Rattle.execheap.proofs.Passed.{passed_on}
+use Rattle.execheap.proofs.{Dropping.attempted_shown, Passed.passed_on}
 use Rattle.execheap.proofs.heap.Heap.attempt_semaphore.Goals as goal
 
 pub returns-in_err-n-clause-alert : goal.returns-in_err-n-clause-alert

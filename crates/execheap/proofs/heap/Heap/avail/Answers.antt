@@ -1,8 +1,7 @@
 -- As much is free as is shown to be.
 use Rattle.std.proofs.Common.{ap, sym, ◌∙◌}
 use Rattle.memlist.specs.Fit.{avail}
-use Rattle.execmodel.specs.State.{Memory}
-use Rattle.execmodel.specs.Memory.{extents}
+use Rattle.execmodel.specs.{State.Memory, Memory.extents}
 use Rattle.execheap.proofs.Blocks.{avail_shown}
 use Rattle.execheap.proofs.heap.Heap.avail.Goals as goal
 

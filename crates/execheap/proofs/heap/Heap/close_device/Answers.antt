@@ -1,7 +1,6 @@
 -- The request that is shown is not open.
 use Rattle.std.proofs.Common.{ap, ◌∙◌}
-use Rattle.execmodel.specs.State.{on_heap}
-use Rattle.execmodel.specs.Requests.{closed_device}
+use Rattle.execmodel.specs.{State.on_heap, Requests.closed_device}
 use Rattle.execheap.specs.Numbered.{shown_memory}
 use Rattle.execheap.proofs.RequestsShown.{closed_shown}
 use Rattle.execheap.proofs.heap.Heap.close_device.Goals as goal

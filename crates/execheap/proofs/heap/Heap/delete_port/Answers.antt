@@ -1,8 +1,6 @@
 -- The port is freed if it is shown, and its task and its signal are answered as they are shown.
 use Rattle.std.proofs.Common.{ℕ, ap, sym, ◌∙◌}
-use Rattle.execmodel.specs.State.{Memory}
-use Rattle.execmodel.specs.Memory.{freed}
-use Rattle.execmodel.specs.Ports.{port_of}
+use Rattle.execmodel.specs.{State.Memory, Memory.freed, Ports.port_of}
 use Rattle.msgport.specs.Port.{Port}
 use Rattle.execheap.proofs.Posted.{port_of_shown}
 use Rattle.execheap.proofs.heap.Heap.delete_port.Goals as goal

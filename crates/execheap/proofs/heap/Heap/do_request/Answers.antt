@@ -2,11 +2,8 @@
 use Rattle.std.proofs.Common.{true, ap, sym, ◌∙◌}
 use Rattle.iorequest.specs.Requests.{is_request, request_at}
 use Rattle.execmodel.specs.Requests.{begun_at}
-use Rattle.execheap.specs.Listing.{awaited_for}
-use Rattle.execheap.specs.Numbered.{Numbered, shown_heap, shown_memory}
-use Rattle.execheap.specs.Requesting.{looked_for}
-use Rattle.execheap.proofs.RequestAnswers.{begun_awaited, begun_lives}
-use Rattle.execheap.proofs.RequestsShown.{begun_shown}
+use Rattle.execheap.specs.{Listing.awaited_for, Numbered.Numbered, Numbered.shown_heap, Numbered.shown_memory, Requesting.looked_for}
+use Rattle.execheap.proofs.{RequestAnswers.begun_awaited, RequestAnswers.begun_lives, RequestsShown.begun_shown}
 use Rattle.execheap.proofs.heap.Heap.do_request.Goals as goal
 
 pub looked_for-requires : goal.looked_for-requires

@@ -1,7 +1,6 @@
 -- The task waits at no semaphore that is shown.
 use Rattle.std.proofs.Common.{ap, ◌∙◌}
-use Rattle.execmodel.specs.State.{on_heap}
-use Rattle.execmodel.specs.Semaphores.{dropped}
+use Rattle.execmodel.specs.{State.on_heap, Semaphores.dropped}
 use Rattle.execheap.specs.Numbered.{shown_memory}
 use Rattle.execheap.proofs.Dropping.{dropped_shown}
 use Rattle.execheap.proofs.heap.Heap.drop_waiter.Goals as goal

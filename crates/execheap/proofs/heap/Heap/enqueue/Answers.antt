@@ -1,7 +1,6 @@
 -- The node is among those of the list that is shown by its priority.
 use Rattle.std.proofs.Common.{ap, ◌∙◌}
-use Rattle.execmodel.specs.State.{on_heap}
-use Rattle.execmodel.specs.Lists.{enqueued}
+use Rattle.execmodel.specs.{State.on_heap, Lists.enqueued}
 use Rattle.execheap.specs.Numbered.{shown_memory}
 use Rattle.execheap.proofs.Linking.{queued_shown}
 use Rattle.execheap.proofs.heap.Heap.enqueue.Goals as goal

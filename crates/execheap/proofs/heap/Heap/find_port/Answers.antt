@@ -1,11 +1,8 @@
 -- The public port of the name that is shown is answered.
-use Rattle.std.proofs.Common.{find, ap, sym, ◌∙◌}
-use Rattle.std.specs.Prelude.{option_map}
+use Rattle.std.proofs.Common.{find, ap, sym, ◌∙◌, option_map}
 use Rattle.execlist.specs.Lists.{is_named}
 use Rattle.msgport.specs.Ports.{MessagePorts}
-use Rattle.execmodel.specs.State.{Memory}
-use Rattle.execmodel.specs.Lists.{or_none}
-use Rattle.execmodel.specs.Ports.{is_called, port_or_none}
+use Rattle.execmodel.specs.{State.Memory, Lists.or_none, Ports.is_called, Ports.port_or_none}
 use Rattle.execheap.specs.declared.tag.Kind.TheVariants as variant
 use Rattle.execheap.specs.Numbered.{address_in, places}
 use Rattle.execheap.proofs.Public.{found_public}

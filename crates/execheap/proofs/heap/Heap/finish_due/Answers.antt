@@ -4,9 +4,7 @@ use Rattle.execlist.specs.Pool.{slot}
 use Rattle.timerdev.specs.Timing.{due_next}
 use Rattle.execmodel.specs.State.{Memory}
 use Rattle.execheap.specs.declared.tag.Kind.TheVariants as variant
-use Rattle.execheap.specs.Listing.{ended_if, finishing}
-use Rattle.execheap.specs.Numbered.{Numbered, places, shown_memory}
-use Rattle.execheap.specs.Table.{Tabled, slots_of}
+use Rattle.execheap.specs.{Listing.ended_if, Listing.finishing, Numbered.Numbered, Numbered.places, Numbered.shown_memory, Table.Tabled, Table.slots_of}
 use Rattle.execheap.proofs.RequestAnswers.{finishing_none, finishing_some, next_ended_shown, table_ended, due_is_next}
 use Rattle.execheap.proofs.heap.Heap.finish_due.Goals as goal
 

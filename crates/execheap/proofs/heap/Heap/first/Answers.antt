@@ -1,8 +1,6 @@
 -- The first node of the list that is shown is answered.
-use Rattle.std.proofs.Common.{ap, sym, ◌∙◌}
-use Rattle.std.specs.Prelude.{option_map}
-use Rattle.execmodel.specs.State.{Memory}
-use Rattle.execmodel.specs.Lists.{first_of, or_none}
+use Rattle.std.proofs.Common.{ap, sym, ◌∙◌, option_map}
+use Rattle.execmodel.specs.{State.Memory, Lists.first_of, Lists.or_none}
 use Rattle.execheap.specs.declared.tag.Kind.TheVariants as variant
 use Rattle.execheap.specs.Numbered.{address_in, places}
 use Rattle.execheap.proofs.Linking.{first_shown}

@@ -1,7 +1,6 @@
 -- A block is named if it is shown to be named, and freed there.
 use Rattle.std.proofs.Common.{ap, sym, ◌∙◌}
-use Rattle.execmodel.specs.State.{Memory}
-use Rattle.execmodel.specs.Memory.{block_at, freed, is_named}
+use Rattle.execmodel.specs.{State.Memory, Memory.block_at, Memory.freed, Memory.is_named}
 use Rattle.execheap.specs.Numbered.{shown_memory}
 use Rattle.execheap.proofs.Plain.{named_shown, plain_freed}
 use Rattle.execheap.proofs.heap.Heap.free_mem.Goals as goal

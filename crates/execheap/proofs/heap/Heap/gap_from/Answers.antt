@@ -1,6 +1,5 @@
 -- The gaps that blocks by number leave are those that blocks by address leave.
-use Rattle.std.proofs.Common.{ap, sym, ◌∙◌}
-use Rattle.std.specs.Prelude.{slice_get}
+use Rattle.std.proofs.Common.{ap, sym, ◌∙◌, slice_get}
 use Rattle.memlist.specs.Readers.{gap_from as first_from}
 use Rattle.execheap.specs.Queues.{gap_from}
 use Rattle.execheap.proofs.Blocks.{gaps_shown}

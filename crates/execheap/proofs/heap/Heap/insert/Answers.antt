@@ -1,8 +1,6 @@
 -- The node is after its predecessor in the list that is shown.
-use Rattle.std.proofs.Common.{ap, ◌∙◌}
-use Rattle.std.specs.Prelude.{is_some}
-use Rattle.execmodel.specs.State.{on_heap}
-use Rattle.execmodel.specs.Lists.{inserted}
+use Rattle.std.proofs.Common.{ap, ◌∙◌, is_some}
+use Rattle.execmodel.specs.{State.on_heap, Lists.inserted}
 use Rattle.execheap.specs.Numbered.{shown_memory}
 use Rattle.execheap.proofs.Linking.{put_shown}
 use Rattle.execheap.proofs.heap.Heap.insert.Goals as goal

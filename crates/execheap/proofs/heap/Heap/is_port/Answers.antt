@@ -1,7 +1,6 @@
 -- A port begins there if the blocks have a number of one.
 use Rattle.std.proofs.Common.{ap, is_some, sym, ◌∙◌}
-use Rattle.execmodel.specs.State.{Memory}
-use Rattle.execmodel.specs.Ports.{is_port_at}
+use Rattle.execmodel.specs.{State.Memory, Ports.is_port_at}
 use Rattle.execheap.proofs.Shown.{port_at_shown}
 use Rattle.execheap.proofs.heap.Heap.is_port.Goals as goal
 

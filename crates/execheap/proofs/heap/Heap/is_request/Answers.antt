@@ -1,7 +1,6 @@
 -- A request begins there if the blocks have a number of one.
 use Rattle.std.proofs.Common.{ap, is_some, sym, ◌∙◌}
-use Rattle.execmodel.specs.State.{Memory}
-use Rattle.execmodel.specs.Requests.{is_request_at}
+use Rattle.execmodel.specs.{State.Memory, Requests.is_request_at}
 use Rattle.execheap.proofs.RequestAlerts.{request_at_shown}
 use Rattle.execheap.proofs.heap.Heap.is_request.Goals as goal
 

@@ -1,7 +1,6 @@
 -- The count of the library that is shown is answered.
 use Rattle.std.proofs.Common.{ap, sym, ◌∙◌}
-use Rattle.execmodel.specs.State.{Memory}
-use Rattle.execmodel.specs.Libraries.{count_of}
+use Rattle.execmodel.specs.{State.Memory, Libraries.count_of}
 use Rattle.execheap.proofs.Libraries.{count_there}
 use Rattle.execheap.proofs.heap.Heap.library_count.Goals as goal
 

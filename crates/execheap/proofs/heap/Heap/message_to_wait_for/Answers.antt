@@ -1,14 +1,11 @@
 -- The first message of the port that is shown is answered, and the port's signal.
-use Rattle.std.proofs.Common.{Some, ap, sym, ◌∙◌}
-use Rattle.std.specs.Prelude.{option_map, unwrap_or}
+use Rattle.std.proofs.Common.{Some, ap, sym, ◌∙◌, option_map, unwrap_or}
 use Rattle.execlist.specs.Order.{first}
-use Rattle.execmodel.specs.State.{Memory}
-use Rattle.execmodel.specs.Ports.{messages_of, port_of}
+use Rattle.execmodel.specs.{State.Memory, Ports.messages_of, Ports.port_of}
 use Rattle.msgport.specs.Port.{Port}
 use Rattle.msgport.specs.Ports as ports
 use Rattle.execheap.specs.Numbered.{address_in, message_places}
-use Rattle.execheap.proofs.MessagePlaces.{first_placed}
-use Rattle.execheap.proofs.Posted.{first_message_shown, port_of_shown}
+use Rattle.execheap.proofs.{MessagePlaces.first_placed, Posted.first_message_shown, Posted.port_of_shown}
 use Rattle.execheap.proofs.heap.Heap.message_to_wait_for.Goals as goal
 
 pub address_of_message-requires : goal.address_of_message-requires

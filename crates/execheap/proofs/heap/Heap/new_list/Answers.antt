@@ -1,10 +1,6 @@
 -- The object is made if it is shown to fit, and is shown where it is made.
 use Rattle.std.proofs.Common.{[], ap, ◌∙◌}
-use Rattle.execmodel.specs.State.{ListHead}
-use Rattle.execmodel.specs.Lists.{is_list}
-use Rattle.execmodel.specs.Memory.{placed}
-use Rattle.execmodel.specs.GivingWay.{after_asking_for_object}
-use Rattle.execmodel.specs.Objects.{place_for_object}
+use Rattle.execmodel.specs.{State.ListHead, Lists.is_list, Memory.placed, GivingWay.after_asking_for_object, Objects.place_for_object}
 use Rattle.execheap.proofs.heap.Heap.new_list.Goals as goal
 
 pub returns-clause-address : goal.returns-clause-address

@@ -1,7 +1,6 @@
 -- The request that is shown is open for the unit, if the timer has it.
 use Rattle.std.proofs.Common.{ap, ◌∙◌}
-use Rattle.execmodel.specs.State.{on_heap}
-use Rattle.execmodel.specs.Requests.{opened_for}
+use Rattle.execmodel.specs.{State.on_heap, Requests.opened_for}
 use Rattle.execheap.specs.Numbered.{shown_memory}
 use Rattle.execheap.proofs.RequestsShown.{opened_shown}
 use Rattle.execheap.proofs.heap.Heap.open_device.Goals as goal

@@ -1,8 +1,6 @@
 -- The node before it in the list that is shown is answered.
-use Rattle.std.proofs.Common.{ap, sym, ◌∙◌}
-use Rattle.std.specs.Prelude.{option_map}
-use Rattle.execmodel.specs.State.{Memory}
-use Rattle.execmodel.specs.Lists.{pred_of, or_none}
+use Rattle.std.proofs.Common.{ap, sym, ◌∙◌, option_map}
+use Rattle.execmodel.specs.{State.Memory, Lists.pred_of, Lists.or_none}
 use Rattle.execheap.specs.declared.tag.Kind.TheVariants as variant
 use Rattle.execheap.specs.Numbered.{address_in, places}
 use Rattle.execheap.proofs.Linking.{pred_shown}

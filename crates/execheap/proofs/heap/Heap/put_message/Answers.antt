@@ -1,9 +1,7 @@
 -- The message is last in the port that is shown, and the port acts as it is shown to.
 use Rattle.std.proofs.Common.{ap, sym, ◌∙◌}
-use Rattle.execmodel.specs.State.{Memory, on_heap}
-use Rattle.execmodel.specs.Ports.{port_of, posted}
-use Rattle.msgport.specs.Port.{acting}
-use Rattle.msgport.specs.Ports.{nt_message}
+use Rattle.execmodel.specs.{State.Memory, State.on_heap, Ports.port_of, Ports.posted}
+use Rattle.msgport.specs.{Port.acting, Ports.nt_message}
 use Rattle.execheap.specs.Numbered.{shown_memory}
 use Rattle.execheap.proofs.Posted.{port_of_shown, posted_shown}
 use Rattle.execheap.proofs.heap.Heap.put_message.Goals as goal

@@ -1,16 +1,12 @@
 -- The semaphore that is shown is handed on, or its owner has to release it once less.
-use Rattle.std.proofs.Common.{◌≡◌, ap, sym, subst, ◌∙◌}
-use Rattle.std.specs.Prelude.{IfOk, OnOk}
-use Rattle.execmodel.specs.State.{Memory, on_heap}
-use Rattle.execmodel.specs.Semaphores.{heir, release_alert, released}
+use Rattle.std.proofs.Common.{◌≡◌, ap, sym, subst, ◌∙◌, IfOk, OnOk}
+use Rattle.execmodel.specs.{State.Memory, State.on_heap, Semaphores.heir, Semaphores.release_alert, Semaphores.released}
 use Rattle.execlist.specs.Answers.{fault_or}
 use Rattle.sigsem.specs.Semaphores as sems
 use Rattle.sigsem.specs.Semaphores.{Semaphores, let_go, release_fault}
-use Rattle.execheap.specs.Refusals.{alert_of, told}
-use Rattle.execheap.specs.Numbered.{shown_heap, shown_memory}
-use Rattle.execheap.proofs.Dropping.{released_shown}
+use Rattle.execheap.specs.{Refusals.alert_of, Refusals.told, Numbered.shown_heap, Numbered.shown_memory}
 use Rattle.execheap.proofs.SemaphoreAlerts.{heir_shown, release_refused, release_told, told_answer, told_next}
-use Rattle.execheap.proofs.Passed.{passed_on}
+use Rattle.execheap.proofs.{Dropping.released_shown, Passed.passed_on}
 use Rattle.execheap.proofs.heap.Heap.release_semaphore.Goals as goal
 
 pub returns-in_err-n-clause-alert : goal.returns-in_err-n-clause-alert

@@ -1,13 +1,9 @@
 -- The first node of the list that is shown is answered, and leaves it.
-use Rattle.std.proofs.Common.{ap, drop, sym, ◌∙◌}
-use Rattle.execlist.specs.Order.{first}
-use Rattle.execlist.specs.Lists.{sequence}
-use Rattle.std.specs.Prelude.{option_map}
-use Rattle.execmodel.specs.State.{Memory, on_heap}
-use Rattle.execmodel.specs.Lists.{first_of, or_none, removed_head}
+use Rattle.std.proofs.Common.{ap, drop, sym, ◌∙◌, option_map}
+use Rattle.execlist.specs.{Order.first, Lists.sequence}
+use Rattle.execmodel.specs.{State.Memory, State.on_heap, Lists.first_of, Lists.or_none, Lists.removed_head}
 use Rattle.execheap.specs.declared.tag.Kind.TheVariants as variant
-use Rattle.execheap.specs.Table.{Tabled, slots_of}
-use Rattle.execheap.specs.Numbered.{Numbered, address_in, shown_memory, places}
+use Rattle.execheap.specs.{Table.Tabled, Table.slots_of, Numbered.Numbered, Numbered.address_in, Numbered.shown_memory, Numbered.places}
 use Rattle.execheap.proofs.Linking.{unlinked_table, first_shown, head_taken_shown}
 use Rattle.execheap.proofs.heap.Heap.rem_head.Goals as goal
 

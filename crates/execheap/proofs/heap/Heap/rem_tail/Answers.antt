@@ -1,12 +1,9 @@
 -- The last node of the list that is shown is answered, and leaves it.
-use Rattle.std.proofs.Common.{ap, length, sym, take, ◌-◌, ◌∙◌}
+use Rattle.std.proofs.Common.{ap, length, sym, take, ◌-◌, ◌∙◌, option_map}
 use Rattle.execlist.specs.Lists.{last, sequence}
-use Rattle.std.specs.Prelude.{option_map}
-use Rattle.execmodel.specs.State.{Memory, on_heap}
-use Rattle.execmodel.specs.Lists.{last_of, or_none, removed_tail}
+use Rattle.execmodel.specs.{State.Memory, State.on_heap, Lists.last_of, Lists.or_none, Lists.removed_tail}
 use Rattle.execheap.specs.declared.tag.Kind.TheVariants as variant
-use Rattle.execheap.specs.Table.{Tabled, slots_of}
-use Rattle.execheap.specs.Numbered.{Numbered, address_in, shown_memory, places}
+use Rattle.execheap.specs.{Table.Tabled, Table.slots_of, Numbered.Numbered, Numbered.address_in, Numbered.shown_memory, Numbered.places}
 use Rattle.execheap.proofs.Linking.{unlinked_table, last_shown, tail_taken_shown}
 use Rattle.execheap.proofs.heap.Heap.rem_tail.Goals as goal
 

@@ -1,7 +1,6 @@
 -- The node is in no list that is shown.
 use Rattle.std.proofs.Common.{ap, ◌∙◌}
-use Rattle.execmodel.specs.State.{on_heap}
-use Rattle.execmodel.specs.Lists.{unlinked}
+use Rattle.execmodel.specs.{State.on_heap, Lists.unlinked}
 use Rattle.execheap.specs.Numbered.{shown_memory}
 use Rattle.execheap.proofs.Linking.{taken_out_shown}
 use Rattle.execheap.proofs.heap.Heap.remove.Goals as goal

@@ -1,13 +1,9 @@
 -- The message is last in the reply port that is shown, or is of the type of one without.
 use Rattle.std.proofs.Common.{ap, sym, ◌∙◌}
-use Rattle.execmodel.specs.State.{Memory, on_heap}
-use Rattle.execmodel.specs.Ports.{content_of}
-use Rattle.msgport.specs.Port.{acting}
-use Rattle.msgport.specs.Ports.{nt_freemsg, nt_replymsg}
-use Rattle.execheap.specs.Listing.{replied_by, replying}
-use Rattle.execheap.specs.Numbered.{shown_heap, shown_memory}
-use Rattle.execheap.proofs.Posted.{port_of_shown, posted_shown, typed_shown}
-use Rattle.execheap.proofs.Replying.{replied_none, replied_some, replying_none, replying_some}
+use Rattle.execmodel.specs.{State.Memory, State.on_heap, Ports.content_of}
+use Rattle.msgport.specs.{Port.acting, Ports.nt_freemsg, Ports.nt_replymsg}
+use Rattle.execheap.specs.{Listing.replied_by, Listing.replying, Numbered.shown_heap, Numbered.shown_memory}
+use Rattle.execheap.proofs.{Posted.port_of_shown, Posted.posted_shown, Posted.typed_shown, Replying.replied_none, Replying.replied_some, Replying.replying_none, Replying.replying_some}
 use Rattle.execheap.proofs.heap.Heap.reply_message.Goals as goal
 
 pub returns-in-Some-clause-answer : goal.returns-in-Some-clause-answer

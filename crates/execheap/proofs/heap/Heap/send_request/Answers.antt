@@ -1,8 +1,7 @@
 -- The request that is shown is begun.
 use Rattle.std.proofs.Common.{false, ap, ◌∙◌}
 use Rattle.execmodel.specs.Requests.{begun_at}
-use Rattle.execheap.specs.Listing.{acting_begun}
-use Rattle.execheap.specs.Numbered.{shown_memory}
+use Rattle.execheap.specs.{Listing.acting_begun, Numbered.shown_memory}
 use Rattle.execheap.proofs.RequestsShown.{acting_begun_shown, begun_shown}
 use Rattle.execheap.proofs.heap.Heap.send_request.Goals as goal
 

@@ -1,7 +1,6 @@
 -- The port that is shown has the action.
 use Rattle.std.proofs.Common.{ap, ◌∙◌}
-use Rattle.execmodel.specs.State.{on_heap}
-use Rattle.execmodel.specs.Ports.{with_action}
+use Rattle.execmodel.specs.{State.on_heap, Ports.with_action}
 use Rattle.execheap.specs.Numbered.{shown_memory}
 use Rattle.execheap.proofs.Posted.{action_shown}
 use Rattle.execheap.proofs.heap.Heap.set_action.Goals as goal

@@ -1,7 +1,6 @@
 -- The request that is shown has the command and the time.
 use Rattle.std.proofs.Common.{ap, ◌∙◌}
-use Rattle.execmodel.specs.State.{on_heap}
-use Rattle.execmodel.specs.Requests.{with_command}
+use Rattle.execmodel.specs.{State.on_heap, Requests.with_command}
 use Rattle.execheap.specs.Numbered.{shown_memory}
 use Rattle.execheap.proofs.RequestsShown.{command_shown}
 use Rattle.execheap.proofs.heap.Heap.set_request.Goals as goal

@@ -1,7 +1,6 @@
 -- The message that is shown has the word.
 use Rattle.std.proofs.Common.{ap, ◌∙◌}
-use Rattle.execmodel.specs.State.{on_heap}
-use Rattle.execmodel.specs.Ports.{with_word}
+use Rattle.execmodel.specs.{State.on_heap, Ports.with_word}
 use Rattle.execheap.specs.Numbered.{shown_memory}
 use Rattle.execheap.proofs.Posted.{word_shown}
 use Rattle.execheap.proofs.heap.Heap.set_word.Goals as goal

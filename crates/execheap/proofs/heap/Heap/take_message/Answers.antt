@@ -1,14 +1,10 @@
 -- The first message of the port that is shown is answered, and leaves it.
-use Rattle.std.proofs.Common.{◌≡◌, Option, None, Some, refl, ap, sym, ◌∙◌}
+use Rattle.std.proofs.Common.{◌≡◌, Option, None, Some, refl, ap, sym, ◌∙◌, option_map}
 use Rattle.std.proofs.lemmas.Option.{none-some}
-use Rattle.std.specs.Prelude.{option_map}
 use Rattle.execlist.specs.Order.{first}
-use Rattle.execmodel.specs.State.{Memory, on_heap}
-use Rattle.execmodel.specs.Lists.{or_none}
-use Rattle.execmodel.specs.Ports.{messages_of, taken_off}
+use Rattle.execmodel.specs.{State.Memory, State.on_heap, Lists.or_none, Ports.messages_of, Ports.taken_off}
 use Rattle.msgport.specs.Ports as ports
-use Rattle.execheap.specs.Changes.{on_ports}
-use Rattle.execheap.specs.Numbered.{Numbered, address_in, message_places, shown_memory}
+use Rattle.execheap.specs.{Changes.on_ports, Numbered.Numbered, Numbered.address_in, Numbered.message_places, Numbered.shown_memory}
 use Rattle.execheap.proofs.Posted.{first_message_shown, taken_off_shown}
 use Rattle.execheap.proofs.heap.Heap.take_message.Goals as goal
 

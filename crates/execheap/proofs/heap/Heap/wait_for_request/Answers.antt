@@ -1,12 +1,9 @@
 -- The task looks for the request that is shown, and its reply is taken.
 use Rattle.std.proofs.Common.{ap, ◌∙◌}
 use Rattle.execlist.specs.Pool.{Pooled}
-use Rattle.iorequest.specs.declared.request.Request.{Request}
-use Rattle.iorequest.specs.Requests.{request_at}
+use Rattle.iorequest.specs.{declared.request.Request.Request, Requests.request_at}
 use Rattle.execmodel.specs.State.{Memory, on_heap}
-use Rattle.execheap.specs.Listing.{awaited_for, taken_if_replied}
-use Rattle.execheap.specs.Numbered.{Numbered, shown_heap, shown_memory}
-use Rattle.execheap.specs.Requesting.{looked_for}
+use Rattle.execheap.specs.{Listing.awaited_for, Listing.taken_if_replied, Numbered.Numbered, Numbered.shown_heap, Numbered.shown_memory, Requesting.looked_for}
 use Rattle.execheap.proofs.RequestAnswers.{looked_shown, requests_out, taken_if_shown}
 use Rattle.execheap.proofs.heap.Heap.wait_for_request.Goals as goal
 

@@ -1,7 +1,6 @@
 -- The word of the message that is shown is answered.
 use Rattle.std.proofs.Common.{ap, sym, ◌∙◌}
-use Rattle.execmodel.specs.State.{Memory}
-use Rattle.execmodel.specs.Ports.{content_of}
+use Rattle.execmodel.specs.{State.Memory, Ports.content_of}
 use Rattle.msgport.specs.Ports.{MessagePorts, message_at}
 use Rattle.execheap.proofs.Posted.{content_of_shown}
 use Rattle.execheap.proofs.heap.Heap.word.Goals as goal

@@ -1,8 +1,6 @@
 -- A request that is under way is done, and waits no more.
-use Rattle.std.proofs.Common.{ap, sym, subst, ◌∙◌}
-use Rattle.std.specs.Prelude.{negsuc}
-use Rattle.iorequest.specs.Request.{reply_port}
-use Rattle.iorequest.specs.Requests.{is_request, request_at}
+use Rattle.std.proofs.Common.{ap, sym, subst, ◌∙◌, negsuc}
+use Rattle.iorequest.specs.{Request.reply_port, Requests.is_request, Requests.request_at}
 use Rattle.execheap.specs.Numbered.{IsKnown, Numbered, message_of_request}
 use Rattle.execheap.proofs.KeptRequests.{kept_ended, port_lives}
 use Rattle.execheap.proofs.objects.Objects.abort_request.Goals as goal

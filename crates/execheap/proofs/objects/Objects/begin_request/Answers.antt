@@ -1,18 +1,15 @@
 -- A request that rests is held and waits, or is done at once, if system time may be set.
-use Rattle.std.proofs.Common.{◌≡◌, ◌+◌, None, ap, false, refl, sym, subst, ◌∙◌}
-use Rattle.std.specs.Prelude.{pos, ◌<◌, ◌^◌, IsTrue}
+use Rattle.std.proofs.Common.{◌≡◌, ◌+◌, None, ap, false, refl, sym, subst, ◌∙◌, pos, ◌<◌, ◌^◌, IsTrue}
 use Rattle.execlist.specs.Lists.{home}
-use Rattle.iorequest.specs.Request.{finished, is_under_way, outcome, reply_port, time_of}
-use Rattle.iorequest.specs.Requests.{is_request, request_at, with_request}
+use Rattle.iorequest.specs.{Request.finished, Request.is_under_way, Request.outcome, Request.reply_port, Request.time_of, Requests.is_request, Requests.request_at, Requests.with_request}
 use Rattle.timerdev.specs.Timing.{AtClock, AtSystem}
 use Rattle.execheap.specs.Numbered.{IsKnown, Numbered, message_of_request}
 use Rattle.execheap.specs.Requesting as next
 use Rattle.execheap.proofs.KeptPorts as ports
-use Rattle.execheap.proofs.KeptRequests.{kept_begun, message_there, not_way, port_lives, request_loose}
 use Rattle.execheap.proofs.RequestCalls.{acting_once, acting_set, answer_is, begun_kept, begun_once, begun_set, error_byte, new_time, not_refused}
-use Rattle.execheap.proofs.Waits.{IsTimed, timed_not, timed_set}
-use Rattle.execheap.proofs.objects.Objects.begin_request.Goals as goal
 use Rattle.execheap.proofs.objects.Objects.begin_request.Goals.{After-message_of-message, After-self, After-unwrap}
+use Rattle.execheap.proofs.{KeptRequests.kept_begun, KeptRequests.message_there, KeptRequests.not_way, KeptRequests.port_lives, KeptRequests.request_loose, Waits.IsTimed, Waits.timed_not, Waits.timed_set}
+use Rattle.execheap.proofs.objects.Objects.begin_request.Goals as goal
 
 module _ (g : _) (c : After-self g) where
   lives : IsTrue (is_request c.args.r c.self.inside.requests)

@@ -1,9 +1,6 @@
 -- What is seen of the block that has a tag.
-use Rattle.std.proofs.Common.{ap, sym, ◌∙◌}
-use Rattle.std.specs.Prelude.{Some}
-use Rattle.std.specs.Option.{option_map}
-use Rattle.execheap.specs.Numbered.{Numbered}
-use Rattle.execheap.specs.Table.{begins_at}
+use Rattle.std.proofs.Common.{ap, sym, ◌∙◌, Some, option_map}
+use Rattle.execheap.specs.{Numbered.Numbered, Table.begins_at}
 use Rattle.execheap.proofs.BlockViews.{block_seen, seen_by}
 use Rattle.execheap.proofs.objects.Objects.block.Goals as goal
 

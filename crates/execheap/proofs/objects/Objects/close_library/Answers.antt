@@ -1,8 +1,7 @@
 -- A library is closed if it is shown.
 use Rattle.std.proofs.Common.{ap, ◌∙◌}
 use Rattle.execmodel.specs.Libraries.{closed}
-use Rattle.execheap.specs.Numbered.{Numbered, shown_memory}
-use Rattle.execheap.specs.Table.{base_at}
+use Rattle.execheap.specs.{Numbered.Numbered, Numbered.shown_memory, Table.base_at}
 use Rattle.execheap.proofs.LibraryCalls.{closed_shown}
 use Rattle.execheap.proofs.objects.Objects.close_library.Goals as goal
 

@@ -1,7 +1,6 @@
 -- The request is another one that rests.
 use Rattle.std.proofs.Common.{ap, refl, ◌∙◌}
-use Rattle.iorequest.specs.Request.{is_under_way}
-use Rattle.iorequest.specs.Requests.{is_request, request_at}
+use Rattle.iorequest.specs.{Request.is_under_way, Requests.is_request, Requests.request_at}
 use Rattle.execheap.specs.Numbered.{Numbered}
 use Rattle.execheap.proofs.KeptRequests.{kept_set}
 use Rattle.execheap.proofs.objects.Objects.close_request.Goals as goal

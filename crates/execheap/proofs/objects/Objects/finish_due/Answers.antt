@@ -1,12 +1,9 @@
 -- A request whose time has come lives and is under way; it is done, and waits no more.
-use Rattle.std.proofs.Common.{ap, sym, subst, ◌∙◌, ◌+◌}
-use Rattle.std.specs.Prelude.{pos}
-use Rattle.iorequest.specs.Request.{reply_port}
-use Rattle.iorequest.specs.Requests.{request_at}
+use Rattle.std.proofs.Common.{ap, sym, subst, ◌∙◌, ◌+◌, pos}
+use Rattle.iorequest.specs.{Request.reply_port, Requests.request_at}
 use Rattle.timerdev.specs.Held.{on_timer, taken_off}
 use Rattle.execheap.specs.Numbered.{IsKnown}
-use Rattle.execheap.proofs.KeptRequests.{kept_ended, port_lives, request_live, under_way_loose}
-use Rattle.execheap.proofs.RequestCalls.{due_waits, waiting_under_way}
+use Rattle.execheap.proofs.{KeptRequests.kept_ended, KeptRequests.port_lives, KeptRequests.request_live, KeptRequests.under_way_loose, RequestCalls.due_waits, RequestCalls.waiting_under_way}
 use Rattle.execheap.proofs.objects.Objects.finish_due.Goals as goal
 
 pub finish-action-requires-clause-under_way : goal.finish-action-requires-clause-under_way

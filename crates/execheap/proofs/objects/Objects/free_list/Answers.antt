@@ -4,8 +4,7 @@ use Rattle.execlist.specs.Lists.{sequence}
 use Rattle.execmodel.specs.Memory.{freed}
 use Rattle.execheap.specs.declared.tag.Kind.TheVariants as variant
 use Rattle.execheap.specs.Numbered.{Numbered, shown_memory}
-use Rattle.execheap.proofs.Lists.{list_freed_kept, list_freed_shown}
-use Rattle.execheap.proofs.Made.{freed_at}
+use Rattle.execheap.proofs.{Lists.list_freed_kept, Lists.list_freed_shown, Made.freed_at}
 use Rattle.execheap.proofs.objects.Objects.free_list.Goals as goal
 
 pub invariant_of-self : goal.invariant_of-self

@@ -4,9 +4,7 @@ use Rattle.execlist.specs.Lists.{home}
 use Rattle.execmodel.specs.Memory.{freed}
 use Rattle.execheap.specs.declared.tag.Kind.TheVariants as variant
 use Rattle.execheap.specs.Numbered.{Numbered, shown_memory}
-use Rattle.execheap.proofs.KeptPorts.{not_refused}
-use Rattle.execheap.proofs.Made.{freed_at}
-use Rattle.execheap.proofs.Messages.{message_freed_kept, message_freed_shown, message_loose}
+use Rattle.execheap.proofs.{KeptPorts.not_refused, Made.freed_at, Messages.message_freed_kept, Messages.message_freed_shown, Messages.message_loose}
 use Rattle.execheap.proofs.objects.Objects.free_message.Goals as goal
 
 pub unwrap-requires : goal.unwrap-requires

@@ -4,8 +4,7 @@ use Rattle.execlist.specs.Lists.{home}
 use Rattle.execmodel.specs.Memory.{freed}
 use Rattle.execheap.specs.declared.tag.Kind.TheVariants as variant
 use Rattle.execheap.specs.Numbered.{Numbered, shown_memory}
-use Rattle.execheap.proofs.Made.{freed_at}
-use Rattle.execheap.proofs.Nodes.{node_freed_kept, node_freed_shown}
+use Rattle.execheap.proofs.{Made.freed_at, Nodes.node_freed_kept, Nodes.node_freed_shown}
 use Rattle.execheap.proofs.objects.Objects.free_node.Goals as goal
 
 pub invariant_of-self : goal.invariant_of-self

@@ -1,13 +1,10 @@
 -- The object is freed if it is shown.
-use Rattle.std.proofs.Common.{ap, refl, ◌∙◌}
-use Rattle.std.specs.Prelude.{not}
+use Rattle.std.proofs.Common.{ap, refl, ◌∙◌, not}
 use Rattle.msgport.specs.Ports.{has_messages, is_public}
 use Rattle.execmodel.specs.Memory.{freed}
 use Rattle.execheap.specs.declared.tag.Kind.TheVariants as variant
 use Rattle.execheap.specs.Numbered.{Numbered, shown_memory}
-use Rattle.execheap.proofs.KeptPorts.{not_refused}
-use Rattle.execheap.proofs.Made.{freed_at}
-use Rattle.execheap.proofs.Ports.{port_freed_kept, port_freed_shown, port_unused}
+use Rattle.execheap.proofs.{KeptPorts.not_refused, Made.freed_at, Ports.port_freed_kept, Ports.port_freed_shown, Ports.port_unused}
 use Rattle.execheap.proofs.objects.Objects.free_port.Goals as goal
 
 pub unwrap-requires : goal.unwrap-requires

@@ -1,16 +1,11 @@
 -- The object is freed if it is shown.
 use Rattle.std.proofs.Common.{ap, is_some, sym, subst, ◌∙◌}
-use Rattle.execlist.specs.Lists.{home}
-use Rattle.execlist.specs.Pool.{slot}
-use Rattle.iorequest.specs.Request.{is_under_way}
-use Rattle.iorequest.specs.Requests.{request_at}
+use Rattle.execlist.specs.{Lists.home, Pool.slot}
+use Rattle.iorequest.specs.{Request.is_under_way, Requests.request_at}
 use Rattle.execmodel.specs.Memory.{freed}
 use Rattle.execheap.specs.declared.tag.Kind.TheVariants as variant
 use Rattle.execheap.specs.Numbered.{IsKnown, Numbered, message_of_request, places, shown_memory}
-use Rattle.execheap.proofs.KeptRequests.{live_request}
-use Rattle.execheap.proofs.Made.{freed_at}
-use Rattle.execheap.proofs.RequestCalls.{not_refused}
-use Rattle.execheap.proofs.RequestsMade.{request_freed_kept, request_freed_shown}
+use Rattle.execheap.proofs.{KeptRequests.live_request, Made.freed_at, RequestCalls.not_refused, RequestsMade.request_freed_kept, RequestsMade.request_freed_shown}
 use Rattle.execheap.proofs.objects.Objects.free_request.Goals as goal
 
 pub delete-requires : goal.delete-requires

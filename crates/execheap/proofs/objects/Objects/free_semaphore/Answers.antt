@@ -3,9 +3,7 @@ use Rattle.std.proofs.Common.{ap, ◌∙◌}
 use Rattle.execmodel.specs.Memory.{freed}
 use Rattle.execheap.specs.declared.tag.Kind.TheVariants as variant
 use Rattle.execheap.specs.Numbered.{shown_memory}
-use Rattle.execheap.proofs.KeptSemaphores.{not_refused}
-use Rattle.execheap.proofs.Made.{freed_at}
-use Rattle.execheap.proofs.Semaphores.{sem_freed_kept, sem_freed_shown, sem_lives}
+use Rattle.execheap.proofs.{KeptSemaphores.not_refused, Made.freed_at, Semaphores.sem_freed_kept, Semaphores.sem_freed_shown, Semaphores.sem_lives}
 use Rattle.execheap.proofs.objects.Objects.free_semaphore.Goals as goal
 
 pub free-requires-2 : goal.free-requires-2

@@ -2,8 +2,7 @@
 use Rattle.std.proofs.Common.{ap, sym, ◌∙◌}
 use Rattle.msgport.specs.Ports.{is_linked}
 use Rattle.execheap.specs.Numbered.{shown_heap}
-use Rattle.execheap.proofs.PortAlerts.{loose_by_handle, loose_found}
-use Rattle.execheap.proofs.Passed.{passed_on}
+use Rattle.execheap.proofs.{PortAlerts.loose_by_handle, PortAlerts.loose_found, Passed.passed_on}
 use Rattle.execheap.proofs.objects.Objects.loose_message_at.Goals as goal
 
 pub returns-in_err-m-clause-alert : goal.returns-in_err-m-clause-alert

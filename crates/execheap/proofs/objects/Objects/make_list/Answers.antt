@@ -2,8 +2,7 @@
 use Rattle.std.proofs.Common.{None, Some, [], ◌∙◌}
 use Rattle.execmodel.specs.State.{ListHead}
 use Rattle.execheap.specs.declared.tag.Kind.TheVariants as variant
-use Rattle.execheap.proofs.Lists.{list_made_kept, list_made_shown}
-use Rattle.execheap.proofs.Asked.{kept_unmade, made_ready, place_made, placed_ready, shown_unmade}
+use Rattle.execheap.proofs.{Lists.list_made_kept, Lists.list_made_shown, Asked.kept_unmade, Asked.made_ready, Asked.place_made, Asked.placed_ready, Asked.shown_unmade}
 use Rattle.execheap.proofs.objects.Objects.make_list.Goals as goal
 
 pub invariant_of-self : goal.invariant_of-self

@@ -3,8 +3,7 @@ use Rattle.std.proofs.Common.{None, Some, refl, ◌∙◌}
 use Rattle.msgport.specs.Ports.{new_message}
 use Rattle.execmodel.specs.State.{Message}
 use Rattle.execheap.specs.declared.tag.Kind.TheVariants as variant
-use Rattle.execheap.proofs.Messages.{message_made_kept, message_made_shown, message_next}
-use Rattle.execheap.proofs.Asked.{kept_unmade, made_ready, place_made, placed_ready, shown_unmade}
+use Rattle.execheap.proofs.{Messages.message_made_kept, Messages.message_made_shown, Messages.message_next, Asked.kept_unmade, Asked.made_ready, Asked.place_made, Asked.placed_ready, Asked.shown_unmade}
 use Rattle.execheap.proofs.objects.Objects.make_message.Goals as goal
 
 pub invariant_of-self : goal.invariant_of-self

@@ -1,12 +1,10 @@
 -- A node is made if it is shown to fit, and is shown where it is made.
-use Rattle.std.proofs.Common.{rules, None, Some, ◌∙◌}
+use Rattle.std.proofs.Common.{rules, None, Some, ◌∙◌, option_map}
 use Rattle.std.proofs.lemmas.Int.{to_z-of_z}
-use Rattle.std.specs.Prelude.{option_map}
 use Rattle.execmodel.specs.State.{Node}
 use Rattle.execheap.specs.Changes.{key_with}
 use Rattle.execheap.specs.declared.tag.Kind.TheVariants as variant
-use Rattle.execheap.proofs.Nodes.{node_known, node_made_shown}
-use Rattle.execheap.proofs.Asked.{kept_unmade, made_ready, place_made, placed_ready, shown_unmade}
+use Rattle.execheap.proofs.{Nodes.node_known, Nodes.node_made_shown, Asked.kept_unmade, Asked.made_ready, Asked.place_made, Asked.placed_ready, Asked.shown_unmade}
 use Rattle.execheap.proofs.objects.Objects.make_node.Goals as goal
 use mir.Syntax.{w8}
 use mir.Val.{SFits}

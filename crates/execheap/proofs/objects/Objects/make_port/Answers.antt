@@ -3,8 +3,7 @@ use Rattle.std.proofs.Common.{None, Some, [], refl, ◌∙◌}
 use Rattle.msgport.specs.Port.{new_port}
 use Rattle.execmodel.specs.State.{MsgPort}
 use Rattle.execheap.specs.declared.tag.Kind.TheVariants as variant
-use Rattle.execheap.proofs.Ports.{port_made_kept, port_made_shown, port_next}
-use Rattle.execheap.proofs.Asked.{kept_unmade, made_ready, place_made, placed_ready, shown_unmade}
+use Rattle.execheap.proofs.{Ports.port_made_kept, Ports.port_made_shown, Ports.port_next, Asked.kept_unmade, Asked.made_ready, Asked.place_made, Asked.placed_ready, Asked.shown_unmade}
 use Rattle.execheap.proofs.objects.Objects.make_port.Goals as goal
 
 pub invariant_of-self : goal.invariant_of-self

@@ -4,8 +4,7 @@ use Rattle.iorequest.specs.Request.{idle_request}
 use Rattle.execmodel.specs.State.{Request}
 use Rattle.execheap.specs.Numbered.{IsKnown}
 use Rattle.execheap.specs.declared.tag.Kind.TheVariants as variant
-use Rattle.execheap.proofs.RequestsMade.{request_made_kept, request_made_shown, request_next}
-use Rattle.execheap.proofs.Asked.{kept_unmade, made_ready, place_made, placed_ready, shown_unmade}
+use Rattle.execheap.proofs.{RequestsMade.request_made_kept, RequestsMade.request_made_shown, RequestsMade.request_next, Asked.kept_unmade, Asked.made_ready, Asked.place_made, Asked.placed_ready, Asked.shown_unmade}
 use Rattle.execheap.proofs.objects.Objects.make_request.Goals as goal
 
 pub invariant_of-self : goal.invariant_of-self

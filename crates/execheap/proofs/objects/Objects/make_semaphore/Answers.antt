@@ -3,8 +3,7 @@ use Rattle.std.proofs.Common.{None, Some, [], refl, ◌∙◌}
 use Rattle.sigsem.specs.Semaphores.{free_sem}
 use Rattle.execmodel.specs.State.{Semaphore}
 use Rattle.execheap.specs.declared.tag.Kind.TheVariants as variant
-use Rattle.execheap.proofs.Semaphores.{sem_made_kept, sem_made_shown, sem_next}
-use Rattle.execheap.proofs.Asked.{kept_unmade, made_ready, place_made, placed_ready, shown_unmade}
+use Rattle.execheap.proofs.{Semaphores.sem_made_kept, Semaphores.sem_made_shown, Semaphores.sem_next, Asked.kept_unmade, Asked.made_ready, Asked.place_made, Asked.placed_ready, Asked.shown_unmade}
 use Rattle.execheap.proofs.objects.Objects.make_semaphore.Goals as goal
 
 pub invariant_of-self : goal.invariant_of-self

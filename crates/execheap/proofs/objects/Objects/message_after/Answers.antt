@@ -1,12 +1,9 @@
 -- The messages of the port that begins at an address; none if none does.
 use Rattle.std.proofs.Common.{List, ℕ, ap, is_some, sym, ◌∙◌}
-use Rattle.execlist.specs.Lists.{part_from}
-use Rattle.execlist.specs.Order.{first}
+use Rattle.execlist.specs.{Lists.part_from, Order.first}
 use Rattle.execheap.specs.declared.tag.Kind.TheVariants as variant
 use Rattle.execheap.specs.Table.{pool_of}
-use Rattle.execheap.proofs.Queues.{no_port_there}
-use Rattle.execheap.proofs.Shown.{messages_shown}
-use Rattle.execheap.proofs.Stepping.{shape_lives}
+use Rattle.execheap.proofs.{Queues.no_port_there, Shown.messages_shown, Stepping.shape_lives}
 use Rattle.execheap.proofs.objects.Objects.message_after.Goals as goal
 
 pub message_in-requires : goal.message_in-requires

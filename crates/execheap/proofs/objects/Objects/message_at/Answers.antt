@@ -1,7 +1,6 @@
 -- No message begins there if the blocks have no number of one.
 use Rattle.std.proofs.Common.{ap, is_some, sym}
-use Rattle.execheap.proofs.PortAlerts.{message_found, message_refused}
-use Rattle.execheap.proofs.Front.{message_live}
+use Rattle.execheap.proofs.{PortAlerts.message_found, PortAlerts.message_refused, Front.message_live}
 use Rattle.execheap.proofs.objects.Objects.message_at.Goals as goal
 
 pub returns-in-Some-clause-alert : goal.returns-in-Some-clause-alert

@@ -1,9 +1,6 @@
 -- The messages of a port by number are those that are shown by address.
-use Rattle.std.proofs.Common.{◌≡◌, ℕ, Option, Some, map, ap, sym, subst, ◌∙◌}
-use Rattle.std.specs.Prelude.{IfSome}
-use Rattle.std.specs.Option.{option_map}
-use Rattle.execlist.specs.Lists.{home, part_from}
-use Rattle.execlist.specs.Order.{first}
+use Rattle.std.proofs.Common.{◌≡◌, ℕ, Option, Some, map, ap, sym, subst, ◌∙◌, IfSome, option_map}
+use Rattle.execlist.specs.{Lists.home, Lists.part_from, Order.first}
 use Rattle.msgport.specs.Ports.{messages_of}
 use Rattle.execheap.specs.Numbered.{Numbered, address_in, message_places}
 use Rattle.execheap.proofs.Queues.{next_message, no_message, placed_if}

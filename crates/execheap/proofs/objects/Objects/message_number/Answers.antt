@@ -2,10 +2,7 @@
 use Rattle.std.proofs.Common.{ap, is_some, sym, ◌∙◌}
 use Rattle.execlist.specs.Pool.{slot}
 use Rattle.execheap.specs.Numbered.{message_places}
-use Rattle.execheap.proofs.Front.{message_live}
-use Rattle.execheap.proofs.KeptRequests.{live_request, message_there}
-use Rattle.execheap.proofs.MessagePlaces.{request_standing}
-use Rattle.execheap.proofs.Queues.{none_placed}
+use Rattle.execheap.proofs.{Front.message_live, KeptRequests.live_request, KeptRequests.message_there, MessagePlaces.request_standing, Queues.none_placed}
 use Rattle.execheap.proofs.objects.Objects.message_number.Goals as goal
 
 pub message_of-requires : goal.message_of-requires

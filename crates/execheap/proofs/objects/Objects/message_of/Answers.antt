@@ -1,6 +1,5 @@
 -- There are as many messages as numbers fit.
-use Rattle.std.proofs.Common.{sym, subst, arith}
-use Rattle.std.specs.Prelude.{IsTrue}
+use Rattle.std.proofs.Common.{sym, subst, arith, IsTrue}
 use Rattle.iorequest.specs.Requests.{is_request}
 use Rattle.execheap.specs.Numbered.{IsKnown, Numbered}
 use Rattle.execheap.proofs.KeptRequests.{request_small}

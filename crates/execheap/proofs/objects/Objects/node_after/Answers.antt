@@ -1,9 +1,7 @@
 -- The nodes of the list that begins at an address; none if none does.
 use Rattle.std.proofs.Common.{List, ℕ, ap, sym, ◌∙◌}
-use Rattle.execlist.specs.Lists.{part_from}
-use Rattle.execlist.specs.Order.{first}
-use Rattle.execheap.proofs.Queues.{no_list}
-use Rattle.execheap.proofs.Shown.{nodes_shown}
+use Rattle.execlist.specs.{Lists.part_from, Order.first}
+use Rattle.execheap.proofs.{Queues.no_list, Shown.nodes_shown}
 use Rattle.execheap.proofs.objects.Objects.node_after.Goals as goal
 
 pub returns-in-None : goal.returns-in-None

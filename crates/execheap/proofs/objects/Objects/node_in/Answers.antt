@@ -1,8 +1,6 @@
 -- The nodes of a list by number are those that are shown by address.
-use Rattle.std.proofs.Common.{ℕ, Option, Some, map, ap, sym, ◌∙◌}
-use Rattle.std.specs.Option.{option_map}
-use Rattle.execlist.specs.Lists.{part_from, sequence}
-use Rattle.execlist.specs.Order.{first}
+use Rattle.std.proofs.Common.{ℕ, Option, Some, map, ap, sym, ◌∙◌, option_map}
+use Rattle.execlist.specs.{Lists.part_from, Lists.sequence, Order.first}
 use Rattle.execheap.specs.declared.tag.Kind.TheVariants as variant
 use Rattle.execheap.specs.Numbered.{Numbered, address_in, places}
 use Rattle.execheap.proofs.Queues.{next_node, no_node}

@@ -1,9 +1,8 @@
 -- No port begins there if the blocks have no number of one.
 use Rattle.std.proofs.Common.{ap, is_some, sym, ◌∙◌}
-use Rattle.execheap.proofs.PortAlerts.{port_found, port_refused}
+use Rattle.execheap.proofs.{PortAlerts.port_found, PortAlerts.port_refused, Stepping.shape_lives}
 use Rattle.execheap.specs.declared.tag.Kind.TheVariants as variant
 use Rattle.execheap.specs.Table.{pool_of}
-use Rattle.execheap.proofs.Stepping.{shape_lives}
 use Rattle.execheap.proofs.objects.Objects.port_at.Goals as goal
 
 pub returns-in-Some-clause-alert : goal.returns-in-Some-clause-alert

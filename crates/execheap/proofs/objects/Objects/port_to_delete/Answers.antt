@@ -2,14 +2,12 @@
 use Rattle.std.proofs.Common.{Bool, true, false, ◌≡◌, ◌||◌, is_some, ap, sym, ◌∙◌}
 use Rattle.std.specs.List.{list_any}
 use Rattle.execlist.specs.Pool.{Pooled}
-use Rattle.iorequest.specs.declared.request.Request.{Request}
-use Rattle.iorequest.specs.Requests.{is_under_way_at}
+use Rattle.iorequest.specs.{declared.request.Request.Request, Requests.is_under_way_at}
 use Rattle.msgport.specs.Ports.{has_messages, is_public}
 use Rattle.execheap.specs.Numbered.{shown_memory}
-use Rattle.execheap.proofs.Public.{delete_found, delete_refused}
-use Rattle.execheap.proofs.Passed.{passed_on}
-use Rattle.execheap.proofs.objects.Objects.port_to_delete.Goals as goal
 use Rattle.execheap.proofs.objects.Objects.port_to_delete.Goals.{Joined-is_public, then-is_public, else-is_public}
+use Rattle.execheap.proofs.{Public.delete_found, Public.delete_refused, Passed.passed_on}
+use Rattle.execheap.proofs.objects.Objects.port_to_delete.Goals as goal
 
 -- it has no message: whether it is public or awaited
 used : (g : _) (c : Joined-is_public g)

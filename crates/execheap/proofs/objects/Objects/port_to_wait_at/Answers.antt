@@ -1,10 +1,8 @@
 -- A port signals the task if it does by number.
 use Rattle.std.proofs.Common.{ap, sym, ◌∙◌}
-use Rattle.msgport.specs.Port.{wait_bit}
-use Rattle.msgport.specs.Ports.{port_at}
+use Rattle.msgport.specs.{Port.wait_bit, Ports.port_at}
 use Rattle.execheap.specs.Numbered.{shown_heap}
-use Rattle.execheap.proofs.PortAlerts.{wait_found, wait_refused}
-use Rattle.execheap.proofs.Passed.{passed_on}
+use Rattle.execheap.proofs.{PortAlerts.wait_found, PortAlerts.wait_refused, Passed.passed_on}
 use Rattle.execheap.proofs.objects.Objects.port_to_wait_at.Goals as goal
 
 pub returns-in_err-p-clause-alert : goal.returns-in_err-p-clause-alert

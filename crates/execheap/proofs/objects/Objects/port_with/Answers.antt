@@ -1,6 +1,5 @@
 -- The port by number is the one that has the address among its messages.
-use Rattle.std.proofs.Common.{ap, sym, ◌∙◌}
-use Rattle.std.specs.Option.{option_map}
+use Rattle.std.proofs.Common.{ap, sym, ◌∙◌, option_map}
 use Rattle.execlist.specs.Lists.{home}
 use Rattle.execheap.specs.declared.tag.Kind.TheVariants as variant
 use Rattle.execheap.specs.Numbered.{Numbered, address_in, places}

@@ -3,8 +3,7 @@ use Rattle.std.proofs.Common.{rules, true, ◌≡◌, ap, sym, ◌∙◌}
 use Rattle.execmodel.specs.Tasks.{is_priority}
 use Rattle.msgport.specs.Ports.{is_public}
 use Rattle.execheap.specs.Numbered.{shown_memory}
-use Rattle.execheap.proofs.Public.{private_found, private_refused}
-use Rattle.execheap.proofs.Passed.{passed_on}
+use Rattle.execheap.proofs.{Public.private_found, Public.private_refused, Passed.passed_on}
 use Rattle.execheap.proofs.objects.Objects.private_port_at.Goals as goal
 
 pub returns-in_err-p-clause-alert : goal.returns-in_err-p-clause-alert

@@ -2,8 +2,7 @@
 use Rattle.std.proofs.Common.{ap, sym, ◌∙◌}
 use Rattle.msgport.specs.Ports.{is_public}
 use Rattle.execheap.specs.Numbered.{shown_memory}
-use Rattle.execheap.proofs.Public.{public_found, public_refused}
-use Rattle.execheap.proofs.Passed.{passed_on}
+use Rattle.execheap.proofs.{Public.public_found, Public.public_refused, Passed.passed_on}
 use Rattle.execheap.proofs.objects.Objects.public_port_at.Goals as goal
 
 pub returns-in_err-p-clause-alert : goal.returns-in_err-p-clause-alert

@@ -1,13 +1,10 @@
 -- The message that is put is one of the table, and is in the port.
-use Rattle.std.proofs.Common.{ap, refl, ◌∙◌}
-use Rattle.std.specs.Prelude.{is_some}
-use Rattle.execlist.specs.Lists.{home}
-use Rattle.execlist.specs.Pool.{slot}
+use Rattle.std.proofs.Common.{ap, refl, ◌∙◌, is_some}
+use Rattle.execlist.specs.{Lists.home, Pool.slot}
 use Rattle.msgport.specs.Ports.{is_port}
 use Rattle.execheap.specs.declared.tag.Kind.TheVariants as variant
 use Rattle.execheap.specs.Numbered.{Numbered, places}
-use Rattle.execheap.proofs.KeptPorts.{kept_unless}
-use Rattle.execheap.proofs.Loose.{none_posted, put_kept}
+use Rattle.execheap.proofs.{KeptPorts.kept_unless, Loose.none_posted, Loose.put_kept}
 use Rattle.execheap.proofs.objects.Objects.put.Goals as goal
 
 pub invariant_of-self : goal.invariant_of-self

@@ -1,13 +1,10 @@
 -- The message that is replied is one of the table, and is in the port.
-use Rattle.std.proofs.Common.{ap, refl, ◌∙◌}
-use Rattle.std.specs.Prelude.{is_some}
-use Rattle.execlist.specs.Lists.{home}
-use Rattle.execlist.specs.Pool.{slot}
+use Rattle.std.proofs.Common.{ap, refl, ◌∙◌, is_some}
+use Rattle.execlist.specs.{Lists.home, Pool.slot}
 use Rattle.msgport.specs.Ports.{is_port}
 use Rattle.execheap.specs.declared.tag.Kind.TheVariants as variant
 use Rattle.execheap.specs.Numbered.{Numbered, places}
-use Rattle.execheap.proofs.KeptPorts.{kept_unless, not_refused}
-use Rattle.execheap.proofs.Loose.{held_as_before, none_replied, put_kept, replied_ports}
+use Rattle.execheap.proofs.{KeptPorts.kept_unless, KeptPorts.not_refused, Loose.held_as_before, Loose.none_replied, Loose.put_kept, Loose.replied_ports}
 use Rattle.execheap.proofs.objects.Objects.reply.Goals as goal
 
 pub invariant_of-self : goal.invariant_of-self

@@ -1,12 +1,9 @@
 -- The message is one of the table, another one, and in no port.
-use Rattle.std.proofs.Common.{ap, refl, ◌∙◌}
-use Rattle.std.specs.Prelude.{is_some}
-use Rattle.execlist.specs.Lists.{home}
-use Rattle.execlist.specs.Pool.{slot}
+use Rattle.std.proofs.Common.{ap, refl, ◌∙◌, is_some}
+use Rattle.execlist.specs.{Lists.home, Pool.slot}
 use Rattle.execheap.specs.declared.tag.Kind.TheVariants as variant
 use Rattle.execheap.specs.Numbered.{Numbered, places}
-use Rattle.execheap.proofs.KeptPorts.{kept_unless}
-use Rattle.execheap.proofs.Loose.{none_loose, typed_kept}
+use Rattle.execheap.proofs.{KeptPorts.kept_unless, Loose.none_loose, Loose.typed_kept}
 use Rattle.execheap.proofs.objects.Objects.reply_none.Goals as goal
 
 pub invariant_of-self : goal.invariant_of-self

@@ -1,8 +1,7 @@
 -- A reply port is none, or begins there.
 use Rattle.std.proofs.Common.{sym, ◌∙◌}
 use Rattle.execheap.specs.Numbered.{shown_heap}
-use Rattle.execheap.proofs.PortAlerts.{reply_port_none, reply_port_some}
-use Rattle.execheap.proofs.Passed.{passed_on}
+use Rattle.execheap.proofs.{PortAlerts.reply_port_none, PortAlerts.reply_port_some, Passed.passed_on}
 use Rattle.execheap.proofs.objects.Objects.reply_port_at.Goals as goal
 
 pub returns-then-reply-eq0-clause-alert : goal.returns-then-reply-eq0-clause-alert

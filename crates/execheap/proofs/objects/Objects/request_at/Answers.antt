@@ -1,7 +1,6 @@
 -- No request begins there if the blocks have no number of one.
 use Rattle.std.proofs.Common.{ap, is_some, sym}
-use Rattle.execheap.proofs.KeptRequests.{live_request}
-use Rattle.execheap.proofs.RequestAlerts.{request_found, request_refused, request_shown}
+use Rattle.execheap.proofs.{KeptRequests.live_request, RequestAlerts.request_found, RequestAlerts.request_refused, RequestAlerts.request_shown}
 use Rattle.execheap.proofs.objects.Objects.request_at.Goals as goal
 
 pub returns-in-Some-clause-alert : goal.returns-in-Some-clause-alert

@@ -1,10 +1,8 @@
 -- A request may begin if it may by number.
 use Rattle.std.proofs.Common.{ap, sym, ◌∙◌}
-use Rattle.iorequest.specs.Request.{is_open}
-use Rattle.iorequest.specs.Requests.{request_at}
+use Rattle.iorequest.specs.{Request.is_open, Requests.request_at}
 use Rattle.execheap.specs.Numbered.{shown_heap}
-use Rattle.execheap.proofs.RequestAlerts.{begin_found, begin_refused, begin_shut, reply_shown}
-use Rattle.execheap.proofs.Passed.{passed_on}
+use Rattle.execheap.proofs.{RequestAlerts.begin_found, RequestAlerts.begin_refused, RequestAlerts.begin_shut, RequestAlerts.reply_shown, Passed.passed_on}
 use Rattle.execheap.proofs.objects.Objects.request_to_begin.Goals as goal
 
 pub returns-in_err-r-clause-alert : goal.returns-in_err-r-clause-alert

@@ -1,8 +1,7 @@
 -- The reply of a request is in a port if it is by number.
 use Rattle.std.proofs.Common.{sym, ◌∙◌}
 use Rattle.execheap.specs.Numbered.{shown_heap}
-use Rattle.execheap.proofs.RequestAlerts.{delete_found, delete_refused, reply_shown}
-use Rattle.execheap.proofs.Passed.{passed_on}
+use Rattle.execheap.proofs.{RequestAlerts.delete_found, RequestAlerts.delete_refused, RequestAlerts.reply_shown, Passed.passed_on}
 use Rattle.execheap.proofs.objects.Objects.request_to_delete.Goals as goal
 
 pub returns-in_err-r-clause-alert : goal.returns-in_err-r-clause-alert

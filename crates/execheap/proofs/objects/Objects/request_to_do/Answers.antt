@@ -1,13 +1,10 @@
 -- The request is asked for first, and then its reply port.
 use Rattle.std.proofs.Common.{ap, sym, ◌∙◌}
-use Rattle.iorequest.specs.declared.request.Request.{Request as TimerRequest}
-use Rattle.iorequest.specs.Requests.{request_at}
+use Rattle.iorequest.specs.{declared.request.Request.Request as TimerRequest, Requests.request_at}
 use Rattle.execmodel.specs.Ports.{port_of, wait_alert}
 use Rattle.msgport.specs.Port.{Port}
 use Rattle.execheap.specs.Numbered.{shown_heap}
-use Rattle.execheap.proofs.Posted.{port_of_shown}
-use Rattle.execheap.proofs.RequestAlerts.{do_past, do_refused}
-use Rattle.execheap.proofs.Passed.{passed_on}
+use Rattle.execheap.proofs.{Posted.port_of_shown, RequestAlerts.do_past, RequestAlerts.do_refused, Passed.passed_on}
 use Rattle.execheap.proofs.objects.Objects.request_to_do.Goals as goal
 
 pub returns-in_err-r-clause-alert : goal.returns-in_err-r-clause-alert

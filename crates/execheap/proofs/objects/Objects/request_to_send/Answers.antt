@@ -1,11 +1,9 @@
 -- The request is asked for first, and then its reply port.
 use Rattle.std.proofs.Common.{ap, sym, ◌∙◌}
-use Rattle.iorequest.specs.declared.request.Request.{Request as TimerRequest}
-use Rattle.iorequest.specs.Requests.{request_at}
+use Rattle.iorequest.specs.{declared.request.Request.Request as TimerRequest, Requests.request_at}
 use Rattle.execmodel.specs.Ports.{port_alert}
 use Rattle.execheap.specs.Numbered.{shown_heap}
-use Rattle.execheap.proofs.RequestAlerts.{send_past, send_refused}
-use Rattle.execheap.proofs.Passed.{passed_on}
+use Rattle.execheap.proofs.{RequestAlerts.send_past, RequestAlerts.send_refused, Passed.passed_on}
 use Rattle.execheap.proofs.objects.Objects.request_to_send.Goals as goal
 
 pub returns-in_err-r-clause-alert : goal.returns-in_err-r-clause-alert

@@ -1,19 +1,12 @@
 -- The request is asked for first, and then what its state asks for.
-use Rattle.std.proofs.Common.{◌≡◌, ap, sym, ◌∙◌}
-use Rattle.std.specs.Prelude.{if◌then◌else◌, None, Some, codes}
-use Rattle.iorequest.specs.declared.request.ReqState.{ReqState}
-use Rattle.iorequest.specs.declared.request.ReqState.TheVariants.{Replied}
-use Rattle.iorequest.specs.declared.request.Request.{Request as TimerRequest}
-use Rattle.iorequest.specs.Requests.{request_at}
-use Rattle.execmodel.specs.Ports.{port_of, wait_alert}
-use Rattle.execmodel.specs.Requests.{request_of, state_alert, wait_io_alert}
+use Rattle.std.proofs.Common.{◌≡◌, ap, sym, ◌∙◌, if◌then◌else◌, None, Some, codes}
+use Rattle.iorequest.specs.{declared.request.ReqState.ReqState, declared.request.ReqState.TheVariants.Replied, declared.request.Request.Request as TimerRequest, Requests.request_at}
+use Rattle.execmodel.specs.{Ports.port_of, Ports.wait_alert, Requests.request_of, Requests.state_alert, Requests.wait_io_alert}
 use Rattle.msgport.specs.Port.{Port}
 use Rattle.execheap.specs.Numbered.{shown_heap}
-use Rattle.execheap.proofs.Posted.{port_of_shown}
-use Rattle.execheap.proofs.RequestAlerts.{reply_shown, wait_io_past, wait_io_refused}
-use Rattle.execheap.proofs.Passed.{passed_on}
-use Rattle.execheap.proofs.objects.Objects.request_to_wait_for.Goals as goal
 use Rattle.execheap.proofs.objects.Objects.request_to_wait_for.Goals.{After-is_reply_queued-queued, After-reply_port, After-state}
+use Rattle.execheap.proofs.{Posted.port_of_shown, RequestAlerts.reply_shown, RequestAlerts.wait_io_past, RequestAlerts.wait_io_refused, Passed.passed_on}
+use Rattle.execheap.proofs.objects.Objects.request_to_wait_for.Goals as goal
 
 -- what its state asks for
 module _ (g : _) (c : After-state g) where

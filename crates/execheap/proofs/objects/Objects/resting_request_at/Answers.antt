@@ -2,8 +2,7 @@
 use Rattle.std.proofs.Common.{sym, ◌∙◌}
 use Rattle.iorequest.specs.Requests.{request_at}
 use Rattle.execheap.specs.Numbered.{shown_heap}
-use Rattle.execheap.proofs.RequestAlerts.{resting_found, resting_refused}
-use Rattle.execheap.proofs.Passed.{passed_on}
+use Rattle.execheap.proofs.{RequestAlerts.resting_found, RequestAlerts.resting_refused, Passed.passed_on}
 use Rattle.execheap.proofs.objects.Objects.resting_request_at.Goals as goal
 
 pub returns-in_err-r-clause-alert : goal.returns-in_err-r-clause-alert

@@ -1,9 +1,8 @@
 -- No semaphore begins there if the blocks have no number of one.
 use Rattle.std.proofs.Common.{ap, is_some, sym, ◌∙◌}
-use Rattle.execheap.proofs.SemaphoreAlerts.{semaphore_found, semaphore_refused}
+use Rattle.execheap.proofs.{SemaphoreAlerts.semaphore_found, SemaphoreAlerts.semaphore_refused, Stepping.shape_lives}
 use Rattle.execheap.specs.declared.tag.Kind.TheVariants as variant
 use Rattle.execheap.specs.Table.{pool_of}
-use Rattle.execheap.proofs.Stepping.{shape_lives}
 use Rattle.execheap.proofs.objects.Objects.semaphore_at.Goals as goal
 
 pub returns-in-Some-clause-alert : goal.returns-in-Some-clause-alert

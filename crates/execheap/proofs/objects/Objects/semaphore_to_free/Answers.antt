@@ -2,8 +2,7 @@
 use Rattle.std.proofs.Common.{ap, sym, ◌∙◌}
 use Rattle.sigsem.specs.Semaphores.{Semaphores, is_owned, sem_at}
 use Rattle.execheap.specs.Numbered.{shown_heap}
-use Rattle.execheap.proofs.Passed.{passed_on}
-use Rattle.execheap.proofs.SemaphoreAlerts.{free_found, free_refused}
+use Rattle.execheap.proofs.{Passed.passed_on, SemaphoreAlerts.free_found, SemaphoreAlerts.free_refused}
 use Rattle.execheap.proofs.objects.Objects.semaphore_to_free.Goals as goal
 
 pub returns-in_err-n-clause-alert : goal.returns-in_err-n-clause-alert

@@ -1,6 +1,5 @@
 -- The port has the signal that it had, and the same ports and messages live.
-use Rattle.std.proofs.Common.{ap, ◌∙◌}
-use Rattle.std.specs.Prelude.{IsTrue}
+use Rattle.std.proofs.Common.{ap, ◌∙◌, IsTrue}
 use Rattle.msgport.specs.Ports.{is_port}
 use Rattle.execheap.specs.Numbered.{Numbered}
 use Rattle.execheap.proofs.KeptPorts.{kept_port_set}

@@ -1,8 +1,7 @@
 -- The same ports and messages live, and what is first in a port has an address.
 use Rattle.std.proofs.Common.{subst, sym}
 use Rattle.execheap.specs.Numbered.{IsKnown}
-use Rattle.execheap.proofs.KeptPorts.{kept_taken}
-use Rattle.execheap.proofs.MessagePlaces.{first_lives}
+use Rattle.execheap.proofs.{KeptPorts.kept_taken, MessagePlaces.first_lives}
 use Rattle.execheap.proofs.objects.Objects.take_message.Goals as goal
 
 pub invariant_of-self : goal.invariant_of-self

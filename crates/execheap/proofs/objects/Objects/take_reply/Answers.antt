@@ -1,12 +1,9 @@
 -- The reply is taken out of the port that has it.
-use Rattle.std.proofs.Common.{◌≡◌, ap, refl, sym, subst, ◌∙◌}
-use Rattle.std.specs.Prelude.{IsSome}
+use Rattle.std.proofs.Common.{◌≡◌, ap, refl, sym, subst, ◌∙◌, IsSome}
 use Rattle.execlist.specs.Lists.{home}
-use Rattle.iorequest.specs.declared.request.ReqState.TheVariants.{Replied}
-use Rattle.iorequest.specs.Requests.{is_request, request_at}
+use Rattle.iorequest.specs.{declared.request.ReqState.TheVariants.Replied, Requests.is_request, Requests.request_at}
 use Rattle.execheap.specs.Numbered.{IsKnown, Numbered, message_of_request}
-use Rattle.execheap.proofs.KeptPorts.{not_refused}
-use Rattle.execheap.proofs.KeptRequests.{kept_out, request_queued}
+use Rattle.execheap.proofs.{KeptPorts.not_refused, KeptRequests.kept_out, KeptRequests.request_queued}
 use Rattle.execheap.proofs.objects.Objects.take_reply.Goals as goal
 
 pub unwrap-requires : goal.unwrap-requires

@@ -1,7 +1,6 @@
 -- The list is asked for first, and then the node.
 use Rattle.std.proofs.Common.{sym, ◌∙◌}
-use Rattle.execheap.proofs.Alerts.{link_by_list, link_by_node}
-use Rattle.execheap.proofs.Passed.{passed_on}
+use Rattle.execheap.proofs.{Alerts.link_by_list, Alerts.link_by_node, Passed.passed_on}
 use Rattle.execheap.proofs.objects.Objects.to_link.Goals as goal
 
 pub returns-in_err-h-clause-alert : goal.returns-in_err-h-clause-alert

@@ -1,8 +1,7 @@
 -- The port is asked for first, and then the message.
 use Rattle.std.proofs.Common.{sym, ◌∙◌}
 use Rattle.execheap.specs.Numbered.{shown_heap}
-use Rattle.execheap.proofs.PortAlerts.{put_by_message, put_by_port}
-use Rattle.execheap.proofs.Passed.{passed_on}
+use Rattle.execheap.proofs.{PortAlerts.put_by_message, PortAlerts.put_by_port, Passed.passed_on}
 use Rattle.execheap.proofs.objects.Objects.to_put.Goals as goal
 
 pub returns-in_err-p-clause-alert : goal.returns-in_err-p-clause-alert

@@ -3,8 +3,7 @@ use Rattle.std.proofs.Common.{Some, ◌≡◌, ap, sym, ◌∙◌}
 use Rattle.execmodel.specs.Ports.{content_of, reply_port_alert}
 use Rattle.msgport.specs.Ports.{MessagePorts, message_at}
 use Rattle.execheap.specs.Numbered.{shown_heap}
-use Rattle.execheap.proofs.PortAlerts.{reply_by_loose, reply_by_port, reply_of}
-use Rattle.execheap.proofs.Passed.{passed_on}
+use Rattle.execheap.proofs.{PortAlerts.reply_by_loose, PortAlerts.reply_by_port, PortAlerts.reply_of, Passed.passed_on}
 use Rattle.execheap.proofs.objects.Objects.to_reply.Goals as goal
 
 pub returns-in_err-m-clause-alert : goal.returns-in_err-m-clause-alert

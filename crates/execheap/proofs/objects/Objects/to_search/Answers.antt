@@ -1,7 +1,6 @@
 -- The search begins in a list, or else after a linked node.
 use Rattle.std.proofs.Common.{sym, ◌∙◌}
-use Rattle.execheap.proofs.Alerts.{find_list, find_node, searched_list, searched_node}
-use Rattle.execheap.proofs.Passed.{passed_on}
+use Rattle.execheap.proofs.{Alerts.find_list, Alerts.find_node, Alerts.searched_list, Alerts.searched_node, Passed.passed_on}
 use Rattle.execheap.proofs.objects.Objects.to_search.Goals as goal
 
 pub returns-in-Some-clause-alert : goal.returns-in-Some-clause-alert

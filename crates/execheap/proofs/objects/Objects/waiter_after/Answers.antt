@@ -1,12 +1,9 @@
 -- The tasks that wait for the semaphore that begins at an address; none if none does.
 use Rattle.std.proofs.Common.{List, ℕ, ap, is_some, sym, ◌∙◌}
-use Rattle.execlist.specs.Lists.{part_from}
-use Rattle.execlist.specs.Order.{first}
+use Rattle.execlist.specs.{Lists.part_from, Order.first}
 use Rattle.execheap.specs.declared.tag.Kind.TheVariants as variant
 use Rattle.execheap.specs.Table.{pool_of}
-use Rattle.execheap.proofs.Queues.{no_semaphore}
-use Rattle.execheap.proofs.Shown.{waiters_shown}
-use Rattle.execheap.proofs.Stepping.{shape_lives}
+use Rattle.execheap.proofs.{Queues.no_semaphore, Shown.waiters_shown, Stepping.shape_lives}
 use Rattle.execheap.proofs.objects.Objects.waiter_after.Goals as goal
 
 pub waiter_in-requires : goal.waiter_in-requires

@@ -1,7 +1,6 @@
 -- No task waits whose number is past the last.
 use Rattle.std.proofs.Common.{ℕ, Option, ap, sym, ◌∙◌, arith}
-use Rattle.execlist.specs.Lists.{part_from}
-use Rattle.execlist.specs.Order.{first}
+use Rattle.execlist.specs.{Lists.part_from, Order.first}
 use Rattle.sigsem.specs.Semaphores.{waiters_of}
 use Rattle.execheap.specs.Numbered.{Numbered}
 use Rattle.execheap.proofs.Queues.{no_waiter}

@@ -1,10 +1,7 @@
 -- There is a number for each message, since the ports have that many free.
-use Rattle.std.proofs.Common.{◌≡◌, ◌+◌, ◌<◌, length, suc, ap, ◌∙◌, arith}
-use Rattle.std.specs.Prelude.{is_ok}
-use Rattle.std.specs.Option.{ok_or}
+use Rattle.std.proofs.Common.{◌≡◌, ◌+◌, ◌<◌, length, suc, ap, ◌∙◌, arith, is_ok, ok_or}
 use Rattle.execlist.specs.Pool.{next_number}
-use Rattle.msgport.specs.declared.fault.PortFault.TheVariants.{PoolFull}
-use Rattle.msgport.specs.Ports.{MessagePorts, message_made}
+use Rattle.msgport.specs.{declared.fault.PortFault.TheVariants.PoolFull, Ports.MessagePorts, Ports.message_made}
 use Rattle.execheap.specs.Changes.{reserved}
 use Rattle.execheap.proofs.Reserved.{one_left}
 use Rattle.execheap.proofs.objects.requests.with_requests.Goals as goal

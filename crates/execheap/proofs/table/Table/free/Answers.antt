@@ -2,8 +2,7 @@
 use Rattle.std.proofs.Common.{ap, ◌∙◌}
 use Rattle.execlist.specs.Pool.{slot}
 use Rattle.execheap.specs.Table.{Tabled, slots_of}
-use Rattle.execheap.proofs.Keeping.{kept_freed}
-use Rattle.execheap.proofs.Matching.{block_lives}
+use Rattle.execheap.proofs.{Keeping.kept_freed, Matching.block_lives}
 use Rattle.execheap.proofs.table.Table.free.Goals as goal
 
 pub free_block-requires : goal.free_block-requires

@@ -1,6 +1,5 @@
 -- What begins at the address is loaded there.
-use Rattle.std.proofs.Common.{ℕ, ap, sym, ◌∙◌}
-use Rattle.std.specs.Option.{option_and_then}
+use Rattle.std.proofs.Common.{ℕ, ap, sym, ◌∙◌, option_and_then}
 use Rattle.execheap.specs.Tags.{library_in, tagged}
 use Rattle.execheap.proofs.LibraryTables.{library_found_lives}
 use Rattle.execheap.proofs.table.Table.library_at.Goals as goal

@@ -1,6 +1,5 @@
 -- What begins at the address lives.
-use Rattle.std.proofs.Common.{ℕ, ap, sym, ◌∙◌}
-use Rattle.std.specs.Option.{option_and_then}
+use Rattle.std.proofs.Common.{ℕ, ap, sym, ◌∙◌, option_and_then}
 use Rattle.execheap.specs.Tags.{number_in, tagged}
 use Rattle.execheap.proofs.Matching.{number_lives}
 use Rattle.execheap.proofs.table.Table.number_at.Goals as goal

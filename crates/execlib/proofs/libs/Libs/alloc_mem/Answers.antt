@@ -1,7 +1,6 @@
 -- The block is taken in the regions in which libraries were expunged under low memory.
 use Rattle.std.proofs.Common.{ap, ◌∙◌}
-use Rattle.memlist.specs.Fit.{fit}
-use Rattle.memlist.specs.Memory.{Memory}
+use Rattle.memlist.specs.{Fit.fit, Memory.Memory}
 use Rattle.execlib.specs.Libraries.{after_asking, lent}
 use Rattle.execlib.proofs.Asking.{asking_regions}
 use Rattle.execlib.proofs.libs.Libs.alloc_mem.Goals as goal

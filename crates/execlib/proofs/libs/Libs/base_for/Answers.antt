@@ -1,7 +1,6 @@
 -- A library that is absent takes its block once the others have been expunged under low memory; the others do not load it.
 use Rattle.std.proofs.Common.{ap, sym, ◌∙◌, Some}
-use Rattle.memlist.specs.Fit.{fit}
-use Rattle.memlist.specs.Memory.{allocated}
+use Rattle.memlist.specs.{Fit.fit, Memory.allocated}
 use Rattle.execlib.specs.Libraries.{Lent, after_asking, library_at, lent, public_memory}
 use Rattle.execlib.proofs.Asking.{base_absent, base_there, loads_absent, loads_there, ready_absent, ready_there}
 use Rattle.execlib.proofs.libs.Libs.base_for.Goals as goal

@@ -1,15 +1,9 @@
 -- `home_id` reads one word through a `&`. Assumes `Logic`.
-use Rattle.execlist.proofs.Steps.{[], ◌∷◌, refl, arith, proved, id⊢, ftrue, flft, named, vint, fact, tables, ‵, raw, ◌⊛◌, at_ret, ◌$◌, ◌∵◌, !, qed, done, move, keep, drop, split, join, fsplit, fjoin, suffices, frame}
-use Rattle.execlist.proofs.Steps.{enter, of_opd, bin, load, look, stop, fld, first, blocks, exec, returns, alloc_all, pass_all, free_all, look_at, get, through, sets, env, yes, uint_vals, uint_Tells, uint_Makes}
-use Rattle.execlist.proofs.Steps.{in_a_block, plain, nothing, owned, heard, Stays, says, stay_dropped, Goes-dropped, walk_of, ends_at, length, ◌<◌, ◌+◌, ◌^◌, never, usize, u32, RefOf, owns, shr_vals, shr_Tells, types_at}
-use Rattle.execlist.proofs.Steps.{hide, unhide, looks_slice, shuts_slice, flt_l, whole, sub, look_in, lit, w64, w32, vptr, sets_last, after}
-use Rattle.execlist.specs.Links.{link_at}
-use Rattle.execlist.specs.Ownership.{cell_row, laid, block_lent}
-use Rattle.execlist.proofs.Memory.{cell_Copied, cell_taken, cell_back, pointer_in, pointer_out}
+use Rattle.execlist.proofs.Steps.{[], ◌∷◌, refl, arith, proved, id⊢, ftrue, flft, named, vint, fact, tables, ‵, raw, ◌⊛◌, at_ret, ◌$◌, ◌∵◌, !, qed, done, move, keep, drop, split, join, fsplit, fjoin, suffices, frame, enter, of_opd, bin, load, look, stop, fld, first, blocks, exec, returns, alloc_all, pass_all, free_all, look_at, get, through, sets, env, yes, uint_vals, uint_Tells, uint_Makes, in_a_block, plain, nothing, owned, heard, Stays, says, stay_dropped, Goes-dropped, walk_of, ends_at, length, ◌<◌, ◌+◌, ◌^◌, never, usize, u32, RefOf, owns, shr_vals, shr_Tells, types_at, hide, unhide, looks_slice, shuts_slice, flt_l, whole, sub, look_in, lit, w64, w32, vptr, sets_last, after}
+use Rattle.execlist.proofs.{Memory.cell_Copied, Memory.cell_taken, Memory.cell_back, Memory.pointer_in, Memory.pointer_out, block.Block.home_id.Statement.statement}
+use Rattle.execlist.specs.{Links.link_at, Ownership.cell_row, Ownership.laid, Ownership.block_lent, contracts.block.Block.the_row as R}
 use Rattle.execlist.specs.contracts.block.Block.home_id as f
-use Rattle.execlist.proofs.block.Block.home_id.Statement.{statement}
 use Rattle.execlist.proofs.block.Block.home_id.Code as code
-use Rattle.execlist.specs.contracts.block.Block.{the_row as R}
 
 abbrev stayed : Stays f.ended.signature.params f.ended.kept
 stayed = (stay_dropped (RefOf (0 ∷ []) tt (plain (λ _. R)) (λ _. tt)) yes, (stay_dropped (plain (λ _. usize)) yes, tt))

@@ -21,21 +21,14 @@ use denote.Triple.Call.{calls_at_last}
 use denote.Triple.Entry.{alive}
 use denote.Triple.Table.{framed}
 use denote.Triple.Walked.{Stays, stay_dropped, walk_of, Goes-dropped}
-use Rattle.std.proofs.VecSteps.Shapes.{after}
-use Rattle.std.proofs.alloc.Calls.{Goes-blank}
-use Rattle.std.proofs.raw_atomic.Walks.{proved_at, leaves}
+use Rattle.std.proofs.{VecSteps.Shapes.after, alloc.Calls.Goes-blank, raw_atomic.Walks.proved_at, raw_atomic.Walks.leaves}
 use Rattle.core.specs.Mem.Slots.{slots_ptr, slots_len}
 use Rattle.core.proofs.slots.Places.{of_room}
 use Rattle.core.proofs.slots.Opens.{row_val}
 use Rattle.core.proofs.slots.Slots.from_raw_parts.Met as callee
-use Rattle.execlist.specs.Ownership.{block_type, block_own}
-use Rattle.execlist.proofs.Values.{slot_at, base_val, base_told}
-use Rattle.execlist.proofs.Memory.{cells_room}
-use Rattle.execlist.proofs.Rows.{Row, all as places, row_Typed, From, at_from, Made, from_goes, from_gives}
-use Rattle.execlist.proofs.Cells.{E}
-use Rattle.execlist.specs.contracts.block.Block.{the_row as R}
+use Rattle.execlist.specs.{Ownership.block_type, Ownership.block_own, contracts.block.Block.the_row as R}
+use Rattle.execlist.proofs.{Values.slot_at, Values.base_val, Values.base_told, Memory.cells_room, Rows.Row, Rows.all as places, Rows.row_Typed, Rows.From, Rows.at_from, Rows.Made, Rows.from_goes, Rows.from_gives, Cells.E, block.Block.into_places.Statement.statement}
 use Rattle.execlist.specs.contracts.block.Block.into_places as f
-use Rattle.execlist.proofs.block.Block.into_places.Statement.{statement}
 use Rattle.execlist.proofs.block.Block.into_places.Code as code
 
 pub into_places_spec : {M : Type 1} → statement M

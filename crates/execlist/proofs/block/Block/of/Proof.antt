@@ -20,20 +20,14 @@ use denote.Triple.Call.{calls_at_last}
 use denote.Triple.Entry.{alive}
 use denote.Triple.Table.{framed}
 use denote.Triple.Walked.{Stays, stay_dropped, walk_of, Goes-dropped}
-use Rattle.std.proofs.VecSteps.Shapes.{after}
-use Rattle.std.proofs.raw_atomic.Walks.{proved_at, leaves}
+use Rattle.std.proofs.{VecSteps.Shapes.after, raw_atomic.Walks.proved_at, raw_atomic.Walks.leaves}
 use Rattle.core.specs.Mem.Slots.{slots_items, slots_filled, slots_ptr, slots_len, slots_counts}
 use Rattle.core.proofs.slots.Places.{to_room}
 use Rattle.core.proofs.slots.Opens.{row_val}
 use Rattle.core.proofs.slots.Slots.into_raw_parts.Met as callee
-use Rattle.execlist.specs.Links.{Link}
-use Rattle.execlist.specs.Ownership.{block_type}
-use Rattle.execlist.proofs.Values.{slot_at, base_val, base_own, base_made}
-use Rattle.execlist.proofs.Rows.{Row, all as places, parts_typed, Row-seen, Into, at_into, Into-goes, Into-gives}
-use Rattle.execlist.proofs.Cells.{E}
-use Rattle.execlist.specs.contracts.block.Block.{the_row as R}
+use Rattle.execlist.specs.{Links.Link, Ownership.block_type, contracts.block.Block.the_row as R}
+use Rattle.execlist.proofs.{Values.slot_at, Values.base_val, Values.base_own, Values.base_made, Rows.Row, Rows.all as places, Rows.parts_typed, Rows.Row-seen, Rows.Into, Rows.at_into, Rows.Into-goes, Rows.Into-gives, Cells.E, block.Block.of.Statement.statement}
 use Rattle.execlist.specs.contracts.block.Block.of as f
-use Rattle.execlist.proofs.block.Block.of.Statement.{statement}
 use Rattle.execlist.proofs.block.Block.of.Code as code
 
 pub of_spec : {M : Type 1} → statement M

@@ -1,9 +1,6 @@
 -- `push` writes one whole cell. Assumes `Logic`.
-use Rattle.execlist.proofs.Steps.{◌≡◌, ℕ, List, [], ◌∷◌, refl, sym, ap, ◌∙◌, arith, proved, full_share, id⊢, ftrue, fat, flft, named, Val, vunit, vint, fact, tables, ‵, raw, ◌⊛◌, at_ret, ◌$◌, ◌∵◌, !, qed, done, move}
-use Rattle.execlist.proofs.Steps.{keep, split, join, fsplit, fsplit3, fjoin, feq_i, rewrite, suffices, frame, enter, of_opd, unit_lit, bin, lit, load, stop, fld, assigns_last, first, blocks, exec, returns, alloc_all}
-use Rattle.execlist.proofs.Steps.{pass_all, free_all, look_at, get, through, sets, env, yes, shows, uint_vals, uint_Tells, Ptr, in_a_block, mut_vals, mut_Tells, plain, nothing, opens, closes, peeks, heard, Stays}
-use Rattle.execlist.proofs.Steps.{stay_dropped, stay_ref, Goes-dropped, Goes-ref, walk_of, ends_at, length, ◌<◌, ◌*◌, ◌+◌, ◌-◌, ◌^◌, w32, w64, vptr, never, froom, usize, u32, owns, types_at, cell_at, fjoin3, flt_l}
-use Rattle.execlist.proofs.Steps.{flt_i, whole, sub, look_in, no_more, and_then, use1, use2, after}
+use Rattle.execlist.proofs.Steps.{◌≡◌, ℕ, List, [], ◌∷◌, refl, sym, ap, ◌∙◌, arith, proved, full_share, id⊢, ftrue, fat, flft, named, Val, vunit, vint, fact, tables, ‵, raw, ◌⊛◌, at_ret, ◌$◌, ◌∵◌, !, qed, done, move, keep, split, join, fsplit, fsplit3, fjoin, feq_i, rewrite, suffices, frame, enter, of_opd, unit_lit, bin, lit, load, stop, fld, assigns_last, first, blocks, exec, returns, alloc_all, pass_all, free_all, look_at, get, through, sets, env, yes, shows, uint_vals, uint_Tells, Ptr, in_a_block, mut_vals, mut_Tells, plain, nothing, opens, closes, peeks, heard, Stays, stay_dropped, stay_ref, Goes-dropped, Goes-ref, walk_of, ends_at, length, ◌<◌, ◌*◌, ◌+◌, ◌-◌, ◌^◌, w32, w64, vptr, never, froom, usize, u32, owns, types_at, cell_at, fjoin3, flt_l, flt_i, whole, sub, look_in, no_more, and_then, use1, use2, after}
+use Rattle.execlist.proofs.{Memory.cell_made, Memory.cells_push, Memory.says_both, block.Block.push.Statement.statement, block.Block.TheLaws.lowers}
 use lib.ListN.{length-append}
 use Prim.Native.Nat.{suc}
 use mir.Syntax.{Ty}
@@ -13,15 +10,11 @@ use types.Run.{init}
 use types.Kit.{use0}
 use borrow.Table.OneValue.{part_in}
 use mathlib.Core.List.{◌++◌}
-use Rattle.execlist.specs.Links.{link}
 use Rattle.execlist.specs.Ownership.{cell_row, cell_type, cell_val, cell_of, cells_own, block_own, block_type}
+use Rattle.execlist.specs.{Links.link, contracts.block.Block.the_row as R}
 use Rattle.execlist.specs.contracts.block.Cell as cell
-use Rattle.execlist.proofs.Memory.{cell_made, cells_push, says_both}
 use Rattle.execlist.specs.contracts.block.Block.push as f
-use Rattle.execlist.proofs.block.Block.push.Statement.{statement}
 use Rattle.execlist.proofs.block.Block.push.Code as code
-use Rattle.execlist.specs.contracts.block.Block.{the_row as R}
-use Rattle.execlist.proofs.block.Block.TheLaws.{lowers}
 
 abbrev named_cell : Ty
 named_cell = lone (cell.the_row).mir

@@ -1,19 +1,11 @@
 -- `unlink` joins the cell's neighbours. Assumes `Logic`.
-use Rattle.execlist.proofs.Steps.{◌≡◌, ℕ, List, [], ◌∷◌, refl, sym, ap, ◌∙◌, lit<, arith, proved, full_share, id⊢, ftrue, flft, named, Val, vunit, vint, fact, tables, ‵, raw, ◌⊛◌, at_ret, ◌$◌, ◌∵◌, !, qed, done, move}
-use Rattle.execlist.proofs.Steps.{keep, split, join, fsplit, fsplit3, fjoin, feq_i, rewrite, suffices, frame, enter, of_opd, unit_lit, bin, lit, load, stop, fld, assigns, assigns_last, first, blocks, exec, returns}
-use Rattle.execlist.proofs.Steps.{alloc_all, pass_all, free_all, look_at, get, through, sets, env, yes, shows, uint_vals, uint_Tells, Ptr, in_a_block, mut_vals, mut_Tells, plain, nothing, opens, closes, peeks, heard}
-use Rattle.execlist.proofs.Steps.{Stays, stay_dropped, stay_ref, Goes-dropped, Goes-ref, walk_of, ends_at, length, ◌<◌, ◌*◌, ◌+◌, ◌-◌, ◌^◌, w64, vptr, never, froom, usize, owns, types_at, cell_at, fjoin3, flt_l, flt_i}
-use Rattle.execlist.proofs.Steps.{whole, sub, look_in, after}
+use Rattle.execlist.proofs.Steps.{◌≡◌, ℕ, List, [], ◌∷◌, refl, sym, ap, ◌∙◌, lit<, arith, proved, full_share, id⊢, ftrue, flft, named, Val, vunit, vint, fact, tables, ‵, raw, ◌⊛◌, at_ret, ◌$◌, ◌∵◌, !, qed, done, move, keep, split, join, fsplit, fsplit3, fjoin, feq_i, rewrite, suffices, frame, enter, of_opd, unit_lit, bin, lit, load, stop, fld, assigns, assigns_last, first, blocks, exec, returns, alloc_all, pass_all, free_all, look_at, get, through, sets, env, yes, shows, uint_vals, uint_Tells, Ptr, in_a_block, mut_vals, mut_Tells, plain, nothing, opens, closes, peeks, heard, Stays, stay_dropped, stay_ref, Goes-dropped, Goes-ref, walk_of, ends_at, length, ◌<◌, ◌*◌, ◌+◌, ◌-◌, ◌^◌, w64, vptr, never, froom, usize, owns, types_at, cell_at, fjoin3, flt_l, flt_i, whole, sub, look_in, after}
+use Rattle.execlist.proofs.{Memory.cell_taken, Memory.cell_given, Memory.cell_back, Memory.unlinked-length, Memory.says_both, block.Block.unlink.Statement.statement, block.Block.TheLaws.lowers}
 use lib.ListN.{length-set}
 use types.Part.{store_in}
-use Rattle.execlist.specs.Links.{link_at, set_next, set_prev, unlinked}
-use Rattle.execlist.specs.Ownership.{block_own, block_type}
-use Rattle.execlist.proofs.Memory.{cell_taken, cell_given, cell_back, unlinked-length, says_both}
+use Rattle.execlist.specs.{Links.link_at, Links.set_next, Links.set_prev, Links.unlinked, Ownership.block_own, Ownership.block_type, contracts.block.Block.the_row as R}
 use Rattle.execlist.specs.contracts.block.Block.unlink as f
-use Rattle.execlist.proofs.block.Block.unlink.Statement.{statement}
 use Rattle.execlist.proofs.block.Block.unlink.Code as code
-use Rattle.execlist.specs.contracts.block.Block.{the_row as R}
-use Rattle.execlist.proofs.block.Block.TheLaws.{lowers}
 
 abbrev stayed : Stays f.ended.signature.params f.ended.kept
 stayed = (stay_ref (0 ∷ []) tt (plain (λ _. R)), (stay_dropped (plain (λ _. usize)) yes, tt))

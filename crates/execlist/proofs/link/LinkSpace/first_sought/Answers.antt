@@ -1,13 +1,9 @@
 -- Each walk comes one node nearer to the other, and what is sought is among the nodes between them or in `found`.
-use Rattle.std.proofs.Common.{◌≡◌, ℕ, ◌<◌, Bool, Some, cond, refl, ap, sym, ◌∙◌, subst, length, None, find}
-use Rattle.std.proofs.lemmas.Bool.{cond-true, cond-false, ne_eqb}
-use Rattle.execlist.specs.Lists.{sequence, home, key_at, ahead, part_before, part_from}
-use Rattle.execlist.specs.DigestKeys.{keys_in}
-use Rattle.execlist.specs.Chains.{lists_of, homes_of, node_at}
-use Rattle.execlist.proofs.PlainLemmas.{last_none}
-use Rattle.execlist.proofs.LinkLemmas.{node-known, node-none}
-use Rattle.execlist.proofs.Walks.{ahead_shorter, once_from, from_last, from_before, in_sequence, front_step, back_step, last_ahead, nearer, has_last, not_first, before_ahead}
+use Rattle.std.proofs.Common.{◌≡◌, ℕ, ◌<◌, Bool, Some, cond, refl, ap, sym, ◌∙◌, subst, length, None, find, ne_eqb}
+use Rattle.std.proofs.lemmas.Bool.{cond-true, cond-false}
+use Rattle.execlist.specs.{Lists.sequence, Lists.home, Lists.key_at, Lists.ahead, Lists.part_before, Lists.part_from, DigestKeys.keys_in, Chains.lists_of, Chains.homes_of, Chains.node_at}
 use Rattle.execlist.proofs.link.LinkSpace.first_sought.Goals.{then-is_sought-2, else-is_sought-2}
+use Rattle.execlist.proofs.{PlainLemmas.last_none, LinkLemmas.node-known, LinkLemmas.node-none, Walks.ahead_shorter, Walks.once_from, Walks.from_last, Walks.from_before, Walks.in_sequence, Walks.front_step, Walks.back_step, Walks.last_ahead, Walks.nearer, Walks.has_last, Walks.not_first, Walks.before_ahead}
 use Rattle.execlist.proofs.link.LinkSpace.first_sought.Goals as goal
 
 pub returns-in_err-back-clause-value : goal.returns-in_err-back-clause-value

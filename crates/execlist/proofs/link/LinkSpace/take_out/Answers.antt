@@ -1,7 +1,6 @@
 -- A cell that has a header is taken from between its neighbours; one that has none is in no list already.
 use Rattle.std.proofs.Common.{◌≡◌, ◌-◌, Some, ap, sym, subst, ◌∙◌}
-use Rattle.execlist.specs.Lists.{home}
-use Rattle.execlist.specs.Chains.{IsLinked, lists_of, homes_of}
+use Rattle.execlist.specs.{Lists.home, Chains.IsLinked, Chains.lists_of, Chains.homes_of}
 use Rattle.execlist.proofs.LinkLemmas.{header-less, home-read, homes_length, node-in, node-next-in, node-prev-in, out-holds, out-homes, stands-linked, AreFresh, same-homes, unlinked-fresh}
 use Rattle.execlist.proofs.link.LinkSpace.take_out.Goals as goal
 

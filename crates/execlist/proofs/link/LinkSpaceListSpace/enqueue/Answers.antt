@@ -2,12 +2,9 @@
 use Rattle.std.proofs.Common.{◌≡◌, ℕ, Bool, Some, SFits, w8, ap, sym, ◌∙◌, rules, find, slice_set, int_lt}
 use Rattle.std.specs.Option.{ForSome}
 use Rattle.std.proofs.lemmas.Int.{to_z-of_z}
-use Rattle.execlist.specs.Order.{is_lower}
-use Rattle.execlist.specs.Lists.{sequence, home, key_at, pri_of, ahead}
-use Rattle.execlist.specs.DigestKeys.{keys_in}
-use Rattle.execlist.specs.Chains.{lists_of, homes_of}
-use Rattle.execlist.proofs.Walks.{ahead_first, once_from, in_sequence, arrives_at, arrives_at_end}
+use Rattle.execlist.specs.{Order.is_lower, Lists.sequence, Lists.home, Lists.key_at, Lists.pri_of, Lists.ahead, DigestKeys.keys_in, Chains.lists_of, Chains.homes_of}
 use Rattle.execlist.proofs.link.LinkSpaceListSpace.enqueue.Goals.{in-None, in-Some, in-Some-lower, in-None-lower}
+use Rattle.execlist.proofs.Walks.{ahead_first, once_from, in_sequence, arrives_at, arrives_at_end}
 use Rattle.execlist.proofs.link.LinkSpaceListSpace.enqueue.Goals as goal
 
 pub returns-clause-placed : goal.returns-clause-placed

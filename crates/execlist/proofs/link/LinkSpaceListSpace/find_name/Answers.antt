@@ -1,10 +1,8 @@
 -- The search begins at the first node of the part asked for.
 use Rattle.std.proofs.Common.{◌≡◌, ap, sym, ◌∙◌, Some, find}
-use Rattle.execlist.specs.Lists.{sequence, home, key_at, part_from, is_named, name_is, ahead}
-use Rattle.execlist.specs.DigestKeys.{keys_in}
-use Rattle.execlist.specs.Chains.{lists_of, homes_of}
-use Rattle.execlist.proofs.Walks.{ahead_first, ahead_after, once_from}
+use Rattle.execlist.specs.{Lists.sequence, Lists.home, Lists.key_at, Lists.part_from, Lists.is_named, Lists.name_is, Lists.ahead, DigestKeys.keys_in, Chains.lists_of, Chains.homes_of}
 use Rattle.execlist.proofs.link.LinkSpaceListSpace.find_name.Goals.{in-None, in-Some}
+use Rattle.execlist.proofs.Walks.{ahead_first, ahead_after, once_from}
 use Rattle.execlist.proofs.link.LinkSpaceListSpace.find_name.Goals as goal
 
 pub returns-clause-value : goal.returns-clause-value

@@ -1,10 +1,7 @@
 -- The first node is the one after the head.
 use Rattle.std.proofs.Common.{◌<◌, length, ap, sym, subst, ◌∙◌}
-use Rattle.execlist.specs.Links.{link_at}
-use Rattle.execlist.specs.Lists.{sequence}
-use Rattle.execlist.specs.Chains.{lists_of, node_at}
-use Rattle.execlist.proofs.PlainLemmas.{if_some_from}
-use Rattle.execlist.proofs.LinkLemmas.{known-header, head-in, head-next-in, first-read, first-times, member-home}
+use Rattle.execlist.specs.{Links.link_at, Lists.sequence, Chains.lists_of, Chains.node_at}
+use Rattle.execlist.proofs.{PlainLemmas.if_some_from, LinkLemmas.known-header, LinkLemmas.head-in, LinkLemmas.head-next-in, LinkLemmas.first-read, LinkLemmas.first-times, LinkLemmas.member-home}
 use Rattle.execlist.proofs.link.LinkSpaceListSpace.first.Goals as goal
 
 pub next_id-requires : goal.next_id-requires

@@ -1,8 +1,7 @@
 -- The header is read from the node's own cell.
 use Rattle.std.proofs.Common.{◌<◌, ◌-◌, ap, sym, ◌∙◌, arith}
 use Rattle.execlist.specs.Chains.{header_of, lists_of, homes_of}
-use Rattle.execlist.proofs.PlainLemmas.{home_header}
-use Rattle.execlist.proofs.LinkLemmas.{homes_length, home-read, header-less}
+use Rattle.execlist.proofs.{PlainLemmas.home_header, LinkLemmas.homes_length, LinkLemmas.home-read, LinkLemmas.header-less}
 use Rattle.execlist.proofs.link.LinkSpaceListSpace.home.Goals as goal
 
 pub home_id-home-requires : goal.home_id-home-requires

@@ -1,10 +1,7 @@
 -- The last node is the one before the tail.
 use Rattle.std.proofs.Common.{◌+◌, ◌<◌, length, ap, sym, subst, ◌∙◌}
-use Rattle.execlist.specs.Links.{link_at}
-use Rattle.execlist.specs.Lists.{sequence}
-use Rattle.execlist.specs.Chains.{lists_of, node_at}
-use Rattle.execlist.proofs.PlainLemmas.{if_some_from, last_times}
-use Rattle.execlist.proofs.LinkLemmas.{known-header, tail-in, tail-prev-in, last-read, member-home}
+use Rattle.execlist.specs.{Links.link_at, Lists.sequence, Chains.lists_of, Chains.node_at}
+use Rattle.execlist.proofs.{PlainLemmas.if_some_from, PlainLemmas.last_times, LinkLemmas.known-header, LinkLemmas.tail-in, LinkLemmas.tail-prev-in, LinkLemmas.last-read, LinkLemmas.member-home}
 use Rattle.execlist.proofs.link.LinkSpaceListSpace.last.Goals as goal
 
 pub prev_id-requires : goal.prev_id-requires

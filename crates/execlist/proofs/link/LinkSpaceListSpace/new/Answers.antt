@@ -1,13 +1,8 @@
 -- The cells are those of empty lists and of nodes that are in none.
 use Rattle.std.proofs.Common.{◌≡◌, suc, ◌*◌, ◌<◌, List, [], ◌∷◌, ◌++◌, ◌+◌, length, refl, sym, ap, subst, ◌∙◌, arith}
 use lib.ListN.{length-append, length-replicate}
-use Rattle.execlist.specs.Lists.{blank}
-use Rattle.execlist.specs.DigestKeys.{keys_in}
-use Rattle.execlist.proofs.KeyLemmas.{no-keys}
-use Rattle.execlist.specs.Links.{Link, link, link_at}
-use Rattle.execlist.specs.Chains.{IsLinked, lists_of, head_cell, tail_cell, free_links, empty_links, homes_of}
-use Rattle.execlist.proofs.Empty.{free-length, empty-length, empty-lists, empty-holds, free-more, empty-more, empty-none, free-none, empty-at}
-use Rattle.execlist.proofs.LinkLemmas.{stands-linked, homes_length, empty-homes}
+use Rattle.execlist.specs.{Lists.blank, DigestKeys.keys_in, Links.Link, Links.link, Links.link_at, Chains.IsLinked, Chains.lists_of, Chains.head_cell, Chains.tail_cell, Chains.free_links, Chains.empty_links, Chains.homes_of}
+use Rattle.execlist.proofs.{KeyLemmas.no-keys, Empty.free-length, Empty.empty-length, Empty.empty-lists, Empty.empty-holds, Empty.free-more, Empty.empty-more, Empty.empty-none, Empty.free-none, Empty.empty-at, LinkLemmas.stands-linked, LinkLemmas.homes_length, LinkLemmas.empty-homes}
 use Rattle.execlist.proofs.link.LinkSpaceListSpace.new.Goals as goal
 
 pub loop-i-init : goal.loop-i-init

@@ -1,10 +1,7 @@
 -- What comes before a node is the cell before.
 use Rattle.std.proofs.Common.{ap, sym, ◌∙◌, arith}
-use Rattle.execlist.specs.Lists.{sequence, home, part_before}
-use Rattle.execlist.specs.Chains.{lists_of, homes_of, node_at}
-use Rattle.execlist.proofs.PlainLemmas.{if_some_from, last_times}
-use Rattle.execlist.proofs.LinkLemmas.{node-in, node-prev-in, pred-read, member-home, is-some}
-use Rattle.execlist.proofs.Walks.{times_before}
+use Rattle.execlist.specs.{Lists.sequence, Lists.home, Lists.part_before, Chains.lists_of, Chains.homes_of, Chains.node_at}
+use Rattle.execlist.proofs.{PlainLemmas.if_some_from, PlainLemmas.last_times, LinkLemmas.node-in, LinkLemmas.node-prev-in, LinkLemmas.pred-read, LinkLemmas.member-home, LinkLemmas.is-some, Walks.times_before}
 use Rattle.execlist.proofs.link.LinkSpaceListSpace.pred.Goals as goal
 
 pub prev_id-requires : goal.prev_id-requires

@@ -1,9 +1,8 @@
 -- A cell that is taken from between its neighbours is in no list.
 use Rattle.std.proofs.Common.{ap, sym, subst, ◌∙◌}
-use Rattle.execlist.specs.Lists.{home}
-use Rattle.execlist.specs.Chains.{IsLinked, lists_of, homes_of}
-use Rattle.execlist.proofs.PlainLemmas.{if_some_from}
+use Rattle.execlist.specs.{Lists.home, Chains.IsLinked, Chains.lists_of, Chains.homes_of}
 use Rattle.execlist.proofs.LinkLemmas.{is-some, node-in, node-next-in, node-prev-in, out-lists, out-holds, out-homes, stands-linked, homes_length, AreFresh, unlinked-fresh}
+use Rattle.execlist.proofs.PlainLemmas.{if_some_from}
 use Rattle.execlist.proofs.link.LinkSpaceListSpace.remove.Goals as goal
 
 pub unlink-requires : goal.unlink-requires

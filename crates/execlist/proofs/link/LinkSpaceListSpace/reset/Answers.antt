@@ -1,11 +1,8 @@
 -- Once each node is in no list, each list is empty.
 use Rattle.std.proofs.Common.{◌≡◌, ℕ, ◌<◌, None, replicate, [], length, refl, ap, sym, ◌∙◌, arith}
-use Rattle.execlist.specs.Lists.{blank, home}
-use Rattle.execlist.specs.Chains.{homes_of, header_of}
-use Rattle.execlist.specs.DigestKeys.{keys_in}
+use Rattle.execlist.specs.{Lists.blank, Lists.home, Chains.homes_of, Chains.header_of, DigestKeys.keys_in}
 use lib.ListN.{length-replicate}
-use Rattle.execlist.proofs.LinkLemmas.{all-empty, all-fresh, all-unlinked, home-at, homes_length}
-use Rattle.execlist.proofs.KeyLemmas.{no-keys}
+use Rattle.execlist.proofs.{LinkLemmas.all-empty, LinkLemmas.all-fresh, LinkLemmas.all-unlinked, LinkLemmas.home-at, LinkLemmas.homes_length, KeyLemmas.no-keys}
 use Rattle.execlist.proofs.link.LinkSpaceListSpace.reset.Goals as goal
 
 pub loop-n-init : goal.loop-n-init

@@ -1,7 +1,6 @@
 -- The nodes so far are in no list.
 use Rattle.std.proofs.Common.{◌≡◌, ℕ, ◌<◌, ◌≤◌, None}
-use Rattle.execlist.specs.Lists.{home}
-use Rattle.execlist.specs.Chains.{homes_of}
+use Rattle.execlist.specs.{Lists.home, Chains.homes_of}
 use Rattle.execlist.proofs.link.LinkSpaceListSpace.reset.Given as goal
 
 abbrev pub invariant-loop-n : goal.invariant-loop-n

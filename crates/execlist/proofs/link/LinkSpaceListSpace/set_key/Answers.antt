@@ -1,10 +1,8 @@
 -- One key is another.
 use Rattle.std.proofs.Common.{◌≡◌, ◌<◌, ◌≤◌, length, set, ap, ◌∙◌, arith, option_map, length-set}
 use Rattle.std.proofs.lemmas.Int.{to_z-of_z}
-use Rattle.execlist.specs.Lists.{Key}
-use Rattle.execlist.specs.DigestKeys.{digest_key_of, keys_in}
-use Rattle.execlist.proofs.KeyLemmas.{key_set}
-use Rattle.execlist.proofs.LinkLemmas.{homes_length}
+use Rattle.execlist.specs.{Lists.Key, DigestKeys.digest_key_of, DigestKeys.keys_in}
+use Rattle.execlist.proofs.{KeyLemmas.key_set, LinkLemmas.homes_length}
 use Rattle.execlist.proofs.link.LinkSpaceListSpace.set_key.Goals as goal
 
 pub overflow_add-n : goal.overflow_add-n

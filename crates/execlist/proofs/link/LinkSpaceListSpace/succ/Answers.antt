@@ -1,10 +1,7 @@
 -- What follows a node is the next cell's.
 use Rattle.std.proofs.Common.{ap, sym, ◌∙◌, arith}
-use Rattle.execlist.specs.Lists.{sequence, home, part_after}
-use Rattle.execlist.specs.Chains.{lists_of, homes_of, node_at}
-use Rattle.execlist.proofs.PlainLemmas.{if_some_from}
-use Rattle.execlist.proofs.Walks.{times_after}
-use Rattle.execlist.proofs.LinkLemmas.{node-in, node-next-in, succ-read, member-home, is-some, first-times}
+use Rattle.execlist.specs.{Lists.sequence, Lists.home, Lists.part_after, Chains.lists_of, Chains.homes_of, Chains.node_at}
+use Rattle.execlist.proofs.{PlainLemmas.if_some_from, Walks.times_after, LinkLemmas.node-in, LinkLemmas.node-next-in, LinkLemmas.succ-read, LinkLemmas.member-home, LinkLemmas.is-some, LinkLemmas.first-times}
 use Rattle.execlist.proofs.link.LinkSpaceListSpace.succ.Goals as goal
 
 pub next_id-requires : goal.next_id-requires

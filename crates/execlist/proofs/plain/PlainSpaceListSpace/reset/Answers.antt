@@ -1,10 +1,7 @@
 -- An empty list represents empty sequences.
 use Rattle.std.proofs.Common.{◌≡◌, None, [], length, replicate, map, refl, ap, sym, ◌∙◌, arith, rules, pos}
 use Rattle.std.proofs.lemmas.List.FromFn.{length-map-range_with_len}
-use Rattle.execlist.specs.Lists.{blank}
-use Rattle.execlist.specs.Plain.{nodes_of}
-use Rattle.execlist.specs.Keys.{key_of}
-use Rattle.execlist.specs.declared.key.NodeKey.{NodeKey}
+use Rattle.execlist.specs.{Lists.blank, Plain.nodes_of, Keys.key_of, declared.key.NodeKey.NodeKey}
 use Rattle.execlist.proofs.PlainLemmas.{empty_space, empty_sequences, stands_once, same_sequences, mapped_replicate}
 use Rattle.execlist.proofs.plain.PlainSpaceListSpace.reset.Goals as goal
 

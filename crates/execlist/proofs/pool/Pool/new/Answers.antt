@@ -1,8 +1,7 @@
 -- Every number is in the stack of free ones.
 use Rattle.std.proofs.Common.{◌≡◌, None, replicate, refl, ap, ◌∙◌, length, arith, rules, IfOk, vec_items}
 use Rattle.std.specs.List.{range_with_len}
-use Rattle.std.proofs.lemmas.Iterator.{items_from_collect, YieldsList-from_range}
-use Rattle.std.proofs.lemmas.List.FromFn.{length-range_with_len}
+use Rattle.std.proofs.lemmas.{Iterator.items_from_collect, Iterator.YieldsList-from_range, List.FromFn.length-range_with_len}
 use Rattle.execlist.proofs.Pools.{new_pool, pooled, fresh_new}
 use Rattle.execlist.proofs.pool.Pool.new.Goals as goal
 

@@ -1,8 +1,7 @@
 -- The columns are what is before the spaces.
 use Rattle.std.proofs.Common.{◌≡◌, ◌-◌, ℕ, List, length, replicate, sym, ◌∙◌, arith}
 use Rattle.std.proofs.lemmas.List.{length-replicate}
-use Rattle.execlog.proofs.Laying.{columns_room}
-use Rattle.execlog.proofs.Sheets.{columns_length, columns_taken}
+use Rattle.execlog.proofs.{Laying.columns_room, Sheets.columns_length, Sheets.columns_taken}
 use Rattle.execlog.specs.Rows.{columns}
 use Rattle.execlog.proofs.head.Head.columns.Goals as goal
 

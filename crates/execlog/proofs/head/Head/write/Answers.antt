@@ -1,8 +1,7 @@
 -- The columns are copied, and some of the spaces after them.
 use Rattle.std.proofs.Common.{◌≡◌, ◌≤◌, ◌++◌, ◌+◌, ◌-◌, ℕ, List, length, take, drop, replicate, ap, sym, ◌∙◌, arith}
 use Rattle.std.proofs.lemmas.List.{length-replicate}
-use Rattle.execlog.proofs.Laying.{columns_room}
-use Rattle.execlog.proofs.Sheets.{columns_length, columns_written}
+use Rattle.execlog.proofs.{Laying.columns_room, Sheets.columns_length, Sheets.columns_written}
 use Rattle.execlog.specs.Rows.{columns}
 use Rattle.execlog.proofs.head.Head.write.Goals as goal
 

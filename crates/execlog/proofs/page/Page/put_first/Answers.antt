@@ -1,8 +1,7 @@
 -- What was first is put, and the others are kept.
 use Rattle.std.proofs.Common.{◌≤◌, ◌-◌, ℕ, List, [], take, subst, sym, arith}
 use Rattle.exectrace.specs.Sink.{Adds, Puts}
-use Rattle.execlog.proofs.Sheets.{first_put}
-use Rattle.execlog.proofs.page.Page.put_first.Goals.{else-self-len, then-self-len}
+use Rattle.execlog.proofs.{Sheets.first_put, page.Page.put_first.Goals.else-self-len, page.Page.put_first.Goals.then-self-len}
 use Rattle.execlog.proofs.page.Page.put_first.Goals as goal
 
 pub returns : goal.returns

@@ -1,8 +1,6 @@
 -- The row is shown.
-use Rattle.std.proofs.Common.{ap, refl, true, List, ℕ, ◌++◌, ◌∙◌}
-use Rattle.std.specs.Prelude.{string_bytes}
-use Rattle.execlog.proofs.Laying.{gap_within, row_framed, told_by}
-use Rattle.execlog.proofs.Logging.{whole_then}
+use Rattle.std.proofs.Common.{ap, refl, true, List, ℕ, ◌++◌, ◌∙◌, string_bytes}
+use Rattle.execlog.proofs.{Laying.gap_within, Laying.row_framed, Laying.told_by, Logging.whole_then}
 use Rattle.execlog.specs.Rows.{columns, row_with}
 use Rattle.execlog.proofs.plain.Plain.push_command.Goals as goal
 

@@ -1,7 +1,6 @@
 -- The row of the line is that of all.
 use Rattle.std.proofs.Common.{arith}
-use Rattle.execlog.proofs.Laying.{follows_nothing, lays_rows}
-use Rattle.execlog.proofs.Logging.{whole_then}
+use Rattle.execlog.proofs.{Laying.follows_nothing, Laying.lays_rows, Logging.whole_then}
 use Rattle.execlog.proofs.plain.Plain.push_only.Goals as goal
 
 pub returns : goal.returns

@@ -1,8 +1,6 @@
 -- The row is shown.
-use Rattle.std.proofs.Common.{ap, refl, true, List, ℕ, ◌++◌, ◌∙◌}
-use Rattle.std.specs.Prelude.{[], None}
-use Rattle.execlog.proofs.Laying.{row_bare, told_by}
-use Rattle.execlog.proofs.Logging.{whole_then}
+use Rattle.std.proofs.Common.{ap, refl, true, List, ℕ, ◌++◌, ◌∙◌, [], None}
+use Rattle.execlog.proofs.{Laying.row_bare, Laying.told_by, Logging.whole_then}
 use Rattle.execlog.specs.Rows.{columns, row_with}
 use Rattle.execlog.proofs.plain.Plain.push_other.Goals as goal
 

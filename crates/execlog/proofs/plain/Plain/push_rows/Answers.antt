@@ -1,6 +1,5 @@
 -- The row of the first line, and those of the others.
-use Rattle.execlog.proofs.Laying.{lays_none, lays_rows}
-use Rattle.execlog.proofs.Logging.{whole_then}
+use Rattle.execlog.proofs.{Laying.lays_none, Laying.lays_rows, Logging.whole_then}
 use Rattle.execlog.proofs.plain.Plain.push_rows.Goals as goal
 
 pub returns-in-None : goal.returns-in-None

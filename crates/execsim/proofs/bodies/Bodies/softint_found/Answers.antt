@@ -1,10 +1,8 @@
 -- The place of a name among the names is the number of its software interrupt.
-use Rattle.std.proofs.Common.{sym, ap, ◌∙◌}
-use Rattle.std.specs.Prelude.{bytes_eq}
+use Rattle.std.proofs.Common.{sym, ap, ◌∙◌, bytes_eq}
 use Rattle.std.specs.List.{position_or_len}
 use Rattle.arrayvec.specs.ArrayString.{ArrayString}
-use Rattle.execmodel.specs.State.{Bodies}
-use Rattle.execmodel.specs.Pending.{softint_named}
+use Rattle.execmodel.specs.{State.Bodies, Pending.softint_named}
 use Rattle.execsim.proofs.BodyNames.{found_at, found_nowhere}
 use Rattle.execsim.proofs.bodies.Bodies.softint_found.Goals as goal
 

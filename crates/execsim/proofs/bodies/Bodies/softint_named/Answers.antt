@@ -1,8 +1,7 @@
 -- The proof of `Bodies::softint_named`: the number of the software interrupt of a name; if none has it, the number of all of them.
 use Rattle.std.proofs.Common.{ap, ◌∙◌, map, refl}
 use Rattle.std.proofs.lemmas.List.{length-map}
-use Rattle.execmodel.specs.State.{Bodies}
-use Rattle.execmodel.specs.Pending.{softint_named}
+use Rattle.execmodel.specs.{State.Bodies, Pending.softint_named}
 use Rattle.execsim.specs.Views.{softint_view}
 use Rattle.execsim.proofs.BodyNames.{softint_placed}
 use Rattle.execsim.proofs.bodies.Bodies.softint_named.Goals as goal

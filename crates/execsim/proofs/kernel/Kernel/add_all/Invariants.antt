@@ -1,7 +1,6 @@
 -- What holds in the loops of `Kernel::add_all`: the tasks that start with the machine are added in the order of the file.
 use Rattle.std.proofs.Common.{◌≡◌}
-use Rattle.execmodel.specs.State.{on_schedule}
-use Rattle.execmodel.specs.Step.{all_added}
+use Rattle.execmodel.specs.{State.on_schedule, Step.all_added}
 use Rattle.execsim.specs.Agreement.{Moves}
 use Rattle.execsim.proofs.kernel.Kernel.add_all.Given as goal
 

@@ -1,8 +1,6 @@
 -- The proof of `Kernel::add_head`: AddHead list node: puts the node first.
 use Rattle.std.proofs.Common.{refl}
-use Rattle.execmodel.specs.State.{on_heap}
-use Rattle.execmodel.specs.Deeds.{performs}
-use Rattle.execmodel.specs.Lists.{added_head, link_alert, list_deed}
+use Rattle.execmodel.specs.{State.on_heap, Deeds.performs, Lists.added_head, Lists.link_alert, Lists.list_deed}
 use Rattle.execsim.proofs.Listing.{heap_changed}
 use Rattle.execsim.proofs.kernel.Kernel.add_head.Goals as goal
 

@@ -1,8 +1,6 @@
 -- The proof of `Kernel::add_tail`: AddTail list node: puts the node last.
 use Rattle.std.proofs.Common.{refl}
-use Rattle.execmodel.specs.State.{on_heap}
-use Rattle.execmodel.specs.Deeds.{performs}
-use Rattle.execmodel.specs.Lists.{added_tail, link_alert, list_deed}
+use Rattle.execmodel.specs.{State.on_heap, Deeds.performs, Lists.added_tail, Lists.link_alert, Lists.list_deed}
 use Rattle.execsim.proofs.Listing.{heap_changed}
 use Rattle.execsim.proofs.kernel.Kernel.add_tail.Goals as goal
 

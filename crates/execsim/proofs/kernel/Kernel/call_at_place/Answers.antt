@@ -2,10 +2,8 @@
 use Rattle.std.proofs.Common.{ap, sym, take, ◌∙◌}
 use Rattle.taskscript.specs.Commands.{argument_view, command_view}
 use Rattle.execmodel.specs.Calls.{evaluated_in_body}
-use Rattle.execsim.specs.Agreement.{Seen}
-use Rattle.execsim.specs.Views.{code_of_body}
-use Rattle.execsim.proofs.BodyCalls.{command_there, place_done, place_empty, step_as}
-use Rattle.execsim.proofs.Calling.{map-map_as}
+use Rattle.execsim.specs.{Agreement.Seen, Views.code_of_body}
+use Rattle.execsim.proofs.{BodyCalls.command_there, BodyCalls.place_done, BodyCalls.place_empty, BodyCalls.step_as, Calling.map-map_as}
 use Rattle.execsim.proofs.kernel.Kernel.call_at_place.Goals as goal
 
 pub returns-in-None : goal.returns-in-None

@@ -1,6 +1,5 @@
 -- What is caused is put in after those of its priority.
-use Rattle.std.proofs.Common.{◌≡◌, true, length, ap, ◌∙◌}
-use Rattle.std.specs.Prelude.{nat_lt}
+use Rattle.std.proofs.Common.{◌≡◌, true, length, ap, ◌∙◌, nat_lt}
 use Rattle.memlist.proofs.Answered.{nat_lt-true}
 use Rattle.execmodel.specs.State.{Pending}
 use Rattle.execsim.proofs.Serving.{causes_known, pending_of}

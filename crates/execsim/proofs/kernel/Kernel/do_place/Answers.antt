@@ -2,8 +2,7 @@
 use Rattle.std.proofs.Common.{ap, refl, sym, ◌∙◌}
 use Rattle.taskscript.specs.Commands.{command_view}
 use Rattle.execmodel.specs.Calls.{call_in_body}
-use Rattle.execsim.specs.Agreement.{Seen}
-use Rattle.execsim.specs.Views.{code_of_body}
+use Rattle.execsim.specs.{Agreement.Seen, Views.code_of_body}
 use Rattle.execsim.proofs.BodyCalls.{command_there, place_done, place_empty, printed_as, stored_as}
 use Rattle.execsim.proofs.kernel.Kernel.do_place.Goals as goal
 

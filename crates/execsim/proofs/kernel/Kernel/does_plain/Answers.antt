@@ -2,8 +2,7 @@
 use Rattle.std.proofs.Common.{◌≡◌, ℕ, subst, sym}
 use Rattle.exectrace.specs.Sink.{Tape}
 use Rattle.taskscript.specs.declared.word.plain.PlainWord.{PlainWord}
-use Rattle.execmodel.specs.State.{Call}
-use Rattle.execmodel.specs.Plain.{does_plain, does_set, does_add, does_sub, does_and, does_or}
+use Rattle.execmodel.specs.{State.Call, Plain.does_plain, Plain.does_set, Plain.does_add, Plain.does_sub, Plain.does_and, Plain.does_or}
 use Rattle.execsim.specs.Agreement.{Seen, Follows}
 use Rattle.execsim.proofs.kernel.Kernel.does_plain.Goals as goal
 

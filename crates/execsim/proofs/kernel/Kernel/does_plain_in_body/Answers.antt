@@ -2,9 +2,7 @@
 use Rattle.std.proofs.Common.{◌≡◌, subst, sym}
 use Rattle.exectrace.specs.Sink.{Tape}
 use Rattle.taskscript.specs.declared.word.plain.PlainWord.{PlainWord}
-use Rattle.execmodel.specs.State.{Call}
-use Rattle.execmodel.specs.Bodies.{does_plain_by}
-use Rattle.execmodel.specs.Calls.{Caller}
+use Rattle.execmodel.specs.{State.Call, Bodies.does_plain_by, Calls.Caller}
 use Rattle.execsim.specs.Agreement.{Seen, Follows}
 use Rattle.execsim.proofs.kernel.Kernel.does_plain_in_body.Goals as goal
 

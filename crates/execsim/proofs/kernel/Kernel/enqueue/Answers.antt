@@ -1,8 +1,6 @@
 -- The proof of `Kernel::enqueue`: enqueue list node: puts the node before the first one of lower priority, or last.
 use Rattle.std.proofs.Common.{refl}
-use Rattle.execmodel.specs.State.{on_heap}
-use Rattle.execmodel.specs.Deeds.{performs}
-use Rattle.execmodel.specs.Lists.{enqueued, link_alert, list_deed}
+use Rattle.execmodel.specs.{State.on_heap, Deeds.performs, Lists.enqueued, Lists.link_alert, Lists.list_deed}
 use Rattle.execsim.proofs.Listing.{heap_changed}
 use Rattle.execsim.proofs.kernel.Kernel.enqueue.Goals as goal
 

@@ -1,6 +1,6 @@
 -- The word of what the memory answers, which is a byte.
-use Rattle.std.proofs.Common.{rules, ap, ◌∙◌, ℤ}
-use Rattle.std.specs.Int.{cast_unsigned, w32}
+use Rattle.std.proofs.Common.{rules, ap, ◌∙◌, ℤ, w32}
+use Rattle.std.specs.Int.{cast_unsigned}
 use Rattle.std.proofs.lemmas.Int.{to_z-of_z}
 use Rattle.execmodel.specs.Requests.{request_of}
 use Rattle.execsim.specs.Agreement.{Seen}

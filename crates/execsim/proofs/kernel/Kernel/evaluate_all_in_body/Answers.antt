@@ -1,8 +1,7 @@
 -- The proof of `Kernel::evaluate_all_in_body`: puts the values of the first `count` arguments of a command of a body if they are to be;
 -- what is past them is unused.
-use Rattle.std.proofs.Common.{◌≡◌, ◌<◌, ℕ, arith, length, map, subst, take}
+use Rattle.std.proofs.Common.{◌≡◌, ◌<◌, ℕ, arith, length, map, subst, take, length-set}
 use Rattle.std.proofs.lemmas.List.{get_or_default}
-use Rattle.std.proofs.Math.ListN.{length-set}
 use Rattle.exectrace.specs.Short.{short_argument}
 use Rattle.execmodel.specs.Calls.{evaluated_in_body}
 use Rattle.taskscript.specs.Commands.{argument_view}

@@ -1,6 +1,5 @@
 -- The proof of `Kernel::events`: one event after another.
-use Rattle.execsim.proofs.Clock.{time_for_event}
-use Rattle.execsim.proofs.Stepping.{no_events, more_events}
+use Rattle.execsim.proofs.{Clock.time_for_event, Stepping.no_events, Stepping.more_events}
 use Rattle.execsim.proofs.kernel.Kernel.events.Goals as goal
 
 pub loop-one-init : goal.loop-one-init

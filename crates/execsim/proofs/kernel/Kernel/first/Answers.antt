@@ -1,6 +1,5 @@
 -- The proof of `Kernel::first`: first list: answers the first node, or 0 for an empty list.
-use Rattle.execmodel.specs.Deeds.{performs}
-use Rattle.execmodel.specs.Lists.{first_of, list_alert, list_deed}
+use Rattle.execmodel.specs.{Deeds.performs, Lists.first_of, Lists.list_alert, Lists.list_deed}
 use Rattle.execsim.proofs.Listing.{heap_read}
 use Rattle.execsim.proofs.kernel.Kernel.first.Goals as goal
 

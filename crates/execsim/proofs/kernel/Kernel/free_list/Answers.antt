@@ -1,8 +1,6 @@
 -- The proof of `Kernel::free_list`: FreeList list: frees an empty list.
 use Rattle.std.proofs.Common.{refl}
-use Rattle.execmodel.specs.Memory.{freed}
-use Rattle.execmodel.specs.Deeds.{performs}
-use Rattle.execmodel.specs.Lists.{free_list_alert, list_deed}
+use Rattle.execmodel.specs.{Memory.freed, Deeds.performs, Lists.free_list_alert, Lists.list_deed}
 use Rattle.execsim.proofs.Listing.{heap_changed}
 use Rattle.execsim.proofs.kernel.Kernel.free_list.Goals as goal
 

@@ -1,7 +1,6 @@
 -- The proof of `Kernel::free_msg`: FreeMsg message: frees a message.
 use Rattle.std.proofs.Common.{refl}
-use Rattle.execmodel.specs.Memory.{freed}
-use Rattle.execmodel.specs.Ports.{does_free_msg, loose_alert}
+use Rattle.execmodel.specs.{Memory.freed, Ports.does_free_msg, Ports.loose_alert}
 use Rattle.execsim.proofs.Listing.{heap_changed}
 use Rattle.execsim.proofs.kernel.Kernel.free_msg.Goals as goal
 

@@ -1,7 +1,6 @@
 -- The proof of `Kernel::free_sem`: FreeSem semaphore: frees a semaphore.
 use Rattle.std.proofs.Common.{refl}
-use Rattle.execmodel.specs.Memory.{freed}
-use Rattle.execmodel.specs.Semaphores.{does_free_sem, free_sem_alert}
+use Rattle.execmodel.specs.{Memory.freed, Semaphores.does_free_sem, Semaphores.free_sem_alert}
 use Rattle.execsim.proofs.Listing.{heap_changed}
 use Rattle.execsim.proofs.kernel.Kernel.free_sem.Goals as goal
 

@@ -1,8 +1,6 @@
 -- The proof of `Kernel::insert`: insert list node pred: puts the node after pred, or first if pred is 0.
 use Rattle.std.proofs.Common.{refl}
-use Rattle.execmodel.specs.State.{on_heap}
-use Rattle.execmodel.specs.Deeds.{performs}
-use Rattle.execmodel.specs.Lists.{insert_alert, inserted, list_deed}
+use Rattle.execmodel.specs.{State.on_heap, Deeds.performs, Lists.insert_alert, Lists.inserted, Lists.list_deed}
 use Rattle.execsim.proofs.Listing.{heap_changed}
 use Rattle.execsim.proofs.kernel.Kernel.insert.Goals as goal
 

@@ -1,6 +1,5 @@
 -- The proof of `Kernel::last`: last list: answers the last node, or 0 for an empty list.
-use Rattle.execmodel.specs.Deeds.{performs}
-use Rattle.execmodel.specs.Lists.{last_of, list_alert, list_deed}
+use Rattle.execmodel.specs.{Deeds.performs, Lists.last_of, Lists.list_alert, Lists.list_deed}
 use Rattle.execsim.proofs.Listing.{heap_read}
 use Rattle.execsim.proofs.kernel.Kernel.last.Goals as goal
 

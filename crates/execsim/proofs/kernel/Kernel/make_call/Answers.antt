@@ -1,8 +1,7 @@
 -- The proof of `Kernel::make_call`: task t, which runs, tries the call again that it waits in, or makes that of its next command, or ends.
 use Rattle.std.proofs.Common.{refl, ap, sym, take, ◌∙◌, ◌+◌, Some}
 use Rattle.std.proofs.lemmas.Option.{slice_get_within}
-use Rattle.execmodel.specs.State.{program_of}
-use Rattle.execmodel.specs.Calls.{call_of, evaluated}
+use Rattle.execmodel.specs.{State.program_of, Calls.call_of, Calls.evaluated}
 use Rattle.taskscript.specs.Commands.{argument_view, command_view}
 use Rattle.execsim.proofs.Calling.{map-map_as, next-kept, next-none, next-command}
 use Rattle.execsim.proofs.kernel.Kernel.make_call.Goals as goal

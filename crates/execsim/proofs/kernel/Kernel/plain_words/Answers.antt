@@ -1,9 +1,7 @@
 -- The proof of `Kernel::plain_words`: a task does plain words in a settled machine.
 use Rattle.std.proofs.Common.{◌≡◌, ◌<◌, ℕ, ap, ◌∙◌, subst, sym, arith}
 use Rattle.execmodel.specs.Step.{steps}
-use Rattle.execsim.specs.Actions.{softint_seen}
-use Rattle.execsim.specs.Agreement.{Seen, Follows}
-use Rattle.execsim.specs.Callers.{HasTask}
+use Rattle.execsim.specs.{Actions.softint_seen, Agreement.Seen, Agreement.Follows, Callers.HasTask}
 use Rattle.execsim.proofs.Settling.{no_step, settled_scripts, then_step, word_step}
 use Rattle.execsim.proofs.kernel.Kernel.plain_words.Goals as goal
 

@@ -1,10 +1,7 @@
 -- What holds in the loops of `Kernel::plain_words`.
 use Rattle.std.proofs.Common.{◌≡◌, None}
 use Rattle.execmodel.specs.Step.{steps}
-use Rattle.execsim.specs.Actions.{softint_seen}
-use Rattle.execsim.specs.Agreement.{Follows}
-use Rattle.execsim.specs.Callers.{HasTask, Runs}
-use Rattle.execsim.specs.Resting.{IsSettled}
+use Rattle.execsim.specs.{Actions.softint_seen, Agreement.Follows, Callers.HasTask, Callers.Runs, Resting.IsSettled}
 use Rattle.execsim.proofs.kernel.Kernel.plain_words.Given as goal
 
 -- the plain words so far were steps, and another one would be

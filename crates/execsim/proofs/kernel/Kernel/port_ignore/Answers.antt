@@ -1,8 +1,7 @@
 -- The proof of `Kernel::port_ignore`: PortIgnore port: the port does nothing if a message arrives.
 use Rattle.std.proofs.Common.{refl}
 use Rattle.msgport.specs.declared.action.PortAction.TheVariants.{Ignore}
-use Rattle.execmodel.specs.State.{on_heap}
-use Rattle.execmodel.specs.Ports.{does_port_ignore, port_alert, with_action}
+use Rattle.execmodel.specs.{State.on_heap, Ports.does_port_ignore, Ports.port_alert, Ports.with_action}
 use Rattle.execsim.proofs.Listing.{heap_changed}
 use Rattle.execsim.proofs.kernel.Kernel.port_ignore.Goals as goal
 

@@ -1,8 +1,7 @@
 -- The proof of `Kernel::port_signal`: PortSignal port: the port signals its task, as a new port does.
 use Rattle.std.proofs.Common.{refl}
 use Rattle.msgport.specs.declared.action.PortAction.TheVariants.{Signal}
-use Rattle.execmodel.specs.State.{on_heap}
-use Rattle.execmodel.specs.Ports.{does_port_signal, port_alert, with_action}
+use Rattle.execmodel.specs.{State.on_heap, Ports.does_port_signal, Ports.port_alert, Ports.with_action}
 use Rattle.execsim.proofs.Listing.{heap_changed}
 use Rattle.execsim.proofs.kernel.Kernel.port_signal.Goals as goal
 

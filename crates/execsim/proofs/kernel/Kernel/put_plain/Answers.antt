@@ -1,8 +1,6 @@
 -- The proof of `Kernel::put_plain`: what task t changes by what it does next, if that is a plain word.
 use Rattle.std.proofs.Common.{◌≡◌, rules, refl, ap, ◌∙◌, ◌+◌}
-use Rattle.taskscript.specs.declared.word.Word.TheVariants.{Plain}
-use Rattle.taskscript.specs.declared.word.plain.PlainWord.TheVariants.{Print}
-use Rattle.taskscript.specs.Commands.{command_view}
+use Rattle.taskscript.specs.{declared.word.Word.TheVariants.Plain, declared.word.plain.PlainWord.TheVariants.Print, Commands.command_view}
 use Rattle.execmodel.specs.State.{Program}
 use Rattle.execsim.proofs.Changing.{does_by_change, does_by_print, next_changes, puts_next}
 use Rattle.execsim.proofs.kernel.Kernel.put_plain.Goals as goal

@@ -1,12 +1,10 @@
 -- The proof of `Kernel::quiet_step`: a step of a settled machine, if it is a plain word or if the machine is idle.
-use Rattle.std.proofs.Common.{Some, ap, subst, sym, ◌∙◌}
-use Rattle.std.specs.Prelude.{is_some}
+use Rattle.std.proofs.Common.{Some, ap, subst, sym, ◌∙◌, is_some}
 use Rattle.execlist.specs.Order.{first}
 use Rattle.exectrace.specs.Sink.{Tape}
 use Rattle.execmodel.specs.Step.{task_step}
 use Rattle.execsim.specs.Agreement.{Follows, Seen}
-use Rattle.execsim.proofs.Changing.{printed_as}
-use Rattle.execsim.proofs.Settling.{idle_step, none_caused, settled_scripts, word_step}
+use Rattle.execsim.proofs.{Changing.printed_as, Settling.idle_step, Settling.none_caused, Settling.settled_scripts, Settling.word_step}
 use Rattle.execsim.proofs.kernel.Kernel.quiet_step.Goals as goal
 
 pub returns-in-None-clause-follows : goal.returns-in-None-clause-follows

@@ -1,6 +1,5 @@
 -- The proof of `Kernel::quiet_steps`: steps of a settled machine that ask nothing of Exec.
-use Rattle.std.proofs.Common.{ap, sym, ◌∙◌}
-use Rattle.std.specs.Prelude.{is_some}
+use Rattle.std.proofs.Common.{ap, sym, ◌∙◌, is_some}
 use Rattle.execlist.specs.Order.{first}
 use Rattle.execsim.specs.Agreement.{Seen}
 use Rattle.execsim.proofs.Settling.{idle_steps, no_step, none_caused}

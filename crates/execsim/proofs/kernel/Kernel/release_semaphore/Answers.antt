@@ -1,7 +1,6 @@
 -- The proof of `Kernel::release_semaphore`: ReleaseSemaphore semaphore: the owner has to release the semaphore once less.
 use Rattle.execsim.specs.Views.{call_view}
-use Rattle.execsim.proofs.Obtaining.{release_tried}
-use Rattle.execsim.proofs.Reached.{heirs_wait}
+use Rattle.execsim.proofs.{Obtaining.release_tried, Reached.heirs_wait}
 use Rattle.execsim.proofs.kernel.Kernel.release_semaphore.Goals as goal
 
 pub returns : goal.returns

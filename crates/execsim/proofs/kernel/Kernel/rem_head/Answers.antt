@@ -1,8 +1,6 @@
 -- The proof of `Kernel::rem_head`: RemHead list: takes the first node out and answers it, or 0 for an empty list.
 use Rattle.std.proofs.Common.{refl}
-use Rattle.execmodel.specs.State.{on_heap}
-use Rattle.execmodel.specs.Deeds.{performs}
-use Rattle.execmodel.specs.Lists.{first_of, list_alert, list_deed, removed_head}
+use Rattle.execmodel.specs.{State.on_heap, Deeds.performs, Lists.first_of, Lists.list_alert, Lists.list_deed, Lists.removed_head}
 use Rattle.execsim.proofs.Listing.{heap_taken}
 use Rattle.execsim.proofs.kernel.Kernel.rem_head.Goals as goal
 

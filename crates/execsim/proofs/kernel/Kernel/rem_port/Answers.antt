@@ -1,7 +1,6 @@
 -- The proof of `Kernel::rem_port`: RemPort port: makes a port public no more.
 use Rattle.execmodel.specs.Ports.{does_rem_port, made_private, rem_port_alert}
-use Rattle.execsim.proofs.Listing.{follows_changed}
-use Rattle.execsim.proofs.PortOrder.{made_private-in_order, rem_port_alert-in_order}
+use Rattle.execsim.proofs.{Listing.follows_changed, PortOrder.made_private-in_order, PortOrder.rem_port_alert-in_order}
 use Rattle.execsim.proofs.kernel.Kernel.rem_port.Goals as goal
 
 pub returns : goal.returns

@@ -1,8 +1,6 @@
 -- The proof of `Kernel::rem_tail`: RemTail list: takes the last node out and answers it, or 0 for an empty list.
 use Rattle.std.proofs.Common.{refl}
-use Rattle.execmodel.specs.State.{on_heap}
-use Rattle.execmodel.specs.Deeds.{performs}
-use Rattle.execmodel.specs.Lists.{last_of, list_alert, list_deed, removed_tail}
+use Rattle.execmodel.specs.{State.on_heap, Deeds.performs, Lists.last_of, Lists.list_alert, Lists.list_deed, Lists.removed_tail}
 use Rattle.execsim.proofs.Listing.{heap_taken}
 use Rattle.execsim.proofs.kernel.Kernel.rem_tail.Goals as goal
 

@@ -1,8 +1,6 @@
 -- The proof of `Kernel::remove`: remove node: takes the node out of its list.
 use Rattle.std.proofs.Common.{refl}
-use Rattle.execmodel.specs.State.{on_heap}
-use Rattle.execmodel.specs.Deeds.{performs}
-use Rattle.execmodel.specs.Lists.{linked_alert, list_deed, unlinked}
+use Rattle.execmodel.specs.{State.on_heap, Deeds.performs, Lists.linked_alert, Lists.list_deed, Lists.unlinked}
 use Rattle.execsim.proofs.Listing.{heap_changed}
 use Rattle.execsim.proofs.kernel.Kernel.remove.Goals as goal
 

@@ -1,8 +1,7 @@
 -- What holds in the loops of `Kernel::run_body`: a whole body: its commands one after another; after an alert there is no other.
 use Rattle.std.proofs.Common.{take}
 use Rattle.execmodel.specs.Bodies.{runs_body}
-use Rattle.execsim.specs.Agreement.{Follows}
-use Rattle.execsim.specs.Views.{code_of_body}
+use Rattle.execsim.specs.{Agreement.Follows, Views.code_of_body}
 use Rattle.execsim.proofs.kernel.Kernel.run_body.Given as goal
 
 -- the commands so far were done

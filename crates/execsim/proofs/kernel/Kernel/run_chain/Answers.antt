@@ -3,8 +3,7 @@
 use Rattle.std.proofs.Common.{◌≤◌, ap, sym, ◌∙◌, arith, length}
 use Rattle.execmodel.specs.Interrupts.{server_at}
 use Rattle.execsim.specs.Agreement.{Seen}
-use Rattle.execsim.proofs.Serving.{chain_alerted, chain_claimed, chain_done, chain_goes_on, chain_over, known_after, known_here}
-use Rattle.execsim.proofs.kernel.Kernel.run_chain.Goals.{then-last-via-then-last, then-last-via-else-last+then-self}
+use Rattle.execsim.proofs.{Serving.chain_alerted, Serving.chain_claimed, Serving.chain_done, Serving.chain_goes_on, Serving.chain_over, Serving.known_after, Serving.known_here, kernel.Kernel.run_chain.Goals.then-last-via-then-last, kernel.Kernel.run_chain.Goals.then-last-via-else-last+then-self}
 use Rattle.execsim.proofs.kernel.Kernel.run_chain.Goals as goal
 
 pub loop-place-init : goal.loop-place-init

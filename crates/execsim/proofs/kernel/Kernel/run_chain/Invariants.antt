@@ -1,8 +1,7 @@
 -- What holds in the loops of `Kernel::run_chain`: the servers of a source run one after another, until one claims the interrupt, or an
 -- alert stops the machine.
-use Rattle.execsim.specs.Agreement.{Follows}
+use Rattle.execsim.specs.Agreement.{Follows, Seen}
 use Rattle.exectrace.specs.Sink.{Tape}
-use Rattle.execsim.specs.Agreement.{Seen}
 use Rattle.execsim.proofs.Serving.{IsKnownFrom, rest_of_chain}
 use Rattle.execsim.proofs.kernel.Kernel.run_chain.Given as goal
 

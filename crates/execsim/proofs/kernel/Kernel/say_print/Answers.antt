@@ -1,7 +1,6 @@
 -- The proof of `Kernel::say_print`: the line of a Print of task t.
 use Rattle.std.proofs.Common.{subst}
-use Rattle.exectrace.specs.Sink.{Puts}
-use Rattle.exectrace.specs.Trace.{printed_line}
+use Rattle.exectrace.specs.{Sink.Puts, Trace.printed_line}
 use Rattle.exectrace.specs.Trace as trace
 use Rattle.execsim.proofs.Changing.{print_line}
 use Rattle.execsim.proofs.kernel.Kernel.say_print.Goals as goal

@@ -1,7 +1,6 @@
 -- The line of a Print with one argument.
 use Rattle.std.proofs.Common.{subst, sym}
-use Rattle.exectrace.specs.Sink.{Puts}
-use Rattle.exectrace.specs.Trace.{printed_line}
+use Rattle.exectrace.specs.{Sink.Puts, Trace.printed_line}
 use Rattle.exectrace.specs.Trace as trace
 use Rattle.execsim.proofs.Changing.{print_line, value_alone}
 use Rattle.execsim.proofs.kernel.Kernel.say_short_print.Goals as goal

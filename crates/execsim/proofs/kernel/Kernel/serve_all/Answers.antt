@@ -3,8 +3,7 @@
 use Rattle.std.proofs.Common.{◌≡◌, ℕ, suc, ◌+◌, ◌-◌, ap, sym, ◌∙◌, arith, subst}
 use Rattle.execmodel.specs.Interrupts.{servings}
 use Rattle.execsim.specs.Agreement.{Follows, Seen}
-use Rattle.execsim.proofs.Following.{guarded_going, guarded_stopped}
-use Rattle.execsim.proofs.Serving.{all_served, no_serving_left, nothing_served, source_served}
+use Rattle.execsim.proofs.{Following.guarded_going, Following.guarded_stopped, Serving.all_served, Serving.no_serving_left, Serving.nothing_served, Serving.source_served}
 use Rattle.execsim.proofs.kernel.Kernel.serve_all.Goals as goal
 
 pub loop-turn-init : goal.loop-turn-init

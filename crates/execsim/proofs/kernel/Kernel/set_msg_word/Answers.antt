@@ -1,7 +1,6 @@
 -- The proof of `Kernel::set_msg_word`: SetMsgWord message word: gives the message another word.
 use Rattle.std.proofs.Common.{refl}
-use Rattle.execmodel.specs.State.{on_heap}
-use Rattle.execmodel.specs.Ports.{does_set_msg_word, message_alert, with_word}
+use Rattle.execmodel.specs.{State.on_heap, Ports.does_set_msg_word, Ports.message_alert, Ports.with_word}
 use Rattle.execsim.proofs.Listing.{heap_changed}
 use Rattle.execsim.proofs.kernel.Kernel.set_msg_word.Goals as goal
 

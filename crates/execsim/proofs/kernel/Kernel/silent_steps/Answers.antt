@@ -1,10 +1,8 @@
 -- The proof of `Kernel::silent_steps`: steps of a settled machine that print nothing.
-use Rattle.std.proofs.Common.{ap, sym, ◌∙◌}
-use Rattle.std.specs.Prelude.{is_some}
+use Rattle.std.proofs.Common.{ap, sym, ◌∙◌, is_some}
 use Rattle.execlist.specs.Order.{first}
 use Rattle.execsim.specs.Agreement.{Seen}
-use Rattle.execsim.proofs.Advancing.{goes_idly, goes_nowhere}
-use Rattle.execsim.proofs.Settling.{none_caused}
+use Rattle.execsim.proofs.{Advancing.goes_idly, Advancing.goes_nowhere, Settling.none_caused}
 use Rattle.execsim.proofs.kernel.Kernel.silent_steps.Goals as goal
 
 pub returns-then-any_caused-clause-goes : goal.returns-then-any_caused-clause-goes

@@ -1,8 +1,7 @@
 -- The proof of `Kernel::silent_words`: a task does plain words that print nothing in a settled machine.
 use Rattle.std.proofs.Common.{◌≡◌, ℕ, subst, arith}
 use Rattle.execsim.specs.Advancing.{GoesSilently}
-use Rattle.execsim.proofs.Advancing.{goes_nowhere, goes_then, rests_after}
-use Rattle.execsim.proofs.Settling.{word_step}
+use Rattle.execsim.proofs.{Advancing.goes_nowhere, Advancing.goes_then, Advancing.rests_after, Settling.word_step}
 use Rattle.execsim.proofs.kernel.Kernel.silent_words.Goals as goal
 
 pub loop-done-init : goal.loop-done-init

@@ -1,6 +1,5 @@
 -- The proof of `Kernel::softint_of_call`: the number of the software interrupt of the name that is the first argument of a call.
-use Rattle.std.proofs.Common.{[], ap, ◌∙◌}
-use Rattle.std.specs.Option.{unwrap_or}
+use Rattle.std.proofs.Common.{[], ap, ◌∙◌, unwrap_or}
 use Rattle.execmodel.specs.Pending.{softint_named}
 use Rattle.execsim.proofs.kernel.Kernel.softint_of_call.Goals as goal
 

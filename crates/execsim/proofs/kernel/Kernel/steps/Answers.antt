@@ -2,9 +2,7 @@
 use Rattle.std.proofs.Common.{◌≡◌, ◌≤◌, ◌+◌, ℕ, subst, arith}
 use Rattle.execmodel.specs.Step.{steps}
 use Rattle.execsim.specs.Agreement.{FollowsWhileGood}
-use Rattle.execsim.proofs.Reached.{agree_after_steps}
-use Rattle.execsim.proofs.Settling.{then_steps}
-use Rattle.execsim.proofs.Stepping.{no_steps}
+use Rattle.execsim.proofs.{Reached.agree_after_steps, Settling.then_steps, Stepping.no_steps}
 use Rattle.execsim.proofs.kernel.Kernel.steps.Goals as goal
 
 pub loop-done-init : goal.loop-done-init

@@ -1,6 +1,5 @@
 -- The proof of `Kernel::succ`: succ node: answers the node after a linked one, or 0.
-use Rattle.execmodel.specs.Deeds.{performs}
-use Rattle.execmodel.specs.Lists.{linked_alert, list_deed, succ_of}
+use Rattle.execmodel.specs.{Deeds.performs, Lists.linked_alert, Lists.list_deed, Lists.succ_of}
 use Rattle.execsim.proofs.Listing.{heap_read}
 use Rattle.execsim.proofs.kernel.Kernel.succ.Goals as goal
 

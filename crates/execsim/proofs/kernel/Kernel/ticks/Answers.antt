@@ -1,6 +1,5 @@
 -- The proof of `Kernel::ticks`: that many ticks.
-use Rattle.execsim.proofs.Clock.{time_for_tick}
-use Rattle.execsim.proofs.Stepping.{no_ticks, more_ticks}
+use Rattle.execsim.proofs.{Clock.time_for_tick, Stepping.no_ticks, Stepping.more_ticks}
 use Rattle.execsim.proofs.kernel.Kernel.ticks.Goals as goal
 
 pub loop-tick-init : goal.loop-tick-init

@@ -1,9 +1,7 @@
 -- The proof of `Machine::advance`: does a step, and after it steps that print nothing.
 use Rattle.std.proofs.Common.{ap, sym, ◌∙◌, subst}
-use Rattle.execsim.specs.Headline.{Shown}
-use Rattle.execsim.specs.Time.{HasTimeFor}
-use Rattle.execsim.proofs.Advancing.{advances_by, known_after_steps, time_stays}
-use Rattle.execsim.proofs.Reached.{in_order_there}
+use Rattle.execsim.specs.{Headline.Shown, Time.HasTimeFor}
+use Rattle.execsim.proofs.{Advancing.advances_by, Advancing.known_after_steps, Advancing.time_stays, Reached.in_order_there}
 use Rattle.execsim.proofs.machine.Machine.advance.Goals as goal
 
 pub advance-silent-requires-clause-agree : goal.advance-silent-requires-clause-agree

@@ -2,12 +2,8 @@
 -- followed by one.
 use Rattle.std.proofs.Common.{◌+◌, sym, subst}
 use Rattle.taskscript.specs.Events.{ticks as ticks_of}
-use Rattle.execsim.specs.Headline.{Shown}
-use Rattle.execsim.specs.Reached.{after_event}
-use Rattle.execsim.specs.Time.{HasTimeFor}
-use Rattle.execsim.proofs.Acting.{known_after_action, time_after}
-use Rattle.execsim.proofs.Clock.{event_gains}
-use Rattle.execsim.proofs.Advancing.{not_known}
+use Rattle.execsim.specs.{Headline.Shown, Reached.after_event, Time.HasTimeFor}
+use Rattle.execsim.proofs.{Acting.known_after_action, Acting.time_after, Clock.event_gains, Advancing.not_known}
 use Rattle.execsim.proofs.machine.Machine.event.Goals as goal
 
 -- (until it has failed it shows a state after an event)

@@ -1,7 +1,6 @@
 -- The proof of `Machine::facts`: does nothing: its clause is what always holds of a machine that has not failed.
 use Rattle.std.proofs.Common.{ap, subst, ◌∙◌}
-use Rattle.execsim.specs.Headline.{Shown}
-use Rattle.execsim.specs.Reached.{QueuesAgree}
+use Rattle.execsim.specs.{Headline.Shown, Reached.QueuesAgree}
 use Rattle.execsim.proofs.Reached.{in_order_there}
 use Rattle.execsim.proofs.machine.Machine.facts.Goals as goal
 

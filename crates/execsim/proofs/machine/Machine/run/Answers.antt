@@ -1,14 +1,8 @@
 -- The proof of `Machine::run`: starts the machine and does one event after another.
-use Rattle.std.proofs.Common.{ap, sym, ◌∙◌, subst}
-use Rattle.std.specs.Prelude.{sum_by}
+use Rattle.std.proofs.Common.{ap, sym, ◌∙◌, subst, sum_by}
 use Rattle.taskscript.specs.Events.{ticks as ticks_of}
-use Rattle.execsim.specs.Headline.{Shown}
-use Rattle.execsim.specs.Time.{HasTimeFor}
-use Rattle.execsim.proofs.Acting.{acts_by, known_after_action}
-use Rattle.execsim.proofs.Clock.{time_from_start}
-use Rattle.execsim.proofs.Following.{while_good, while_good_then}
-use Rattle.execsim.proofs.Reached.{run_reached}
-use Rattle.execsim.proofs.Advancing.{not_known}
+use Rattle.execsim.specs.{Headline.Shown, Time.HasTimeFor}
+use Rattle.execsim.proofs.{Acting.acts_by, Acting.known_after_action, Clock.time_from_start, Following.while_good, Following.while_good_then, Reached.run_reached, Advancing.not_known}
 use Rattle.execsim.proofs.machine.Machine.run.Goals as goal
 
 pub events-requires : goal.events-requires

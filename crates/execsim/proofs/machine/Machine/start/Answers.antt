@@ -1,12 +1,7 @@
 -- The proof of `Machine::start`: starts the machine: its tasks are added in the order of the file, and it settles once.
 use Rattle.std.proofs.Common.{◌≡◌, ℕ, ◌+◌, ap, sym, subst, ◌∙◌, arith}
-use Rattle.execsim.specs.Headline.{Shown}
-use Rattle.execsim.specs.Reached.{after_start}
-use Rattle.execsim.specs.Time.{HasTimeFor}
-use Rattle.execsim.proofs.Acting.{known_after_action, time_after}
-use Rattle.execsim.proofs.Clock.{start_gains}
-use Rattle.execsim.proofs.Following.{while_good}
-use Rattle.execsim.proofs.Advancing.{not_known}
+use Rattle.execsim.specs.{Headline.Shown, Reached.after_start, Time.HasTimeFor}
+use Rattle.execsim.proofs.{Acting.known_after_action, Acting.time_after, Clock.start_gains, Following.while_good, Advancing.not_known}
 use Rattle.execsim.proofs.machine.Machine.start.Goals as goal
 
 -- (until it has failed it shows a state after a start)

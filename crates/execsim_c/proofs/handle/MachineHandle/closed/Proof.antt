@@ -1,5 +1,5 @@
 -- `closed` makes a handle at null, which owns nothing.
-use Rattle.std.proofs.Common.{◌≡◌, List, [], ◌∷◌, ◌++◌, refl, sym, subst}
+use Rattle.std.proofs.Common.{◌≡◌, List, [], ◌∷◌, ◌++◌, refl, sym, subst, None}
 use mir.Val.{Val, vnull}
 use base.Logic.{SProp, ent, emp, id⊢}
 use base.Fml.{ftrue}
@@ -17,14 +17,10 @@ use denote.Signature.{types_at, plain}
 use denote.Steps.{nothing}
 use denote.Triple.Walked.{Stays, stay_dropped, walk_of, Goes-dropped}
 use Rattle.core.proofs.alloc.Calls.{handle_tells}
-use Rattle.std.specs.declared.option.Option.TheVariants.{None}
 use Rattle.std.proofs.raw_atomic.Walks.{proved_at, leaves}
-use Rattle.execsim_c.specs.Held.{Kept, held}
-use Rattle.execsim_c.proofs.Values.{both}
-use Rattle.execsim_c.proofs.Kept.{Z, al, handle_good, handle_in}
 use Rattle.execsim_c.specs.contracts.handle.MachineHandle.closed.{ended, clauses}
-use Rattle.execsim_c.specs.contracts.handle.MachineHandle.closed.Key.{name as #self}
-use Rattle.execsim_c.proofs.handle.MachineHandle.closed.Statement.{statement}
+use Rattle.execsim_c.specs.{Held.Kept, Held.held, contracts.handle.MachineHandle.closed.Key.name as #self}
+use Rattle.execsim_c.proofs.{Values.both, Kept.Z, Kept.al, Kept.handle_good, Kept.handle_in, handle.MachineHandle.closed.Statement.statement}
 use Rattle.execsim_c.proofs.handle.MachineHandle.closed.Code as code
 
 pub closed_spec : {M : Type 1} → statement M

@@ -1,5 +1,5 @@
 -- `into_loose` tests the pointer: at null the handle owns nothing, and otherwise its box is taken out.
-use Rattle.std.proofs.Common.{◌≡◌, List, [], ◌∷◌, ◌++◌, refl, sym, ap, ◌∙◌, subst, lit<}
+use Rattle.std.proofs.Common.{◌≡◌, List, [], ◌∷◌, ◌++◌, refl, sym, ap, ◌∙◌, subst, lit<, None, Some}
 use mir.Val.{Val, vptr, vnull, vcons, vnil}
 use base.Logic.{SProp, ent, emp, id⊢}
 use base.Fml.{ftrue}
@@ -18,20 +18,15 @@ use denote.Signature.{types_at, type_at, plain}
 use denote.Steps.{nothing}
 use denote.Param.{layout}
 use denote.Triple.Walked.{Stays, stay_dropped, walk_of, Goes-dropped}
-use Rattle.std.specs.declared.option.Option.TheVariants.{None, Some}
 use Rattle.core.proofs.alloc.Shapes.{after}
 use Rattle.core.proofs.cell.Inside.{Good}
 use Rattle.core.proofs.option.Made.{Some-of, none_of}
-use Rattle.std.proofs.raw_atomic.Walks.{proved_at, leaves}
-use Rattle.std.specs.contracts.impls.GlobalAllocator.TheImpl.{ghosts}
-use Rattle.std.specs.Box.Ownership.{box_owns}
-use Rattle.std.proofs.ResultValues.{and_tt}
+use Rattle.std.proofs.{raw_atomic.Walks.proved_at, raw_atomic.Walks.leaves, ResultValues.and_tt}
+use Rattle.std.specs.{contracts.impls.GlobalAllocator.TheImpl.ghosts, Box.Ownership.box_owns}
 use Rattle.execsim_c.specs.contracts.handle.MachineHandle as C
-use Rattle.execsim_c.proofs.Values.{both, loose_good, loose_in}
-use Rattle.execsim_c.proofs.Kept.{R, Z, LZ, Lr, handle_good, handle_out, held_cases}
+use Rattle.execsim_c.proofs.{Values.both, Values.loose_good, Values.loose_in, Kept.R, Kept.Z, Kept.LZ, Kept.Lr, Kept.handle_good, Kept.handle_out, Kept.held_cases, handle.MachineHandle.into_loose.Statement.statement}
 use Rattle.execsim_c.specs.contracts.handle.MachineHandle.into_loose.{ended, clauses}
 use Rattle.execsim_c.specs.contracts.handle.MachineHandle.into_loose.Key.{name as #self}
-use Rattle.execsim_c.proofs.handle.MachineHandle.into_loose.Statement.{statement}
 use Rattle.execsim_c.proofs.handle.MachineHandle.into_loose.Code as code
 
 pub into_loose_spec : {M : Type 1} → statement M

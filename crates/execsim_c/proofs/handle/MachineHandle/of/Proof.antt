@@ -1,5 +1,5 @@
 -- `of` moves two fields, and what they own goes with them.
-use Rattle.std.proofs.Common.{◌≡◌, List, [], ◌∷◌, ◌++◌, refl, sym, subst}
+use Rattle.std.proofs.Common.{◌≡◌, List, [], ◌∷◌, ◌++◌, refl, sym, subst, Some}
 use mir.Val.{Val, vptr}
 use base.Logic.{SProp, ent, emp, id⊢}
 use base.Fml.{ftrue}
@@ -16,15 +16,11 @@ use denote.RawPtr.{block_ptr}
 use denote.Signature.{types_at, plain}
 use denote.Steps.{nothing}
 use denote.Triple.Walked.{Stays, stay_dropped, walk_of, Goes-dropped}
-use Rattle.std.specs.declared.option.Option.TheVariants.{Some}
 use Rattle.std.proofs.raw_atomic.Walks.{proved_at, leaves}
 use Rattle.std.specs.contracts.impls.GlobalAllocator.TheImpl.{ghosts}
-use Rattle.execsim_c.specs.Held.{held}
-use Rattle.execsim_c.proofs.Values.{both, loose_good, loose_out}
-use Rattle.execsim_c.proofs.Kept.{R, Z, LZ, Lr, handle_in}
 use Rattle.execsim_c.specs.contracts.handle.MachineHandle.of.{ended, clauses}
-use Rattle.execsim_c.specs.contracts.handle.MachineHandle.of.Key.{name as #self}
-use Rattle.execsim_c.proofs.handle.MachineHandle.of.Statement.{statement}
+use Rattle.execsim_c.specs.{Held.held, contracts.handle.MachineHandle.of.Key.name as #self}
+use Rattle.execsim_c.proofs.{Values.both, Values.loose_good, Values.loose_out, Kept.R, Kept.Z, Kept.LZ, Kept.Lr, Kept.handle_in, handle.MachineHandle.of.Statement.statement}
 use Rattle.execsim_c.proofs.handle.MachineHandle.of.Code as code
 
 pub of_spec : {M : Type 1} → statement M

@@ -29,14 +29,10 @@ use Rattle.core.proofs.alloc.Shapes.{after}
 use Rattle.core.proofs.atomic.Steps.{fm}
 use Rattle.core.proofs.cell.Inside.{Good}
 use Rattle.std.proofs.BoxSteps.Form as box
-use Rattle.std.proofs.BoxSteps.Steps.{box_out, box_in}
-use Rattle.std.proofs.raw_atomic.Walks.{proved_at, leaves}
-use Rattle.execsim_c.proofs.Values.{both, Loose, loose_good, loose_out}
+use Rattle.std.proofs.{BoxSteps.Steps.box_out, BoxSteps.Steps.box_in, raw_atomic.Walks.proved_at, raw_atomic.Walks.leaves, boxed.Box.from_raw.Met.met}
+use Rattle.execsim_c.proofs.{Values.both, Values.Loose, Values.loose_good, Values.loose_out, loose.Loose.into_box.Statement.statement}
 use Rattle.std.specs.contracts.boxed.Box.from_raw as callee
-use Rattle.std.proofs.boxed.Box.from_raw.Met.{met}
-use Rattle.execsim_c.specs.contracts.loose.Loose.into_box.{ended, clauses}
-use Rattle.execsim_c.specs.contracts.loose.Loose.into_box.Key.{name as #self}
-use Rattle.execsim_c.proofs.loose.Loose.into_box.Statement.{statement}
+use Rattle.execsim_c.specs.{contracts.loose.Loose.into_box.ended, contracts.loose.Loose.into_box.clauses, contracts.loose.Loose.into_box.Key.name as #self}
 use Rattle.execsim_c.proofs.loose.Loose.into_box.Code as code
 
 pub into_box_spec : {M : Type 1} → statement M

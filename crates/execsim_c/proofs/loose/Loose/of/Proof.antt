@@ -30,14 +30,10 @@ use Rattle.core.proofs.alloc.Calls.{Goes-blank, handle_tells}
 use Rattle.core.proofs.atomic.Steps.{fm}
 use Rattle.std.specs.Box.Ownership.{box_owns}
 use Rattle.std.proofs.BoxSteps.Form as box
-use Rattle.std.proofs.BoxSteps.Steps.{box_out, box_in}
-use Rattle.std.proofs.raw_atomic.Walks.{proved_at, leaves}
-use Rattle.execsim_c.proofs.Values.{both, loose_good, loose_in}
+use Rattle.std.proofs.{BoxSteps.Steps.box_out, BoxSteps.Steps.box_in, raw_atomic.Walks.proved_at, raw_atomic.Walks.leaves, boxed.Box.into_raw_with_allocator.Met.met}
+use Rattle.execsim_c.proofs.{Values.both, Values.loose_good, Values.loose_in, loose.Loose.of.Statement.statement}
 use Rattle.std.specs.contracts.boxed.Box.into_raw_with_allocator as callee
-use Rattle.std.proofs.boxed.Box.into_raw_with_allocator.Met.{met}
-use Rattle.execsim_c.specs.contracts.loose.Loose.of.{ended, clauses}
-use Rattle.execsim_c.specs.contracts.loose.Loose.of.Key.{name as #self}
-use Rattle.execsim_c.proofs.loose.Loose.of.Statement.{statement}
+use Rattle.execsim_c.specs.{contracts.loose.Loose.of.ended, contracts.loose.Loose.of.clauses, contracts.loose.Loose.of.Key.name as #self}
 use Rattle.execsim_c.proofs.loose.Loose.of.Code as code
 
 pub of_spec : {M : Type 1} → statement M

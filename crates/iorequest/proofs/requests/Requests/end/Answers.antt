@@ -2,9 +2,7 @@
 use Rattle.std.proofs.Common.{◌≡◌, ◌∙◌, true, Some, sym, ap, arith, length-set, is_some, ◌-◌}
 use Rattle.std.proofs.lemmas.Grind.{get_or_default_zero}
 use Rattle.execlist.specs.Pool.{Pooled, slot}
-use Rattle.iorequest.specs.declared.request.Request.{Request}
-use Rattle.iorequest.specs.Request.{idle_request, is_under_way}
-use Rattle.iorequest.specs.Requests.{request_at}
+use Rattle.iorequest.specs.{declared.request.Request.Request, Request.idle_request, Request.is_under_way, Requests.request_at}
 use Rattle.iorequest.proofs.Counted.{known_number, one_at_least, one_less}
 use Rattle.iorequest.proofs.requests.Requests.end.Goals as goal
 

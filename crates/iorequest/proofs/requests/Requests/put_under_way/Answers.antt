@@ -2,9 +2,7 @@
 use Rattle.std.proofs.Common.{◌≡◌, ◌∙◌, true, Some, sym, ap, arith, slice_index_or, is_some, length-set}
 use Rattle.std.proofs.lemmas.Grind.{get_or_default_zero}
 use Rattle.execlist.specs.Pool.{Pooled, slot}
-use Rattle.iorequest.specs.declared.request.Request.{Request}
-use Rattle.iorequest.specs.Request.{idle_request, is_under_way}
-use Rattle.iorequest.specs.Requests.{request_at}
+use Rattle.iorequest.specs.{declared.request.Request.Request, Request.idle_request, Request.is_under_way, Requests.request_at}
 use Rattle.iorequest.proofs.Counted.{known_number, one_more_fits, one_more}
 use Rattle.iorequest.proofs.requests.Requests.put_under_way.Goals as goal
 

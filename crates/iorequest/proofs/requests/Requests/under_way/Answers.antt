@@ -1,12 +1,10 @@
 -- One number of the pool after another.
 use Rattle.std.proofs.Common.{◌<◌, length, refl, sym, ap, ◌∙◌, arith, None}
 use Rattle.std.specs.List.{list_any}
-use Rattle.iorequest.specs.Requests.{is_under_way_at}
+use Rattle.iorequest.specs.{Requests.is_under_way_at, declared.request.Request.Request}
 use Rattle.std.proofs.lemmas.Grind.{get_or_default_zero}
 use Rattle.execlist.specs.Pool.{Pooled}
-use Rattle.iorequest.specs.declared.request.Request.{Request}
-use Rattle.iorequest.proofs.Counted.{none_counted}
-use Rattle.iorequest.proofs.Under.{none_here, none_behind}
+use Rattle.iorequest.proofs.{Counted.none_counted, Under.none_here, Under.none_behind}
 use Rattle.iorequest.proofs.requests.Requests.under_way.Goals as goal
 
 pub loop-r-init : goal.loop-r-init

@@ -1,7 +1,6 @@
 -- The proof of `MemHeader::block_at`: the size and the tag of the block that begins at an address of the region.
 use Rattle.std.proofs.Common.{sym, ap, subst, ◌∙◌, IsTrue}
-use Rattle.memlist.specs.Areas.{Area}
-use Rattle.memlist.specs.Blocks.{block_at, is_in}
+use Rattle.memlist.specs.{Areas.Area, Blocks.block_at, Blocks.is_in}
 use Rattle.memlist.proofs.Headers.{found_slot, found_odd}
 use Rattle.memlist.proofs.header.MemHeader.block_at.Goals as goal
 

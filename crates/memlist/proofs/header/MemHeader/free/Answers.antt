@@ -1,16 +1,10 @@
 -- The proof of `MemHeader::free`: frees the block that begins at an address.
 use Rattle.std.proofs.Common.{◌≡◌, ◌-◌, ◌/◌, ◌<◌, List, Some, length, set, arith, ap, subst, sym, take, ◌∙◌}
-use Rattle.memlist.specs.declared.slot.Slot.{Slot}
-use Rattle.memlist.specs.Areas.{Area, empty_slot, entries}
-use Rattle.memlist.specs.Blocks.{block_at, freed}
-use Rattle.memlist.specs.Chain.{IsLastBelow}
-use Rattle.memlist.specs.Descent.{last_left}
-use Rattle.memlist.specs.Regions.{region_end}
-use Rattle.memlist.proofs.Descending.{live-left, unit_of}
+use Rattle.memlist.specs.{declared.slot.Slot.Slot, Areas.Area, Areas.empty_slot, Areas.entries, Blocks.block_at, Blocks.freed, Chain.IsLastBelow, Descent.last_left, Regions.region_end}
 use Rattle.memlist.proofs.Headers.{IsInside, IsWithin, Keeps, live_shown, live_inside, live_within, lives, place_within, round_freed, keeps_freed}
-use Rattle.memlist.proofs.Resets.{unused_freed}
-use Rattle.memlist.proofs.header.MemHeader.free.Goals as goal
 use Rattle.memlist.proofs.header.MemHeader.free.Goals.{After-index, After-join, After-self}
+use Rattle.memlist.proofs.{Descending.live-left, Descending.unit_of, Resets.unused_freed}
+use Rattle.memlist.proofs.header.MemHeader.free.Goals as goal
 
 module _ (c : After-self) where
   inside : IsInside c.self.inside.region c.args.address

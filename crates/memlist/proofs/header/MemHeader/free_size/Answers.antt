@@ -1,8 +1,6 @@
 -- The proof of `MemHeader::free_size`: the bytes that are free.
-use Rattle.std.proofs.Common.{List, arith, ap}
-use Rattle.std.specs.List.{sum_by}
-use Rattle.memlist.specs.declared.gap.Gap.{Gap}
-use Rattle.memlist.specs.Areas.{Area}
+use Rattle.std.proofs.Common.{List, arith, ap, sum_by}
+use Rattle.memlist.specs.{declared.gap.Gap.Gap, Areas.Area}
 use Rattle.memlist.proofs.Headers.{free_bound, gaps_shown}
 use Rattle.memlist.proofs.header.MemHeader.free_size.Goals as goal
 

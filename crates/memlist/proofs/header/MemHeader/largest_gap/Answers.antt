@@ -1,7 +1,6 @@
 -- The proof of `MemHeader::largest_gap`: the size of the greatest gap, or 0 if there is none.
 use Rattle.std.proofs.Common.{List, ap, map, ◌∙◌}
-use Rattle.memlist.specs.declared.gap.Gap.{Gap}
-use Rattle.memlist.specs.Fit.{greatest}
+use Rattle.memlist.specs.{declared.gap.Gap.Gap, Fit.greatest}
 use Rattle.memlist.proofs.Headers.{gaps_shown}
 use Rattle.memlist.proofs.header.MemHeader.largest_gap.Goals as goal
 

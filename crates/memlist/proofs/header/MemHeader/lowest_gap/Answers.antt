@@ -1,7 +1,6 @@
 -- The proof of `MemHeader::lowest_gap`: the chunk before the lowest gap of at least that many bytes, or 0 if that gap is the first.
 use Rattle.std.proofs.Common.{List, subst}
-use Rattle.memlist.specs.declared.gap.Gap.{Gap}
-use Rattle.memlist.specs.Choice.{IsLowest}
+use Rattle.memlist.specs.{declared.gap.Gap.Gap, Choice.IsLowest}
 use Rattle.memlist.proofs.Headers.{gaps_shown}
 use Rattle.memlist.proofs.header.MemHeader.lowest_gap.Goals as goal
 

@@ -1,8 +1,7 @@
 -- The proof of `MemHeader::new`: a region in which nothing is allocated, with a slot for each unit and a word for each 4 bytes.
 use Rattle.std.proofs.Common.{◌/◌, arith, ap}
 use Rattle.memlist.specs.Areas.{Area}
-use Rattle.memlist.proofs.Headers.{aligned_region, new_header, reach_region}
-use Rattle.memlist.proofs.Resets.{unused_none}
+use Rattle.memlist.proofs.{Headers.aligned_region, Headers.new_header, Headers.reach_region, Resets.unused_none}
 use Rattle.memlist.proofs.header.MemHeader.new.Goals as goal
 
 pub new-requires-clause-place : goal.new-requires-clause-place

@@ -1,12 +1,8 @@
 -- The proof of `MemHeader::reset`: frees every block.
 use Rattle.std.proofs.Common.{◌≡◌, ◌/◌, [], replicate, arith, ap, ◌∙◌}
-use Rattle.memlist.specs.Areas.{Area, empty_slot}
-use Rattle.memlist.specs.Blocks.{stretch}
-use Rattle.memlist.specs.Chain.{Space}
-use Rattle.memlist.proofs.Headers.{Keeps, new_header}
-use Rattle.memlist.proofs.Resets.{table_emptied, unused_none}
+use Rattle.memlist.specs.{Areas.Area, Areas.empty_slot, Blocks.stretch, Chain.Space}
+use Rattle.memlist.proofs.{Headers.Keeps, Headers.new_header, Resets.table_emptied, Resets.unused_none, header.MemHeader.reset.Goals.After-reset}
 use Rattle.memlist.proofs.header.MemHeader.reset.Goals as goal
-use Rattle.memlist.proofs.header.MemHeader.reset.Goals.{After-reset}
 
 module _ (c : After-reset) where
   slots : c.empty.new.slots.items ≡ replicate (c.self.inside.region.size / 8) empty_slot

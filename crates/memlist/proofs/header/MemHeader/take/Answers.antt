@@ -1,19 +1,10 @@
 -- The proof of `MemHeader::take`: puts a block at the front of the lowest gap that has room for it, which is the one after the chunk at an
 -- address, or the first if that is 0; and answers the block's address.
-use Rattle.std.proofs.Common.{List, ◌≡◌, ◌+◌, ◌-◌, ◌/◌, ◌<◌, ◌++◌, length, arith, set, sym, ap, subst, ◌∙◌, IfSome}
+use Rattle.std.proofs.Common.{List, ◌≡◌, ◌+◌, ◌-◌, ◌/◌, ◌<◌, ◌++◌, length, arith, set, sym, ap, subst, ◌∙◌, IfSome, nat_cmp}
 use Rattle.std.specs.FinMap.{put}
-use Rattle.std.specs.Ordering.{nat_cmp}
-use Rattle.memlist.specs.declared.gap.Gap.{Gap}
-use Rattle.memlist.specs.declared.slot.Slot.{Slot}
-use Rattle.memlist.specs.Areas.{Area, IsHeader, entries}
-use Rattle.memlist.specs.Blocks.{stretch, with_block}
-use Rattle.memlist.specs.Chain.{IsSpot, Space}
-use Rattle.memlist.specs.Fit.{lowest_gap}
-use Rattle.memlist.specs.Regions.{region_end}
-use Rattle.memlist.proofs.Headers.{IsGapWithin, Keeps, gaps_shown, keeps_taken, place_within, reach_region, spot_within}
-use Rattle.memlist.proofs.Resets.{unused_put}
+use Rattle.memlist.specs.{declared.gap.Gap.Gap, declared.slot.Slot.Slot, Areas.Area, Areas.IsHeader, Areas.entries, Blocks.stretch, Blocks.with_block, Chain.IsSpot, Chain.Space, Fit.lowest_gap, Regions.region_end}
+use Rattle.memlist.proofs.{Headers.IsGapWithin, Headers.Keeps, Headers.gaps_shown, Headers.keeps_taken, Headers.place_within, Headers.reach_region, Headers.spot_within, Resets.unused_put, header.MemHeader.take.Goals.After-place_of-place, header.MemHeader.take.Goals.After-self}
 use Rattle.memlist.proofs.header.MemHeader.take.Goals as goal
-use Rattle.memlist.proofs.header.MemHeader.take.Goals.{After-place_of-place, After-self}
 
 module _ (c : After-self) where
   -- the gap, among those of the space

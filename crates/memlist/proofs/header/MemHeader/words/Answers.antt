@@ -1,8 +1,6 @@
 -- The proof of `MemHeader::words`: the words of the region.
 use Rattle.std.proofs.Common.{List, ap, arith, subst}
-use Rattle.memlist.specs.declared.gap.Gap.{Gap}
-use Rattle.memlist.specs.Areas.{Area, area_gaps}
-use Rattle.memlist.specs.Chain.{IsLinked}
+use Rattle.memlist.specs.{declared.gap.Gap.Gap, Areas.Area, Areas.area_gaps, Chain.IsLinked}
 use Rattle.memlist.proofs.Headers.{gaps_shown}
 use Rattle.memlist.proofs.header.MemHeader.words.Goals as goal
 

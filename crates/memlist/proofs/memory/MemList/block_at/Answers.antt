@@ -1,9 +1,6 @@
 -- The proof of `MemList::block_at`: the size, as it was rounded, and the tag of the block that begins at an address.
 use Rattle.std.proofs.Common.{◌≡◌, List, true, sym, ap, subst, ◌∙◌, Some, None}
-use Rattle.memlist.specs.Areas.{Area}
-use Rattle.memlist.specs.Blocks.{block_at, is_in}
-use Rattle.memlist.specs.Choice.{IsHome}
-use Rattle.memlist.specs.Memory.{Memory}
+use Rattle.memlist.specs.{Areas.Area, Blocks.block_at, Blocks.is_in, Choice.IsHome, Memory.Memory}
 use Rattle.memlist.proofs.Memories.{read_at, found_home, found_homeless}
 use Rattle.memlist.proofs.memory.MemList.block_at.Goals as goal
 

@@ -1,9 +1,6 @@
 -- The proof of `MemList::fits`: whether `alloc_mem` would find a gap for a block of that size, and changes nothing.
 use Rattle.std.proofs.Common.{List, sym, ap, subst, ◌∙◌, is_some}
-use Rattle.memlist.specs.Areas.{Area}
-use Rattle.memlist.specs.Choice.{IsOffer}
-use Rattle.memlist.specs.Fit.{fit}
-use Rattle.memlist.specs.Memory.{Memory}
+use Rattle.memlist.specs.{Areas.Area, Choice.IsOffer, Fit.fit, Memory.Memory}
 use Rattle.memlist.proofs.Memories.{fit_nothing, fit_offered}
 use Rattle.memlist.proofs.memory.MemList.fits.Goals as goal
 

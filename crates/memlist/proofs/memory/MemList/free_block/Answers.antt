@@ -1,9 +1,6 @@
 -- The proof of `MemList::free_block`: frees the block that begins at an address, whatever its tag.
 use Rattle.std.proofs.Common.{◌≡◌, List, true, arith, sym, ap, subst, ◌∙◌, IsSome}
-use Rattle.memlist.specs.Areas.{Area}
-use Rattle.memlist.specs.Blocks.{block_at, is_in}
-use Rattle.memlist.specs.Choice.{IsHome}
-use Rattle.memlist.specs.Memory.{Memory, without_block}
+use Rattle.memlist.specs.{Areas.Area, Blocks.block_at, Blocks.is_in, Choice.IsHome, Memory.Memory, Memory.without_block}
 use Rattle.memlist.proofs.Memories.{home_live, home_within, read_at, found_home, kept_memory, memory_freed}
 use Rattle.memlist.proofs.memory.MemList.free_block.Goals as goal
 

@@ -1,9 +1,7 @@
 -- The gaps of the region at a place are those of its header.
 use Rattle.std.proofs.Common.{◌≡◌, ◌≤◌, ap, sym, ◌∙◌, subst, length, List, Some, slice_get}
 use Rattle.std.proofs.lemmas.Option.{slice_get-get_or}
-use Rattle.memlist.specs.Areas.{Area}
-use Rattle.memlist.specs.Memory.{Memory}
-use Rattle.memlist.specs.Readers.{gap_from, gaps_in}
+use Rattle.memlist.specs.{Areas.Area, Memory.Memory, Readers.gap_from, Readers.gaps_in}
 use Rattle.memlist.proofs.Readers.{gaps_at, gaps_past}
 use Rattle.memlist.proofs.memory.MemList.gap_from.Goals as goal
 

@@ -1,7 +1,6 @@
 -- The proof of `MemList::reset`: frees every block.
 use Rattle.std.proofs.Common.{arith, ap, ◌∙◌}
-use Rattle.memlist.specs.Areas.{greatest_total, regions_of}
-use Rattle.memlist.specs.Memory.{Memory, untouched}
+use Rattle.memlist.specs.{Areas.greatest_total, Areas.regions_of, Memory.Memory, Memory.untouched}
 use Rattle.memlist.proofs.Memories.{new_memory, new_shown}
 use Rattle.memlist.proofs.memory.MemList.reset.Goals as goal
 

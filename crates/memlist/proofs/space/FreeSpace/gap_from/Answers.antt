@@ -1,8 +1,7 @@
 -- The gaps are walked along up to the first one that does not begin below the address.
 use Rattle.std.proofs.Common.{◌<◌, sym, arith}
 use Rattle.memlist.specs.declared.gap.Gap.{Gap}
-use Rattle.memlist.proofs.Readers.{found_from, found_none}
-use Rattle.memlist.proofs.Walking.{pass, pass_start, passed_walk}
+use Rattle.memlist.proofs.{Readers.found_from, Readers.found_none, Walking.pass, Walking.pass_start, Walking.passed_walk}
 use Rattle.memlist.proofs.space.FreeSpace.gap_from.Goals as goal
 
 pub loop-gap-init : goal.loop-gap-init

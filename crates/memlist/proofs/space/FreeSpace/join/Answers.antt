@@ -1,13 +1,8 @@
 -- The proof of `FreeSpace::join`: frees a block, which joins the gaps that touch it.
 use Rattle.std.proofs.Common.{◌+◌, ◌-◌, arith, ap, sym, length, ◌∙◌, subst}
-use Rattle.memlist.specs.Chain.{IsCount, Space, written}
-use Rattle.memlist.specs.Joins.{Around}
-use Rattle.memlist.proofs.Chains.{apart_sum, before_within, seen}
-use Rattle.memlist.proofs.Writing.{bytes_joined, IsJoining, joining, length-written, link_len, seen_around, space_written}
-use Rattle.memlist.proofs.Edits.{front, joined}
-use Rattle.memlist.proofs.Walking.{up_to_block}
+use Rattle.memlist.specs.{Chain.IsCount, Chain.Space, Chain.written, Joins.Around}
+use Rattle.memlist.proofs.{Chains.apart_sum, Chains.before_within, Chains.seen, Writing.bytes_joined, Writing.IsJoining, Writing.joining, Writing.length-written, Writing.link_len, Writing.seen_around, Writing.space_written, Edits.front, Edits.joined, Walking.up_to_block, space.FreeSpace.join.Goals.After-upper-upper}
 use Rattle.memlist.proofs.space.FreeSpace.join.Goals as goal
-use Rattle.memlist.proofs.space.FreeSpace.join.Goals.{After-upper-upper}
 
 module _ (c : After-upper-upper) (around : Around c.args.self.now.gaps c.args.address c.args.size) where
   joins : IsJoining c.self.inside.base c.self.inside.words.items c.self.inside.head c.args.address (front around) (joined around) c.args.before c.upper-upper.result.next c.upper-upper.result.size

@@ -1,7 +1,6 @@
 -- The proof of `FreeSpace::largest`: the size of the greatest gap, or 0 if there is none.
 use Rattle.std.proofs.Common.{List, ◌∙◌, refl, sym, ap, max, map}
-use Rattle.memlist.specs.declared.gap.Gap.{Gap}
-use Rattle.memlist.specs.Fit.{greatest}
+use Rattle.memlist.specs.{declared.gap.Gap.Gap, Fit.greatest}
 use Rattle.memlist.proofs.Walking.{count, count_start, counted, counted_walk, greatest_more}
 use Rattle.memlist.proofs.space.FreeSpace.largest.Goals as goal
 

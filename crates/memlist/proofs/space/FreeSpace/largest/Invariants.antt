@@ -1,7 +1,6 @@
 -- What holds in the loops of `FreeSpace::largest`: the size of the greatest gap, or 0 if there is none.
 use Rattle.std.proofs.Common.{◌-◌, List, map}
-use Rattle.memlist.specs.declared.gap.Gap.{Gap}
-use Rattle.memlist.specs.Fit.{greatest}
+use Rattle.memlist.specs.{declared.gap.Gap.Gap, Fit.greatest}
 use Rattle.memlist.proofs.Walking.{IsCounted}
 use Rattle.memlist.proofs.space.FreeSpace.largest.Given as goal
 

@@ -1,7 +1,6 @@
 -- The proof of `FreeSpace::reset`: all bytes are free.
 use Rattle.std.proofs.Common.{◌≡◌, ◌+◌, ◌*◌, ◌/◌, ◌≤◌, length, ap, ◌∙◌, arith}
-use Rattle.memlist.specs.Chain.{Space}
-use Rattle.memlist.specs.Blocks.{stretch}
+use Rattle.memlist.specs.{Chain.Space, Blocks.stretch}
 use Rattle.memlist.proofs.Writing.{bytes_new, new_space}
 use Rattle.memlist.proofs.space.FreeSpace.reset.Goals as goal
 

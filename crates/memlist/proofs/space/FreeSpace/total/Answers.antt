@@ -1,8 +1,6 @@
 -- The proof of `FreeSpace::total`: the bytes of all gaps.
-use Rattle.std.proofs.Common.{◌∙◌, ap}
-use Rattle.std.specs.List.{sum_by}
-use Rattle.memlist.specs.declared.gap.Gap.{Gap}
-use Rattle.memlist.specs.Chain.{Space}
+use Rattle.std.proofs.Common.{◌∙◌, ap, sum_by}
+use Rattle.memlist.specs.{declared.gap.Gap.Gap, Chain.Space}
 use Rattle.memlist.proofs.space.FreeSpace.total.Goals as goal
 
 pub returns : goal.returns

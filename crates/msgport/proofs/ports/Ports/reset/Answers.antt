@@ -1,7 +1,6 @@
 -- There is no port and no link, and the messages from there on stay.
 use Rattle.std.proofs.Common.{◌≡◌, ◌<◌, ◌≤◌, [], None, length, replicate, refl, subst, sym, ap, ◌∙◌, IsTrue}
-use Rattle.execlist.specs.Lists.{blank}
-use Rattle.execlist.specs.Pool.{free_below}
+use Rattle.execlist.specs.{Lists.blank, Pool.free_below}
 use Rattle.msgport.specs.Ports.{MessagePorts, all_freed, is_message, no_ports}
 use Rattle.msgport.proofs.Linking.{held_when_freed, holds_item, length-below}
 use Rattle.msgport.proofs.ports.Ports.reset.Goals as goal

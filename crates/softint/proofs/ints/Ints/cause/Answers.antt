@@ -1,11 +1,8 @@
 -- What is caused goes after those of its priority, which are in one header; what is caused already stays.
 use Rattle.std.proofs.Common.{rules, arith, ◌≡◌, ◌<◌, length, map, false, None, sym, ◌∙◌, ap, is_none, is_some}
 use Rattle.std.proofs.lemmas.List.{length-map}
-use Rattle.execlist.specs.Order.{first}
-use Rattle.execlist.specs.Lists.{home}
-use Rattle.softint.specs.declared.interrupt.Soft.{Soft}
-use Rattle.softint.specs.Interrupts.{Interrupts, joined}
-use Rattle.execlist.specs.Disciplines.{pri_at}
+use Rattle.execlist.specs.{Order.first, Lists.home, Disciplines.pri_at}
+use Rattle.softint.specs.{declared.interrupt.Soft.Soft, Interrupts.Interrupts, Interrupts.joined}
 use Rattle.softint.proofs.Headers.{loose, present, arrival, arrival_held, first_arrived, caused_more, caused_still}
 use Rattle.softint.proofs.ints.Ints.cause.Goals as goal
 

@@ -1,7 +1,6 @@
 -- There is no software interrupt of that number, so none is after it.
 use Rattle.std.proofs.Common.{◌≤◌, length, ap, sym, ◌∙◌, arith, Option, ℕ}
-use Rattle.execlist.specs.Order.{first}
-use Rattle.execlist.specs.Lists.{part_from}
+use Rattle.execlist.specs.{Order.first, Lists.part_from}
 use Rattle.softint.specs.Interrupts.{Interrupts, joined}
 use Rattle.softint.proofs.Headers.{home_beyond, none_behind}
 use Rattle.softint.proofs.ints.Ints.caused_after.Goals as goal

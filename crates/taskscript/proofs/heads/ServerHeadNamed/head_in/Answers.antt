@@ -4,13 +4,8 @@ use Rattle.std.proofs.lemmas.Result.{err_from_is_err_and}
 use Rattle.toml.specs.Data.{get_member}
 use Rattle.toml.specs.View.{table_view}
 use Rattle.taskscript.specs.declared.place.Key.TheVariants as key
-use Rattle.taskscript.specs.declared.fault.FileFault.TheVariants.{UnknownKey}
+use Rattle.taskscript.specs.{declared.fault.FileFault.TheVariants.UnknownKey, Faults.check, File.server_keys, Numbering.texts, Places.at, Places.key_at, Places.unknown_key_at, Tree.required, Tree.optional, Tree.keys_are_among, Tree.pri_faults, Tree.source_faults, Tree.boolean_faults, Tree.name_faults, Tree.code_faults}
 use Rattle.execlist.specs.Order.{first}
-use Rattle.taskscript.specs.Faults.{check}
-use Rattle.taskscript.specs.File.{server_keys}
-use Rattle.taskscript.specs.Numbering.{texts}
-use Rattle.taskscript.specs.Places.{at, key_at, unknown_key_at}
-use Rattle.taskscript.specs.Tree.{required, optional, keys_are_among, pri_faults, source_faults, boolean_faults, name_faults, code_faults}
 use Rattle.taskscript.proofs.Firsts.{first_some, skip}
 use Rattle.taskscript.proofs.heads.ServerHeadNamed.head_in.Goals as goal
 

@@ -2,8 +2,7 @@
 use Rattle.std.proofs.Common.{◌<◌, ap, length, refl, sym, ◌∙◌, Some, arith}
 use Rattle.std.proofs.lemmas.List.{get_or_read}
 use Rattle.execlist.specs.Lists.{sequence}
-use Rattle.timerdev.specs.Held.{Held, due_for}
-use Rattle.timerdev.specs.DueTimes.{due_of}
+use Rattle.timerdev.specs.{Held.Held, Held.due_for, DueTimes.due_of}
 use Rattle.timerdev.proofs.DueTimes.{due_at_home, not_due}
 use Rattle.timerdev.proofs.timer.Timer.due_of.Goals as goal
 

@@ -1,14 +1,10 @@
 -- The first of all is the better of the first of the clock and the first of system time.
 use Rattle.std.proofs.Common.{rules, ◌≡◌, ◌<◌, ◌≤◌, ◌-◌, ℕ, Some, cond, arith, refl, sym, ap, ◌∙◌, subst, ◌&&◌, ◌||◌, IsTrue, nat_eq, nat_lt}
-use Rattle.std.proofs.lemmas.Grind.{get_or_default_zero}
-use Rattle.std.proofs.lemmas.Option.{IfSome_then}
+use Rattle.std.proofs.lemmas.{Grind.get_or_default_zero, Option.IfSome_then}
 use Rattle.execlist.specs.Lists.{home, sequence}
-use Rattle.timerdev.specs.Timing.{is_waiting, due_next}
-use Rattle.timerdev.specs.Held.{Held, Rises, due_at, is_before}
-use Rattle.timerdev.proofs.Keeping.{rises_now, timer_of}
-use Rattle.timerdev.proofs.Next.{due_of_both, due_of_clock, due_of_system, found_by, home_below, home_waits}
+use Rattle.timerdev.specs.{Timing.is_waiting, Timing.due_next, Held.Held, Held.Rises, Held.due_at, Held.is_before}
+use Rattle.timerdev.proofs.{Keeping.rises_now, Keeping.timer_of, Next.due_of_both, Next.due_of_clock, Next.due_of_system, Next.found_by, Next.home_below, Next.home_waits, timer.Timer.first_due.Goals.After-is_first, timer.Timer.first_due.Goals.After-self}
 use Rattle.timerdev.proofs.timer.Timer.first_due.Goals as goal
-use Rattle.timerdev.proofs.timer.Timer.first_due.Goals.{After-is_first, After-self}
 
 module _ (g : _) (c : After-self g) where
   rises : (h : ℕ) → h < 2 → Rises (due_at c.self.inside.dues.items) (sequence (g.S.ListSpace.sequences c.self.inside.queues) h)

@@ -2,10 +2,8 @@
 use Rattle.std.proofs.Common.{arith, refl, sym, ap, ◌∙◌, subst, IsTrue, find, nat_le}
 use Rattle.std.proofs.lemmas.Option.{IfSome_then}
 use Rattle.execlist.specs.Lists.{sequence}
-use Rattle.timerdev.specs.Timing.{is_waiting, until_next}
-use Rattle.timerdev.specs.Held.{Held, Rises, due_at}
-use Rattle.timerdev.proofs.Keeping.{rises_now, timer_of}
-use Rattle.timerdev.proofs.Next.{home_waits, until_is_first}
+use Rattle.timerdev.specs.{Timing.is_waiting, Timing.until_next, Held.Held, Held.Rises, Held.due_at}
+use Rattle.timerdev.proofs.{Keeping.rises_now, Keeping.timer_of, Next.home_waits, Next.until_is_first}
 use Rattle.timerdev.proofs.timer.Timer.first_until.Goals as goal
 
 pub first_come-requires-clause-sorted : goal.first_come-requires-clause-sorted

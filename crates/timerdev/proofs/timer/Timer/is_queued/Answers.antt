@@ -1,10 +1,8 @@
 -- A request waits where it is in the order of beginning.
 use Rattle.std.proofs.Common.{ap, sym, ◌∙◌, is_some}
 use Rattle.execlist.specs.Lists.{home, sequence, times}
-use Rattle.timerdev.specs.Timing.{is_waiting}
-use Rattle.timerdev.specs.Held.{Held, due_in}
-use Rattle.timerdev.proofs.Filters.{waits_where_it_stands}
-use Rattle.timerdev.proofs.Homes.{only_header, is_some_stands}
+use Rattle.timerdev.specs.{Timing.is_waiting, Held.Held, Held.due_in}
+use Rattle.timerdev.proofs.{Filters.waits_where_it_stands, Homes.only_header, Homes.is_some_stands}
 use Rattle.timerdev.proofs.timer.Timer.is_queued.Goals as goal
 
 pub returns : goal.returns

@@ -1,14 +1,9 @@
 -- A request that does not wait has no home, and goes if the times of its header rise.
 use Rattle.std.proofs.Common.{◌≡◌, ◌<◌, ◌++◌, ◌∷◌, [], ℕ, length, slice_set, sym, ap, ◌∙◌, subst, arith, IsTrue, not, length-set, get_or-set_same}
-use Rattle.execlist.specs.Order.{enqueue}
-use Rattle.execlist.specs.Lists.{home, put_after, sequence, times}
-use Rattle.timerdev.specs.Timing.{begins_to_wait, is_waiting}
-use Rattle.timerdev.specs.Held.{Held, Rises, due_at, due_for, due_in, on_timer, sooner_of, waiting_for}
-use Rattle.timerdev.proofs.Filters.{one_that_is_loose}
-use Rattle.timerdev.proofs.Homes.{homeless, only_header}
-use Rattle.timerdev.proofs.Keeping.{IsKept, one_comes, queue_rises, timer_of, with_waiting}
+use Rattle.execlist.specs.{Order.enqueue, Lists.home, Lists.put_after, Lists.sequence, Lists.times}
+use Rattle.timerdev.specs.{Timing.begins_to_wait, Timing.is_waiting, Held.Held, Held.Rises, Held.due_at, Held.due_for, Held.due_in, Held.on_timer, Held.sooner_of, Held.waiting_for}
+use Rattle.timerdev.proofs.{Filters.one_that_is_loose, Homes.homeless, Homes.only_header, Keeping.IsKept, Keeping.one_comes, Keeping.queue_rises, Keeping.timer_of, Keeping.with_waiting, timer.Timer.put.Goals.After-add_tail, timer.Timer.put.Goals.After-self}
 use Rattle.timerdev.proofs.timer.Timer.put.Goals as goal
-use Rattle.timerdev.proofs.timer.Timer.put.Goals.{After-add_tail, After-self}
 
 loose : (g : _) (c : After-self g) → times c.args.r (sequence (g.S.ListSpace.sequences c.self.inside.begun) 0) ≡ 0
 loose g c =

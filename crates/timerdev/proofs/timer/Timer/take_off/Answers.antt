@@ -1,13 +1,9 @@
 -- A request that waits has a home in either space, and leaves each sequence.
 use Rattle.std.proofs.Common.{◌≡◌, ◌≤◌, Some, not, eqb, is_some, length, sym, ap, ◌∙◌, subst, IsSome, IsTrue, filter}
 use Rattle.execlist.specs.Lists.{home, sequence, times}
-use Rattle.timerdev.specs.Timing.{Waiting, is_waiting, waits_no_more}
-use Rattle.timerdev.specs.Held.{Held, due_in, on_timer, waiting_for}
-use Rattle.timerdev.proofs.Filters.{one_that_waits}
-use Rattle.timerdev.proofs.Homes.{has_home, home_zero, some_known}
-use Rattle.timerdev.proofs.Keeping.{IsKept, departed, one_goes, timer_of, with_waiting}
+use Rattle.timerdev.specs.{Timing.Waiting, Timing.is_waiting, Timing.waits_no_more, Held.Held, Held.due_in, Held.on_timer, Held.waiting_for}
+use Rattle.timerdev.proofs.{Filters.one_that_waits, Homes.has_home, Homes.home_zero, Homes.some_known, Keeping.IsKept, Keeping.departed, Keeping.one_goes, Keeping.timer_of, Keeping.with_waiting, timer.Timer.take_off.Goals.After-remove-2, timer.Timer.take_off.Goals.After-self}
 use Rattle.timerdev.proofs.timer.Timer.take_off.Goals as goal
-use Rattle.timerdev.proofs.timer.Timer.take_off.Goals.{After-remove-2, After-self}
 
 module _ (g : _) (c : After-self g) where
   stands : 1 ≤ times c.args.r (sequence (g.S.ListSpace.sequences c.self.inside.begun) 0)

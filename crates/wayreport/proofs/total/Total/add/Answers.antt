@@ -1,11 +1,9 @@
 -- The proof of `add`: adds an outcome of later ways.
-use Rattle.std.proofs.Common.{◌∙◌, ℕ, List, ap, sym, refl, bytes_eq}
+use Rattle.std.proofs.Common.{◌∙◌, ℕ, List, ap, sym, refl, bytes_eq, string_bytes}
 use Rattle.indexmap.specs.IndexMap.{IndexMap, insert_entry}
 use Rattle.std.specs.Global.{Vec}
-use Rattle.std.specs.String.{string_bytes}
 use Rattle.ways.specs.Tables.{Entry, added}
-use Rattle.wayreport.specs.Totals.{entries_in}
-use Rattle.wayreport.specs.declared.total.Tally.{Tally}
+use Rattle.wayreport.specs.{Totals.entries_in, declared.total.Tally.Tally}
 use Rattle.wayreport.proofs.Adding.{again, opened}
 use Rattle.wayreport.proofs.total.Total.add.Goals as goal
 

@@ -1,7 +1,6 @@
 -- What is left is still to be moved.
 use Rattle.std.proofs.Common.{◌≡◌, ◌++◌, map}
-use Rattle.wayreport.specs.Reports.{found_view}
-use Rattle.wayreport.specs.Totals.{entries_in}
+use Rattle.wayreport.specs.{Reports.found_view, Totals.entries_in}
 use Rattle.wayreport.proofs.total.Total.into_found.Given as goal
 
 abbrev pub invariant-loop-seen : goal.invariant-loop-seen

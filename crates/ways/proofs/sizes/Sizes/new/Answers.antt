@@ -1,7 +1,6 @@
 -- The proof of `Sizes::new`: the numbers for up to that many extras of that many kinds among up to that many actions, or none if one is
 -- beyond 64 bits.
-use Rattle.std.proofs.Common.{◌≡◌, ◌∙◌, suc, ◌+◌, ◌++◌, List, ℕ, length, ap, sym, subst, arith}
-use Rattle.std.proofs.lemmas.List.{length-append}
+use Rattle.std.proofs.Common.{◌≡◌, ◌∙◌, suc, ◌+◌, ◌++◌, List, ℕ, length, ap, sym, subst, arith, length-append}
 use Rattle.ways.specs.Rows.{IsRow, AreRows}
 use Rattle.ways.proofs.Rows.{rows_more}
 use Rattle.ways.proofs.sizes.Sizes.new.Goals as goal

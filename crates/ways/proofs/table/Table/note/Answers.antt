@@ -2,9 +2,7 @@
 use Rattle.std.proofs.Common.{◌∙◌, ℕ, List, ap, sym, refl, bytes_eq}
 use Rattle.indexmap.specs.IndexMap.{IndexMap, insert_entry}
 use Rattle.std.specs.Global.{Vec}
-use Rattle.ways.specs.Entries.{entries_in}
-use Rattle.ways.specs.Tables.{noted}
-use Rattle.ways.specs.declared.table.Tally.{Tally}
+use Rattle.ways.specs.{Entries.entries_in, Tables.noted, declared.table.Tally.Tally}
 use Rattle.ways.proofs.Maps.{again, opened}
 use Rattle.ways.proofs.table.Table.note.Goals as goal
 
