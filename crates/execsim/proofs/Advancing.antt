@@ -4,7 +4,7 @@ use Rattle.exectrace.specs.{Sink.Tape, Sink.Puts, Sink.Writes, Trace.printed, de
 use Rattle.exectrace.proofs.Pieces.{puts_written}
 use Rattle.taskscript.specs.declared.event.Event.TheVariants.{Run}
 use Rattle.execmodel.specs.{State.Memory, State.Outcome, State.State, State.andthen, Step.event, Step.step, Step.steps}
-use Rattle.execsim.specs.{Actions.softint_seen, Advancing.Advances, Advancing.Ends, Advancing.GoesSilently, Advancing.IsSilent, Advancing.StepsSilently, Agreement.Seen, Agreement.Agrees, Agreement.Follows, Callers.HasTask, Callers.Runs, Changes.ChangesScripts, Headline.Shown, Resting.IsSettled, Time.HasTimeFor, Time.IsKnown}
+use Rattle.execsim.specs.{Actions.softint_seen, Advancing.Advances, Advancing.Ends, Advancing.GoesSilently, Advancing.IsSilent, Advancing.StepsSilently, Agreement.Seen, Agreement.Agrees, Agreement.Follows, Callers.HasTask, Changes.ChangesScripts, Headline.Shown, Resting.IsSettled, Resting.Rests, Time.HasTimeFor, Time.IsKnown}
 use Rattle.execsim.proofs.{Clock.steps_gain, Clock.time_left, Following.while_good, Reached.steps_reached, Settling.idle_step, Settling.no_step, Settling.settled_scripts, Settling.step_then, Settling.then_step}
 
 -- ---- what changes
@@ -19,13 +19,7 @@ changes_more first more = record {
   tasks = more.tasks ∙ ap (λ (x : Seen). length x.scripts.programs) first.is ∙ first.tasks;
 }
 
--- Task t runs in a settled machine, in which no software interrupt is caused.
-pub record Rests (t : ℕ) (seen : Seen) : Type 0 where
-  pub known : HasTask t seen
-  pub runs : Runs t seen
-  pub settled : IsSettled seen
-  pub uncaused : softint_seen seen ≡ None
-
+-- it rests, whatever it changes of what the tasks execute
 pub rests_after : {m n : Seen} {t : ℕ} → ChangesScripts m n → Rests t m → Rests t n
 rests_after {t = t} changed before = record {
   known = subst (HasTask t) (sym changed.is) (subst (λ (n : ℕ). t < n) (sym changed.tasks) before.known);

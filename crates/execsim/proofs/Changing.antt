@@ -8,7 +8,7 @@ use Rattle.taskscript.specs.{declared.command.Argument.Argument, declared.comman
 use Rattle.taskscript.specs.declared.word.plain.PlainWord.TheVariants as word
 use Rattle.scheduler.specs.Schedule.{name_of}
 use Rattle.execmodel.specs.{State.Call, State.Scripts, State.State, State.program_of, Calls.argument, Calls.call_of, Calls.done, Calls.evaluated, Calls.goes_on, Calls.next_call, Calls.number_in, Calls.silent, Calls.stored, Plain.does_set, Plain.does_add, Plain.does_sub, Plain.does_and, Plain.does_or, Plain.jumps, Plain.does_jump, Plain.does_jump_zero, Plain.does_jump_not_zero, Plain.does_print, Step.call_step, Step.does, Step.does_word, Step.task_step}
-use Rattle.execsim.specs.{Changes.DoesBy, Changes.PutsPrint, Changes.changes, Agreement.Seen, Agreement.Follows, Agreement.line_seen, declared.change.Change.Change}
+use Rattle.execsim.specs.{Changes.PutsPrint, Changes.changes, Agreement.Seen, Agreement.Follows, Agreement.line_seen, declared.change.Change.Change}
 use Rattle.execsim.proofs.{Calling.map-map_as, Calling.next-command, Caused.one_only, Endings.follows_done, Following.moves_scripts, Following.follows_as, Following.follows_quietly, Stepping.task_step_as}
 
 -- what is done next, if it is a command
@@ -147,16 +147,3 @@ unfolding does does_print
 printed_as {m} t next puts is = task_step_as t (Some puts.call) puts.is
     (follows_as {g = done t puts.call} (λ s e. ap (λ w. does_word w t puts.call s) puts.prints)
     (follows_done t puts.call (is ∙ ap (λ (k : ℕ). record m { scripts = goes_on t k m.scripts }) (sym puts.behind)) puts.line))
-
--- ---- either
-
--- what is done next is a plain word that prints nothing, or another word
-pub does_by_change : (m : Seen) (tape : Tape) (t : ℕ) (change : Option Change)
-    → IfSome change (λ change. (s : State) → call_step t (next_call t m.scripts) s ≡ changes t change s)
-    → IfSome change (λ change. DoesBy t change m tape tape)
-does_by_change m tape t None is = _
-does_by_change m tape t (Some change) is = record { follows = λ n e. changed_as t change is (follows_changes t change tape refl e) }
-
--- what is done next is a Print whose line is put
-pub does_by_print : {m : Seen} {a b : Tape} (t next : ℕ) → PutsPrint t next m a b → DoesBy t (record { target = None; value = 0; next = next }) m a b
-does_by_print t next puts = record { follows = λ n e. printed_as t next puts e }

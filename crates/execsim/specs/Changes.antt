@@ -2,8 +2,8 @@
 use Rattle.std.specs.Prelude.{◌≡◌, ℕ, Some, length}
 use Rattle.exectrace.specs.{Sink.Puts, Sink.Tape, Trace.Done, Trace.printed_line}
 use Rattle.taskscript.specs.{declared.word.Word.TheVariants.Plain, declared.word.plain.PlainWord.TheVariants.Print}
-use Rattle.execmodel.specs.{State.Call, State.Scripts, State.State, State.Outcome, State.quiet, State.on_scripts, Calls.goes_on, Calls.next_call, Calls.stored, Step.task_step}
-use Rattle.execsim.specs.{declared.change.Change.Change, Agreement.Follows, Agreement.Seen, Agreement.line_seen}
+use Rattle.execmodel.specs.{State.Call, State.Scripts, State.State, State.Outcome, State.quiet, State.on_scripts, Calls.goes_on, Calls.next_call, Calls.stored}
+use Rattle.execsim.specs.{declared.change.Change.Change, Agreement.Seen, Agreement.line_seen}
 
 -- a variable of task t, or none, is given a value, and the task goes on at the place of the change
 abbrev pub changes : ℕ → Change → State → Outcome
@@ -17,11 +17,6 @@ pub record PutsPrint (t next : ℕ) (seen : Seen) (before after : Tape) : Type 0
   pub prints : call.word ≡ Plain Print
   pub behind : call.next ≡ next
   pub line : Puts before after (printed_line (line_seen t call Done seen))
-
--- task t does its next call by this change, after the line of a Print
-pub record DoesBy (t : ℕ) (change : Change) (seen : Seen) (before after : Tape) : Type 0 where
-  pub follows : (new : Seen) → new ≡ record seen { scripts = goes_on t change.next (stored t change.target change.value seen.scripts) }
-      → Follows (task_step (Some t)) seen new before after
 
 -- what the tasks execute changes, of as many tasks, and nothing else
 pub record ChangesScripts (old new : Seen) : Type 0 where

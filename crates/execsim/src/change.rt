@@ -3,7 +3,7 @@ ghost use Rattle.std.specs.Prelude.{◌≡◌, ℕ, List, IfSome, IsTrue, None, 
 ghost use Rattle.exectrace.specs.{Sink.Puts, Sink.Tape, Trace.Done, Trace.printed_line};
 ghost use Rattle.taskscript.specs.{declared.word.Word.TheVariants.Plain, Commands.argument_view, Commands.command_view};
 ghost use Rattle.execmodel.specs.{State.State, Calls.argument, Calls.call_of, Calls.evaluated, Calls.goes_on, Calls.next_call, Calls.number_in, Calls.stored, Step.call_step, Step.does, Step.task_step};
-ghost use Rattle.execsim.specs.{Callers.HasTask, Changes.ChangesScripts, Changes.DoesBy, Changes.PutsPrint, Changes.changes, Agreement.Follows, Agreement.line_seen};
+ghost use Rattle.execsim.specs.{Callers.HasTask, Changes.ChangesScripts, Changes.PutsPrint, Changes.changes, Agreement.Follows, Agreement.line_seen};
 
 use crate::kernel::Kernel;
 use crate::plain::{all_bits, common_bits, difference, place_at_zero, sum};
@@ -173,6 +173,7 @@ impl<S: ListSpace> Kernel<S> {
     }
 
     /// Puts the line of a Print of task t.
+    #[inline(never)]
     fn say_print<W: Sink>(&self, t: TaskId, command: &Command, out: &mut W)
         requires known { HasTask t self.now }
         requires prints { command.now.word ≡ Plain PlainWord.Print }
@@ -185,24 +186,6 @@ impl<S: ListSpace> Kernel<S> {
         let name = self.name(t);
         let shown = &values[..count];
         put_short_call(name, "Print", shown, &command.name, CallOutcome::Done, out);
-    }
-
-    /// Puts the line of a Print of task t, if the sink is good. The answer is whether it is.
-    #[inline(always)]
-    fn put_print<W: Sink>(&self, t: TaskId, command: &Command, out: &mut W) -> bool
-        requires known { HasTask t self.now }
-        requires prints { command.now.word ≡ Plain PlainWord.Print }
-        ensures puts { IsTrue result → (next : ℕ) → Puts (W.tape out.old) (W.tape out.new)
-            (printed_line (line_seen t (call_of t next (command_view command.now) self.now.scripts) Done self.now)) }
-        ensures nothing { result ≡ false → W.tape out.new ≡ W.tape out.old }
-    {
-        match written(out) {
-            Err(_) => false,
-            Ok(()) => {
-                self.say_print(t, command, out);
-                true
-            }
-        }
     }
 
     /// Puts the line of a Print of task t, as `say_print` does. One argument is put in no list of values.
@@ -234,10 +217,9 @@ impl<S: ListSpace> Kernel<S> {
         }
     }
 
-    /// Puts the line of what task t does next, if that is a Print and the sink is good: built where this is called, since a log comes to one Print at a
-    /// time. The answer is the place at which the task is to go on then.
+    /// Puts the line of what task t does next, if that is a Print and the sink is good. The answer is the place at which the task is to go on then.
     #[inline(always)]
-    pub(crate) fn put_next_print<W: Sink>(&self, t: TaskId, out: &mut W) -> Option<usize>
+    fn put_next_print<W: Sink>(&self, t: TaskId, out: &mut W) -> Option<usize>
         requires { HasTask t self.now }
         ensures puts { IfSome result (λ next. PutsPrint t next self.now (W.tape out.old) (W.tape out.new)) }
         ensures nothing { result ≡ None → W.tape out.new ≡ W.tape out.old }
@@ -261,38 +243,6 @@ impl<S: ListSpace> Kernel<S> {
         }
     }
 
-    /// What task t changes by what it does next, if that is a plain word. The line of a Print is put before; if the sink is not good, the
-    /// answer is none.
-    #[inline(always)]
-    fn put_plain<W: Sink>(&self, t: TaskId, out: &mut W) -> Option<Change>
-        requires { HasTask t self.now }
-        ensures does { IfSome result (λ change. DoesBy t change self.now (W.tape out.old) (W.tape out.new)) }
-        ensures nothing { result ≡ None → W.tape out.new ≡ W.tape out.old }
-    {
-        let program = self.program(t);
-        match program.kept() {
-            Some(_) => None,
-            None => match program.command() {
-                None => None,
-                Some(command) => match command.word {
-                    Word::Plain(PlainWord::Print) => {
-                        if self.put_print(t, command, out) {
-                            Some(Change {
-                                target: None,
-                                value: 0,
-                                next: program.next(),
-                            })
-                        } else {
-                            None
-                        }
-                    }
-                    Word::Plain(word) => self.change_of(t, word, command, program.next()),
-                    _ => None,
-                },
-            },
-        }
-    }
-
     /// Task t does what it does next, if that is a plain word that prints nothing. The answer is whether it did.
     #[inline(always)]
     pub(crate) fn silent_word(&mut self, t: TaskId) -> bool
@@ -310,6 +260,24 @@ impl<S: ListSpace> Kernel<S> {
         }
     }
 
+    /// Task t does what it does next, if that is a Print and the sink is good. The answer is whether it did.
+    #[inline(always)]
+    pub(crate) fn print_word<W: Sink>(&mut self, t: TaskId, out: &mut W) -> bool
+        requires { HasTask t self.old }
+        ensures follows { IsTrue result → Follows (task_step (Some t)) self.old self.new (W.tape out.old) (W.tape out.new) }
+        ensures changes { IsTrue result → ChangesScripts self.old self.new }
+        ensures same { result ≡ false → self.new ≡ self.old }
+        ensures nothing { result ≡ false → W.tape out.new ≡ W.tape out.old }
+    {
+        match self.put_next_print(t, out) {
+            Some(next) => {
+                self.go_on(t, next);
+                true
+            }
+            None => false,
+        }
+    }
+
     /// Task t does what it does next, if that is a plain word, and if the sink is good in case it prints. The answer is whether it did.
     #[inline(always)]
     pub(crate) fn plain_word<W: Sink>(&mut self, t: TaskId, out: &mut W) -> bool
@@ -319,12 +287,9 @@ impl<S: ListSpace> Kernel<S> {
         ensures same { result ≡ false → self.new ≡ self.old }
         ensures nothing { result ≡ false → W.tape out.new ≡ W.tape out.old }
     {
-        match self.put_plain(t, out) {
-            Some(change) => {
-                self.change(t, change);
-                true
-            }
-            None => false,
+        if self.silent_word(t) {
+            return true;
         }
+        self.print_word(t, out)
     }
 }

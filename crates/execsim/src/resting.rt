@@ -1,8 +1,8 @@
 //! Steps of a machine in which nothing is due: its running task does plain words, or it is idle. Between them nothing is settled, since a
 //! plain word leaves a machine settled.
-ghost use Rattle.std.specs.Prelude.{◌≡◌, ◌≤◌, true, false, None, IsTrue};
+ghost use Rattle.std.specs.Prelude.{◌≡◌, ◌≤◌, true, false, IsTrue};
 ghost use Rattle.execmodel.specs.Step.{step, steps};
-ghost use Rattle.execsim.specs.{Actions.softint_seen, Advancing.GoesSilently, Advancing.StepsSilently, Agreement.Follows, Callers.HasTask, Callers.Runs, Reached.IsInOrder, Resting.IsSettled};
+ghost use Rattle.execsim.specs.{Advancing.GoesSilently, Advancing.StepsSilently, Agreement.Follows, Callers.HasTask, Reached.IsInOrder, Resting.IsSettled, Resting.Rests};
 
 use crate::kernel::Kernel;
 use execlist::space::ListSpace;
@@ -11,14 +11,10 @@ use taskq::TaskId;
 use taskscript::Word;
 
 impl<S: ListSpace> Kernel<S> {
-    /// Task t, which runs in a settled machine, does plain words that print nothing, as long as its next command is one, and at most that
-    /// many. The answer is how many.
+    /// Task t, which rests, does plain words that print nothing, as long as its next command is one, and at most that many. The answer is how many.
     #[inline(always)]
     fn silent_words(&mut self, t: TaskId, most: u32) -> u32
-        requires known { HasTask t self.old }
-        requires runs { Runs t self.old }
-        requires settled { IsSettled self.old }
-        requires uncaused { softint_seen self.old ≡ None }
+        requires { Rests t self.old }
         ensures within { result ≤ most }
         ensures goes { GoesSilently result self.old self.new }
     {
@@ -30,14 +26,11 @@ impl<S: ListSpace> Kernel<S> {
         most
     }
 
-    /// Task t, which runs in a settled machine, does plain words, as long as its next command is one, and at most that many; it prints to a
-    /// good sink only. The answer is how many.
+    /// Task t, which rests, does plain words, as long as its next command is one, and at most that many; it prints to a good sink only. The answer
+    /// is how many.
     #[inline(never)]
     fn plain_words<W: Sink>(&mut self, t: TaskId, most: u32, out: &mut W) -> u32
-        requires known { HasTask t self.old }
-        requires runs { Runs t self.old }
-        requires settled { IsSettled self.old }
-        requires uncaused { softint_seen self.old ≡ None }
+        requires { Rests t self.old }
         ensures within { result ≤ most }
         ensures follows { Follows (steps result) self.old self.new (W.tape out.old) (W.tape out.new) }
     {
@@ -100,8 +93,8 @@ impl<S: ListSpace> Kernel<S> {
         }
     }
 
-    /// A step of a settled machine, if its running task does a plain word in it, or if it is idle; a word prints to a good sink only. The answer
-    /// is whether the step was done.
+    /// A step of a settled machine, if its running task does a plain word in it, or if it is idle; a word prints to a good sink only. A Print is looked
+    /// for first, since a log comes to one Print at a time. The answer is whether the step was done.
     #[inline(always)]
     fn quiet_step<W: Sink>(&mut self, out: &mut W) -> bool
         requires { IsSettled self.old }
@@ -115,13 +108,13 @@ impl<S: ListSpace> Kernel<S> {
         }
         match self.running() {
             None => true,
-            Some(t) => match self.put_next_print(t, out) {
-                Some(next) => {
-                    self.go_on(t, next);
+            Some(t) => {
+                if self.print_word(t, out) {
                     true
+                } else {
+                    self.silent_word(t)
                 }
-                None => self.plain_word(t, out),
-            },
+            }
         }
     }
 

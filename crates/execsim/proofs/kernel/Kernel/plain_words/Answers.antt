@@ -1,31 +1,24 @@
 -- The proof of `Kernel::plain_words`: a task does plain words in a settled machine.
-use Rattle.std.proofs.Common.{◌≡◌, ◌<◌, ℕ, ap, ◌∙◌, subst, sym, arith}
+use Rattle.std.proofs.Common.{◌≡◌, ℕ, subst, arith}
 use Rattle.execmodel.specs.Step.{steps}
-use Rattle.execsim.specs.{Actions.softint_seen, Agreement.Seen, Agreement.Follows, Callers.HasTask}
-use Rattle.execsim.proofs.Settling.{no_step, settled_scripts, then_step, word_step}
+use Rattle.execsim.specs.Agreement.{Follows}
+use Rattle.execsim.proofs.{Advancing.rests_after, Settling.no_step, Settling.then_step, Settling.word_step}
 use Rattle.execsim.proofs.kernel.Kernel.plain_words.Goals as goal
 
 pub loop-done-init : goal.loop-done-init
-loop-done-init g c = record {
-  known = c.requires.known;
-  runs = c.requires.runs;
-  settled = c.requires.settled;
-  uncaused = c.requires.uncaused;
-  follows = no_step c.args.self.now (g.W.Sink.tape c.args.out.now);
-}
+loop-done-init g c = record { rests = c.requires; follows = no_step c.args.self.now (g.W.Sink.tape c.args.out.now) }
+
+pub plain_word-requires : goal.plain_word-requires
+plain_word-requires g c = c.loop-done.invariant.rests.known
 
 pub loop-done-preserved : goal.loop-done-preserved
 loop-done-preserved g c =
-    let before = c.loop-done.invariant in
-    let changed = c.plain_word.ensures.changes c.if-not-plain_word.false in
-    let after = settled_scripts before.settled _ changed.is in
+    let before = c.loop-done.invariant.rests in
+    let after = rests_after (c.plain_word.ensures.changes c.if-not-plain_word.false) before in
     record {
-      known = subst (HasTask c.args.t) (sym changed.is) (subst (λ (n : ℕ). c.args.t < n) (sym changed.tasks) before.known);
-      runs = ap (λ (x : Seen). x.schedule.running) changed.is ∙ before.runs;
-      settled = after;
-      uncaused = ap (λ (x : Seen). softint_seen x) changed.is ∙ before.uncaused;
-      follows = then_step c.loop-done.done before.follows
-          (word_step c.args.t before.settled before.uncaused before.runs (c.plain_word.ensures.follows c.if-not-plain_word.false) after);
+      rests = after;
+      follows = then_step c.loop-done.done c.loop-done.invariant.follows
+          (word_step c.args.t before.settled before.uncaused before.runs (c.plain_word.ensures.follows c.if-not-plain_word.false) after.settled);
     }
 
 pub returns-clause-follows : goal.returns-clause-follows

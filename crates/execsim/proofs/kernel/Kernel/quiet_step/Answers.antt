@@ -2,9 +2,9 @@
 use Rattle.std.proofs.Common.{Some, ap, subst, sym, ◌∙◌, is_some}
 use Rattle.execlist.specs.Order.{first}
 use Rattle.exectrace.specs.Sink.{Tape}
-use Rattle.execmodel.specs.Step.{task_step}
+use Rattle.execmodel.specs.Step.{step, task_step}
 use Rattle.execsim.specs.Agreement.{Follows, Seen}
-use Rattle.execsim.proofs.{Changing.printed_as, Settling.idle_step, Settling.none_caused, Settling.settled_scripts, Settling.word_step}
+use Rattle.execsim.proofs.Settling.{idle_step, none_caused, settled_scripts, word_step}
 use Rattle.execsim.proofs.kernel.Kernel.quiet_step.Goals as goal
 
 pub returns-in-None-clause-follows : goal.returns-in-None-clause-follows
@@ -12,19 +12,20 @@ returns-in-None-clause-follows g c = λ done. idle_step c.requires (g.W.Sink.tap
     (none_caused c.args.self.now (ap (λ (m : Seen). is_some (first m.pending.caused)) (sym c.self.view_is) ∙ sym c.any_caused.ensures ∙ c.if-any_caused.false))
     (sym c.running.ensures.value ∙ c.in-None.is)
 
-pub returns-in-Some-put_next_print-clause-follows : goal.returns-in-Some-put_next_print-clause-follows
-returns-in-Some-put_next_print-clause-follows g c = λ done.
+pub returns-then-print_word-clause-follows : goal.returns-then-print_word-clause-follows
+returns-then-print_word-clause-follows g c = λ done.
     word_step c.in-Some.t c.requires
     (none_caused c.args.self.now (ap (λ (m : Seen). is_some (first m.pending.caused)) (sym c.self.view_is) ∙ sym c.any_caused.ensures ∙ c.if-any_caused.false))
-    (sym c.running.ensures.value ∙ c.in-Some.is)
-    (printed_as c.in-Some.t c.in-Some-put_next_print.next (rw c.in-Some-put_next_print.is at c.put_next_print.ensures.puts) c.go_on.ensures)
-    (settled_scripts c.requires _ c.go_on.ensures)
+    (sym c.running.ensures.value ∙ c.in-Some.is) (c.print_word.ensures.follows c.if-print_word.true)
+    (settled_scripts c.requires _ (c.print_word.ensures.changes c.if-print_word.true).is)
 
-pub returns-in-None-put_next_print-clause-follows : goal.returns-in-None-put_next_print-clause-follows
-returns-in-None-put_next_print-clause-follows g c = λ done.
-    word_step c.in-Some.t c.requires
+pub returns-else-print_word-clause-follows : goal.returns-else-print_word-clause-follows
+returns-else-print_word-clause-follows g c = λ done.
+    let tape : Tape = g.W.Sink.tape c.args.out.now in
+    let same = c.print_word.ensures.same c.if-print_word.false in
+    let does = subst (λ (m : Seen). Follows (task_step (Some c.in-Some.t)) m c.silent_word.new.self tape tape) same (c.silent_word.ensures.follows done tape) in
+    subst (λ (after : Tape). Follows step c.args.self.now c.silent_word.new.self tape after) (sym (c.print_word.ensures.nothing c.if-print_word.false))
+    (word_step c.in-Some.t c.requires
     (none_caused c.args.self.now (ap (λ (m : Seen). is_some (first m.pending.caused)) (sym c.self.view_is) ∙ sym c.any_caused.ensures ∙ c.if-any_caused.false))
-    (sym c.running.ensures.value ∙ c.in-Some.is)
-    (subst (λ (tape : Tape). Follows (task_step (Some c.in-Some.t)) c.args.self.now c.plain_word.new.self tape (g.W.Sink.tape c.plain_word.new.out))
-    (c.put_next_print.ensures.nothing c.in-None-put_next_print.is) (c.plain_word.ensures.follows done))
-    (settled_scripts c.requires _ (c.plain_word.ensures.changes done).is)
+    (sym c.running.ensures.value ∙ c.in-Some.is) does
+    (settled_scripts c.requires _ ((c.silent_word.ensures.changes done).is ∙ ap (λ (m : Seen). record m { scripts = (c.silent_word.ensures.changes done).scripts }) same)))

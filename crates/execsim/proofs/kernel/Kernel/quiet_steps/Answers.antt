@@ -13,9 +13,13 @@ returns-in-None-clause-follows g c = idle_steps c.args.most (g.W.Sink.tape c.arg
     (none_caused c.args.self.now (ap (λ (m : Seen). is_some (first m.pending.caused)) (sym c.self.view_is) ∙ sym c.any_caused.ensures ∙ c.if-any_caused.false))
     (sym c.running.ensures.value ∙ c.in-None.is)
 
-pub plain_words-requires-clause-uncaused : goal.plain_words-requires-clause-uncaused
-plain_words-requires-clause-uncaused g c =
-    none_caused c.args.self.now (ap (λ (m : Seen). is_some (first m.pending.caused)) (sym c.self.view_is) ∙ sym c.any_caused.ensures ∙ c.if-any_caused.false)
+pub plain_words-requires : goal.plain_words-requires
+plain_words-requires g c = record {
+  known = rw c.in-Some.is at c.running.ensures.known;
+  runs = sym c.running.ensures.value ∙ c.in-Some.is;
+  settled = c.requires;
+  uncaused = none_caused c.args.self.now (ap (λ (m : Seen). is_some (first m.pending.caused)) (sym c.self.view_is) ∙ sym c.any_caused.ensures ∙ c.if-any_caused.false);
+}
 
 pub returns-else-is_plain_next-clause-follows : goal.returns-else-is_plain_next-clause-follows
 returns-else-is_plain_next-clause-follows g c = no_step c.args.self.now (g.W.Sink.tape c.args.out.now)

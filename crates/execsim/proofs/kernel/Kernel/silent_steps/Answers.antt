@@ -13,6 +13,10 @@ returns-in-None-clause-goes g c = goes_idly c.args.most c.requires
     (none_caused c.args.self.now (ap (λ (m : Seen). is_some (first m.pending.caused)) (sym c.self.view_is) ∙ sym c.any_caused.ensures ∙ c.if-any_caused.false))
     (sym c.running.ensures.value ∙ c.in-None.is)
 
-pub silent_words-requires-clause-uncaused : goal.silent_words-requires-clause-uncaused
-silent_words-requires-clause-uncaused g c =
-    none_caused c.args.self.now (ap (λ (m : Seen). is_some (first m.pending.caused)) (sym c.self.view_is) ∙ sym c.any_caused.ensures ∙ c.if-any_caused.false)
+pub silent_words-requires : goal.silent_words-requires
+silent_words-requires g c = record {
+  known = rw c.in-Some.is at c.running.ensures.known;
+  runs = sym c.running.ensures.value ∙ c.in-Some.is;
+  settled = c.requires;
+  uncaused = none_caused c.args.self.now (ap (λ (m : Seen). is_some (first m.pending.caused)) (sym c.self.view_is) ∙ sym c.any_caused.ensures ∙ c.if-any_caused.false);
+}

@@ -6,7 +6,7 @@ use Rattle.execsim.proofs.kernel.Kernel.silent_words.Goals as goal
 
 pub loop-done-init : goal.loop-done-init
 loop-done-init g c = record {
-  rests = record { known = c.requires.known; runs = c.requires.runs; settled = c.requires.settled; uncaused = c.requires.uncaused };
+  rests = c.requires;
   goes = goes_nowhere c.args.self.now;
 }
 

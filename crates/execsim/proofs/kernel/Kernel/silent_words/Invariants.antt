@@ -1,6 +1,5 @@
 -- What holds in the loops of `Kernel::silent_words`.
-use Rattle.execsim.specs.Advancing.{GoesSilently}
-use Rattle.execsim.proofs.Advancing.{Rests}
+use Rattle.execsim.specs.{Advancing.GoesSilently, Resting.Rests}
 use Rattle.execsim.proofs.kernel.Kernel.silent_words.Given as goal
 
 -- the plain words so far were steps that printed nothing, and another one would be
