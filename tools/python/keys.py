@@ -1,4 +1,4 @@
-"""The keys of a machine file, from machine-keys.toml: REFERENCE's table of keys, and the JSON Schema."""
+"""The keys of a machine file, from machine-keys.toml: MACHINE-FILE's table of keys, and the JSON Schema."""
 import tomllib
 
 import tables
@@ -23,7 +23,7 @@ def in_words(items):
 
 
 def value_text(key):
-    """How REFERENCE says what the value of a key is."""
+    """How MACHINE-FILE says what the value of a key is."""
     says = key["says"]
     match key["is"]:
         case "integer":
@@ -48,7 +48,7 @@ def default_text(key):
 
 
 def page_table(all_tables):
-    """REFERENCE's table of keys."""
+    """MACHINE-FILE's table of keys."""
     rows = [f"| {table['name']} | `{key['name']}` | {value_text(key)} | {default_text(key)} |" for table in all_tables for key in table["key"]]
     return "\n".join(["| Table | Key | Value | Default |", "|---|---|---|---|", *rows])
 

@@ -31,25 +31,59 @@ def answer_of(word):
     return word["answer"]["text"] if word["answer"] else ""
 
 
+# The most words of a cell of the table of calls: what is beyond comes below the table.
+MOST_WORDS = 30
+
+
+def divided(text):
+    """A text in two: as many of its parts as a cell has room for, and the rest."""
+    parts = re.split(r"(?<=[;.:]) ", text)
+    kept = []
+    for part in parts:
+        if len(" ".join([*kept, part]).split()) > MOST_WORDS - 1:
+            break
+        kept.append(part)
+    if len(kept) == len(parts):
+        return text, ""
+    if not kept:
+        raise BadPage(f"a cell has a part of more than {MOST_WORDS} words: {text}")
+    return " ".join(kept).rstrip(";.:") + " ..", " ".join(parts[len(kept) :])
+
+
+def more_on_calls(words):
+    """What the cells of WORDS's table of calls have no room for."""
+    items = []
+    for word in words:
+        for title, text in (("Its alerts", alerts_of(word)), ("Its effect", word["effect"])):
+            rest = divided(text)[1]
+            if word["prints"] and rest:
+                items.append(f"- `{word['name']}`. {title}: .. {rest}")
+    return "\n".join(items)
+
+
+def alerts_of(word):
+    return "; ".join(map(alert_text, word["alerts"]))
+
+
 def alert_text(alert):
     return alert["code"] + (f": {alert['when']}" if alert["when"] else "")
 
 
 def plain_words(words):
-    """REFERENCE's table of the words that print nothing."""
+    """WORDS's table of the words that print nothing."""
     silent = (word for word in words if not word["prints"])
     rows = [(f"`{word['name']}`", arguments_of(word), answer_of(word), word["effect"]) for word in silent]
-    return as_table(("Word", "Arguments", "Answers", "Effect"), rows)
+    return as_table(("Word", "Arguments", "Returns", "Effect"), rows)
 
 
 def calls(words):
-    """REFERENCE's table of the words that print a line."""
+    """WORDS's table of the words that print a line."""
     rows = []
     for word in words:
         if word["prints"]:
-            alerts = "; ".join(map(alert_text, word["alerts"]))
-            rows.append((f"`{word['name']}`", arguments_of(word), answer_of(word), alerts, word["effect"]))
-    return as_table(("Word", "Arguments", "Answers", "Alerts, in their order", "Effect"), rows)
+            shown = [divided(it)[0] for it in (alerts_of(word), word["effect"])]
+            rows.append((f"`{word['name']}`", arguments_of(word), answer_of(word), *shown))
+    return as_table(("Word", "Arguments", "Returns", "Alerts, in their order", "Effect"), rows)
 
 
 def as_table(head, rows):
@@ -75,8 +109,7 @@ def from_c(words):
     """FROM-C's table: what a C program writes, and the line for it."""
     rows = []
     for word in words:
-        c = word["c"] if word["c"].startswith("the memory") else f"`{word['c'].replace('|', chr(92) + '|')}`"
-        rows.append((c, f"`{word['here']}`"))
+        rows.append((f"`{word['c'].replace('|', chr(92) + '|')}`", f"`{word['here']}`"))
     return as_table(("In C", "Here"), rows)
 
 
