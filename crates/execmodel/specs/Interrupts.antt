@@ -5,8 +5,8 @@ use Rattle.exectrace.specs.Trace.{Serve, Server, Softint}
 use Rattle.execlist.specs.{Order.chosen, Order.without, Disciplines.pri_at}
 use Rattle.softint.specs.{Sources.is_source, declared.source.Source.Source}
 use Rattle.softint.specs.declared.source.Source.TheVariants as source
-use Rattle.taskscript.specs.{File.SoftintData, File.ServerData, Sources.source_text}
-use Rattle.taskscript.specs.declared.source.Source.TheVariants as named
+use Rattle.script.specs.{File.SoftintData, File.ServerData, Sources.source_text}
+use Rattle.script.specs.declared.source.Source.TheVariants as named
 use Rattle.scheduler.specs.Schedule.{Schedule, ticked}
 use Rattle.execmodel.specs.{State.Bodies, State.State, State.Outcome, State.quiet, State.says, State.andthen, State.unless_stopped, State.on_schedule, State.on_pending, Pending.source_named, Pending.caused_no_more, Pending.with_latch_of, Pending.next_source, Bodies.runs_body, Requests.finishes_all_due}
 

@@ -2,7 +2,8 @@
 use Rattle.std.proofs.Common.{◌≡◌, ℕ, ◌+◌, Bool, true, false, refl, ap, sym, ◌∙◌, arith, List, Result, Ok, Err, IsOk}
 use Rattle.exectrace.specs.{Sink.Tape, declared.sinks.SinkState.TheVariants.Good, declared.sinks.WriteFault.WriteFault}
 use Rattle.exectrace.proofs.Pieces.{puts_written}
-use Rattle.taskscript.specs.{File.MachineData, declared.event.Event.Event, declared.fault.FileFault.FileFault, declared.fault.EventFault.EventFault}
+use Rattle.script.specs.{File.MachineData, declared.event.Event.Event}
+use Rattle.taskscript.specs.{declared.fault.FileFault.FileFault, declared.fault.EventFault.EventFault}
 use Rattle.execmodel.specs.{State.State, State.Outcome, State.andthen, State.booted, Step.starts, Step.events, Step.run}
 use Rattle.execsim.specs.Headline.{Shown, Acts, Finishes, Simulates, flow_of, end_of, end_for, ended}
 use Rattle.execsim.specs.{Agreement.Seen, Agreement.Agrees, Agreement.FollowsWhileGood, declared.machine.Flow.Flow, Reached.IsReached, Time.HasTimeFor, Time.IsKnown}

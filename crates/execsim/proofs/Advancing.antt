@@ -2,7 +2,7 @@
 use Rattle.std.proofs.Common.{◌≡◌, ◌<◌, ◌+◌, ℕ, zero, suc, List, [], None, Some, refl, ap, sym, ◌∙◌, subst, arith, add-one, inl, inr, ◌≤◌, length, Bool, false, true, Result, Ok, Err, IfOk}
 use Rattle.exectrace.specs.{Sink.Tape, Sink.Puts, Sink.Writes, Trace.printed, declared.sinks.SinkState.TheVariants.Good, declared.sinks.WriteFault.WriteFault}
 use Rattle.exectrace.proofs.Pieces.{puts_written}
-use Rattle.taskscript.specs.declared.event.Event.TheVariants.{Run}
+use Rattle.script.specs.declared.event.Event.TheVariants.{Run}
 use Rattle.execmodel.specs.{State.Memory, State.Outcome, State.State, State.andthen, Step.event, Step.step, Step.steps}
 use Rattle.execsim.specs.{Actions.softint_seen, Advancing.Advances, Advancing.Ends, Advancing.GoesSilently, Advancing.IsSilent, Advancing.StepsSilently, Agreement.Seen, Agreement.Agrees, Agreement.Follows, Callers.HasTask, Changes.ChangesScripts, Headline.Shown, Resting.IsSettled, Resting.Rests, Time.HasTimeFor, Time.IsKnown}
 use Rattle.execsim.proofs.{Clock.steps_gain, Clock.time_left, Following.while_good, Reached.steps_reached, Settling.idle_step, Settling.no_step, Settling.settled_scripts, Settling.step_then, Settling.then_step}

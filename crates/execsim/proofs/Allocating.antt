@@ -2,7 +2,7 @@
 use Rattle.std.proofs.Common.{◌≡◌, ℕ, true, false, Option, None, Some, refl, sym, ◌∙◌, codes, unwrap_or}
 use Rattle.exectrace.specs.Sink.{Tape}
 use Rattle.memlist.specs.Fit.{avail}
-use Rattle.taskscript.specs.declared.word.memory.MemoryWord.TheVariants as words
+use Rattle.script.specs.declared.word.memory.MemoryWord.TheVariants as words
 use Rattle.execmodel.specs.Memory.{has_only, alloc_bits, can_be_asked, allocates, block_at, extents, is_named, place_for, placed, freed, alloc_alert, does_memory, memory_deed}
 use Rattle.execmodel.specs.{State.Call, State.Memory, State.Object, State.Plain, State.State, State.Outcome, State.on_memory, Calls.argument, Calls.done, Calls.answered, Calls.alerted, Deeds.performs, GivingWay.after_asking}
 use Rattle.execmodel.proofs.{Deeds.allotting, GivingWay.asking_keeps}

@@ -4,12 +4,12 @@ use Rattle.std.proofs.lemmas.Option.{slice_get-map}
 use Rattle.exectrace.specs.{Sink.Tape, Sink.Puts, Trace.printed_line, Trace.Quoted, Trace.Server, Trace.Softint, Trace.Value, Short.short_argument, declared.lines.ShortArg.ShortArg}
 use Rattle.exectrace.specs.Trace as trace
 use Rattle.exectrace.specs.declared.lines.ShortArg.TheVariants as short
-use Rattle.taskscript.specs.declared.word.Word.TheVariants.{Plain, Signals, Interrupts}
-use Rattle.taskscript.specs.{declared.command.Command.Command, declared.variable.Variable.Variable, declared.command.Argument.Argument, declared.word.plain.PlainWord.PlainWord, Words.word_text, Commands.CommandData, Commands.argument_view, Commands.command_view}
-use Rattle.taskscript.specs.declared.word.task_signals.SignalWord.TheVariants as signals
-use Rattle.taskscript.specs.declared.word.interrupts.InterruptWord.TheVariants as interrupts
-use Rattle.taskscript.specs.declared.command.Argument.TheVariants as arguments
-use Rattle.taskscript.specs.declared.word.plain.PlainWord.TheVariants as plain
+use Rattle.script.specs.declared.word.Word.TheVariants.{Plain, Signals, Interrupts}
+use Rattle.script.specs.{declared.command.Command.Command, declared.variable.Variable.Variable, declared.command.Argument.Argument, declared.word.plain.PlainWord.PlainWord, Words.word_text, Commands.CommandData, Commands.argument_view, Commands.command_view}
+use Rattle.script.specs.declared.word.task_signals.SignalWord.TheVariants as signals
+use Rattle.script.specs.declared.word.interrupts.InterruptWord.TheVariants as interrupts
+use Rattle.script.specs.declared.command.Argument.TheVariants as arguments
+use Rattle.script.specs.declared.word.plain.PlainWord.TheVariants as plain
 use Rattle.execmodel.specs.{State.Timer as Clock, State.Bodies, State.Call, State.Scripts, State.State, State.quiet, State.says, State.andthen, State.unless_stopped, State.on_scripts, Bodies.body_step, Bodies.does_in_body, Bodies.does_plain_by, Bodies.does_word_by, Bodies.runs_body, Calls.Caller, Calls.ByBody, Calls.argument, Calls.call_in_body, Calls.done_by, Calls.evaluated_in_body, Calls.name_in, Calls.number_in, Calls.silent_by, Calls.stored_shared, Causing.does_cause_by, Pending.softint_named, Signals.is_mask, Signals.is_task, Signals.does_signal_by, Interrupts.runs_server, Interrupts.server_at, Interrupts.softint_at}
 use Rattle.execsim.specs.{declared.bodies.Body.Body, Actions.caused, Actions.does_at_place, Actions.softint_body, Agreement.Seen, Agreement.Agrees, Agreement.Follows, Views.code_of_body}
 use Rattle.execsim.proofs.Following.{andthen-assoc, andthen-quiet, andthen-second, follows_as, follows_known, follows_nothing, follows_quietly, follows_says, follows_then, guarded_going, moves_scripts, reads_scripts}

@@ -3,8 +3,8 @@ use Rattle.std.proofs.Common.{◌≡◌, ℕ, List, [], ◌∷◌, Some, ap, map
 use Rattle.exectrace.specs.{Short.short_argument, Sink.Puts, Sink.Tape, Trace.Done, Trace.Quoted, Trace.printed_line, declared.lines.ShortArg.ShortArg}
 use Rattle.exectrace.specs.Trace as trace
 use Rattle.exectrace.specs.declared.lines.ShortArg.TheVariants as short
-use Rattle.taskscript.specs.{Words.word_text, declared.word.Word.TheVariants.Interrupts}
-use Rattle.taskscript.specs.declared.word.interrupts.InterruptWord.TheVariants as interrupts
+use Rattle.script.specs.{Words.word_text, declared.word.Word.TheVariants.Interrupts}
+use Rattle.script.specs.declared.word.interrupts.InterruptWord.TheVariants as interrupts
 use Rattle.scheduler.specs.Schedule.{name_of}
 use Rattle.execmodel.specs.{State.Call, Calls.Caller, Calls.ByTask, Calls.done_by, Calls.goes_on, Calls.name_argument, Calls.name_in, Pending.causes, Pending.softint_named, Causing.does_cause_by}
 use Rattle.execsim.specs.{Actions.caused, Agreement.Seen, Agreement.Follows, Agreement.line_seen, declared.call.Call.Call as Made, Views.call_view}

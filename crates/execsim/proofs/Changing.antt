@@ -3,9 +3,9 @@ use Rattle.std.proofs.Common.{◌≡◌, ℕ, ◌+◌, ◌-◌, ◌%◌, ◌^◌
 use Rattle.std.proofs.lemmas.Option.{slice_get-map}
 use Rattle.exectrace.specs.{Sink.Puts, Sink.Tape, Short.short_argument, Trace.Done, Trace.printed_line, declared.lines.ShortArg.ShortArg}
 use Rattle.exectrace.specs.Trace as trace
-use Rattle.taskscript.specs.declared.variable.Variable.TheVariants.{Private, Shared}
-use Rattle.taskscript.specs.{declared.command.Argument.Argument, declared.command.Command.Command, Commands.ArgumentData, Commands.CommandData, Commands.argument_view, Commands.command_view, Words.word_text, declared.variable.Variable.Variable, declared.word.Word.TheVariants.Plain}
-use Rattle.taskscript.specs.declared.word.plain.PlainWord.TheVariants as word
+use Rattle.script.specs.declared.variable.Variable.TheVariants.{Private, Shared}
+use Rattle.script.specs.{declared.command.Argument.Argument, declared.command.Command.Command, Commands.ArgumentData, Commands.CommandData, Commands.argument_view, Commands.command_view, Words.word_text, declared.variable.Variable.Variable, declared.word.Word.TheVariants.Plain}
+use Rattle.script.specs.declared.word.plain.PlainWord.TheVariants as word
 use Rattle.scheduler.specs.Schedule.{name_of}
 use Rattle.execmodel.specs.{State.Call, State.Scripts, State.State, State.program_of, Calls.argument, Calls.call_of, Calls.done, Calls.evaluated, Calls.goes_on, Calls.next_call, Calls.number_in, Calls.silent, Calls.stored, Plain.does_set, Plain.does_add, Plain.does_sub, Plain.does_and, Plain.does_or, Plain.jumps, Plain.does_jump, Plain.does_jump_zero, Plain.does_jump_not_zero, Plain.does_print, Step.call_step, Step.does, Step.does_word, Step.task_step}
 use Rattle.execsim.specs.{Changes.PutsPrint, Changes.changes, Agreement.Seen, Agreement.Follows, Agreement.line_seen, declared.change.Change.Change}

@@ -3,9 +3,9 @@ use Rattle.std.proofs.Common.{◌≡◌, ℕ, zero, suc, ◌+◌, ◌*◌, ◌^�
 use Rattle.std.proofs.lemmas.{List.Sums.sum_by-cons, List.Sums.sum_by_more_le, Nat.mul-le}
 use Rattle.execlist.specs.Disciplines.{by_arrival}
 use Rattle.exectrace.specs.{Sink.Tape, declared.sinks.SinkState.TheVariants.Good}
-use Rattle.taskscript.specs.declared.event.Event.TheVariants.{Run, Tick, Irq}
-use Rattle.taskscript.specs.{Events.ticks as ticks_of, declared.event.Event.Event, declared.word.Word.Word}
-use Rattle.taskscript.specs.declared.word.Word.TheVariants as word
+use Rattle.script.specs.declared.event.Event.TheVariants.{Run, Tick, Irq}
+use Rattle.script.specs.{Events.ticks as ticks_of, declared.event.Event.Event, declared.word.Word.Word}
+use Rattle.script.specs.declared.word.Word.TheVariants as word
 use Rattle.softint.specs.{declared.source.Source.Source, declared.source.Source.TheVariants.Vertb}
 use Rattle.scheduler.specs.{declared.Switch.Switch as Choice, Dispatch.switch_of, Dispatch.rescheduled}
 use Rattle.scheduler.specs.declared.Switch.TheVariants as switch

@@ -2,7 +2,7 @@
 use Rattle.std.proofs.Common.{◌≡◌, ℕ, List, true, refl, ap, ◌∙◌}
 use Rattle.exectrace.specs.{Sink.Tape, Sink.Puts, Trace.printed_line, Trace.Done, Trace.Answers, Trace.Waits, Trace.Alert}
 use Rattle.exectrace.specs.Trace as trace
-use Rattle.taskscript.specs.Words.{word_text}
+use Rattle.script.specs.Words.{word_text}
 use Rattle.scheduler.specs.Schedule.{name_of}
 use Rattle.execmodel.specs.{State.Call, State.State, Calls.stored, Calls.goes_on, Calls.keeps, Calls.line_of, Calls.done, Calls.answered, Calls.waiting, Calls.silent, Calls.alerted}
 use Rattle.execsim.specs.Agreement.{Seen, Agrees, Follows, line_seen}

@@ -3,7 +3,7 @@ use Rattle.std.proofs.Common.{◌≡◌, ℕ, [], Bool, false, true, Option, Non
 use Rattle.std.specs.Int.{cast_signed}
 use Rattle.exectrace.specs.Sink.{Tape}
 use Rattle.execmodel.specs.{State.Call, State.Heap, State.ListHead, State.Memory, State.Node, State.Object, State.State, State.Outcome, State.on_memory, Calls.Caller, Calls.ByTask, Calls.unless, Calls.unless_by, Calls.argument, Calls.name_argument, Calls.done, Calls.answered, Calls.alerted, Calls.alerted_by, Memory.allocates, Memory.makes_object, Memory.placed, GivingWay.after_asking_for_object, Objects.place_for_object, Deeds.makes, Lists.does_lists, Lists.is_list, Lists.is_node, Lists.list_deed, Lists.list_size, Lists.new_node_alert, Lists.node_size, Tasks.is_priority}
-use Rattle.taskscript.specs.declared.word.lists.ListWord.TheVariants as lists
+use Rattle.script.specs.declared.word.lists.ListWord.TheVariants as lists
 use Rattle.execmodel.proofs.Deeds.{making}
 use Rattle.execheap.specs.{declared.refusal.Refusal.Refusal, Refusals.alert_of, Refusals.code_of}
 use Rattle.execsim.specs.{Agreement.Seen, Agreement.Follows, Agreement.queues_in_order, Endings.done_or_alerted, Endings.answered_or_alerted}

@@ -1,8 +1,8 @@
 -- What holds of each state that a machine comes to, and so of what the machine shows.
 use Rattle.std.proofs.Common.{◌≡◌, ℕ, ◌<◌, ◌≤◌, List, [], ◌∷◌, length, Option, None, Some, Bool, true, false, ap, sym, ◌∙◌, subst, arith, Result, Ok, Err, IfOk, IfSome, if◌then◌else◌}
 use Rattle.exectrace.specs.{Sink.Tape, declared.sinks.SinkState.TheVariants.Good}
-use Rattle.taskscript.specs.declared.event.Event.TheVariants.{Run, Tick}
-use Rattle.taskscript.specs.declared.event.Event.{Event}
+use Rattle.script.specs.declared.event.Event.TheVariants.{Run, Tick}
+use Rattle.script.specs.declared.event.Event.{Event}
 use Rattle.execlist.specs.{Lists.is_at, Lists.times, Order.first, Disciplines.pri_at}
 use Rattle.taskq.specs.{declared.TaskState.TheVariants.Running, declared.TaskState.TheVariants.Waiting, declared.Why.TheVariants.Sem}
 use Rattle.scheduler.specs.Schedule.{Schedule, is_at_semaphore, status_of}

@@ -4,7 +4,7 @@ use Rattle.std.specs.List.{list_any}
 use Rattle.exectrace.specs.{Sink.Tape, Sink.Puts, Trace.printed_line, Trace.Serve}
 use Rattle.execlist.specs.{Lists.times, Order.chosen, Order.enqueue, Order.first, Order.without, Disciplines.pri_at, Disciplines.by_priority}
 use Rattle.execlist.proofs.OrderLaws.{first_of_order}
-use Rattle.taskscript.specs.File.{ServerData}
+use Rattle.script.specs.File.{ServerData}
 use Rattle.scheduler.specs.Schedule.{Schedule}
 use Rattle.softint.specs.{declared.source.Source.Source, Sources.highest, Interrupts.Interrupts}
 use Rattle.softint.specs.Interrupts as ints

@@ -4,7 +4,7 @@ use Rattle.std.proofs.lemmas.List.{take_more}
 use Rattle.execlist.specs.Disciplines.{by_arrival, by_priority}
 use Rattle.exectrace.specs.{Sink.Tape, Sink.Puts, Trace.printed_line, Trace.Value, Trace.Done}
 use Rattle.exectrace.specs.Trace as trace
-use Rattle.taskscript.specs.{declared.event.Event.Event, declared.word.Word.Word, declared.word.Word.TheVariants.Requests, declared.word.requests.RequestWord.RequestWord}
+use Rattle.script.specs.{declared.event.Event.Event, declared.word.Word.Word, declared.word.Word.TheVariants.Requests, declared.word.requests.RequestWord.RequestWord}
 use Rattle.scheduler.specs.{Schedule.name_of, Schedule.leaves, declared.Switch.Switch as Choice, Dispatch.switch_of, Dispatch.rescheduled, Dispatch.added}
 use Rattle.scheduler.specs.declared.Switch.TheVariants as switch
 use Rattle.softint.specs.{declared.source.Source.Source, declared.source.Source.TheVariants.Vertb}

@@ -1,7 +1,7 @@
 -- Steps of which only the first may print.
 use Rattle.std.specs.Prelude.{◌≡◌, ◌+◌, ◌≤◌, ◌↔◌, ⊤, Bool, false, true, ℕ, zero, suc, [], Result, IfOk, IsOk, MatchResult}
 use Rattle.exectrace.specs.{Sink.Tape, Sink.Writes, Trace.printed, declared.sinks.SinkState.TheVariants.Good, declared.sinks.WriteFault.WriteFault}
-use Rattle.taskscript.specs.declared.event.Event.TheVariants.{Run}
+use Rattle.script.specs.declared.event.Event.TheVariants.{Run}
 use Rattle.execmodel.specs.{State.State, Step.event, Step.step, Step.steps}
 use Rattle.execsim.specs.{Agreement.Seen, Agreement.Agrees, Agreement.Follows, Changes.ChangesScripts, Headline.Shown}
 

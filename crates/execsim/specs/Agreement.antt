@@ -4,7 +4,7 @@
 use Rattle.std.specs.Prelude.{◌≡◌, ◌≢◌, ℕ, Bool, List}
 use Rattle.exectrace.specs.{Sink.Tape, Sink.Puts, declared.sinks.SinkState.TheVariants.Good, Trace.printed}
 use Rattle.exectrace.specs.Trace as trace
-use Rattle.taskscript.specs.{Words.word_text, File.SoftintData}
+use Rattle.script.specs.{Words.word_text, File.SoftintData}
 use Rattle.execlist.specs.{Order.order, Disciplines.pri_at}
 use Rattle.scheduler.specs.Schedule.{Schedule, name_of}
 use Rattle.execmodel.specs.{State.Bodies, State.Call, State.Memory, State.Pending, State.State, State.Scripts, State.Outcome, Pending.softint_pri, Ports.priority_of_public}

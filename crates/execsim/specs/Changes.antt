@@ -1,7 +1,7 @@
 -- What a plain word changes, and what Print puts.
 use Rattle.std.specs.Prelude.{◌≡◌, ℕ, Some, length}
 use Rattle.exectrace.specs.{Sink.Puts, Sink.Tape, Trace.Done, Trace.printed_line}
-use Rattle.taskscript.specs.{declared.word.Word.TheVariants.Plain, declared.word.plain.PlainWord.TheVariants.Print}
+use Rattle.script.specs.{declared.word.Word.TheVariants.Plain, declared.word.plain.PlainWord.TheVariants.Print}
 use Rattle.execmodel.specs.{State.Call, State.Scripts, State.State, State.Outcome, State.quiet, State.on_scripts, Calls.goes_on, Calls.next_call, Calls.stored}
 use Rattle.execsim.specs.{declared.change.Change.Change, Agreement.Seen, Agreement.line_seen}
 

@@ -4,7 +4,7 @@ ghost use Rattle.std.specs.Prelude.{◌≡◌, ◌≤◌, ℕ, List, [], ◌∷�
 ghost use Rattle.execlist.specs.Disciplines.{by_priority};
 ghost use Rattle.exectrace.specs.{Short.short_argument, Sink.Puts, Sink.Tape, Shown.shown_outcome, Trace.Quoted, Trace.Value, Trace.printed_line};
 ghost use Rattle.exectrace.specs.Trace as trace;
-ghost use Rattle.taskscript.specs.{Words.word_text, Commands.argument_view, Commands.command_view};
+ghost use Rattle.script.specs.{Words.word_text, Commands.argument_view, Commands.command_view};
 ghost use Rattle.scheduler.specs.Dispatch.{signalled};
 ghost use Rattle.execmodel.specs.{Bodies.does_in_body, Bodies.does_interrupts_by, Bodies.does_plain_by, Bodies.does_ports_by, Bodies.does_signals_by, Bodies.runs_body, State.Scripts, State.State, Calls.ByBody, Calls.alerted_by, Calls.answered_by, Calls.argument, Calls.call_in_body, Calls.done_by, Calls.evaluated_in_body, Calls.number_in, Calls.silent_by, Calls.stored_shared};
 ghost use Rattle.execmodel.specs.State as model;
@@ -22,11 +22,9 @@ use execlist::space::ListSpace;
 use exectrace::lines::CallOutcome;
 use exectrace::printing::{put_alert, put_short_call};
 use exectrace::{Name, ShortArg, Sink};
+use script::{Argument, Command, InterruptWord, PlainWord, PortWord, SignalWord, Variable, Word};
 use softint::caused::IntId;
 use taskq::TaskId;
-use taskscript::{
-    Argument, Command, InterruptWord, PlainWord, PortWord, SignalWord, Variable, Word,
-};
 
 /// A signalling that a body makes: the task receives the signals of the mask.
 #[derive(Clone, Copy)]

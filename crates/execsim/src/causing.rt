@@ -11,9 +11,9 @@ use execlist::space::ListSpace;
 use exectrace::lines::CallOutcome;
 use exectrace::printing::put_short_call;
 use exectrace::{Name, ShortArg, Sink};
+use script::InterruptWord;
 use softint::caused::IntId;
 use taskq::TaskId;
-use taskscript::InterruptWord;
 
 /// The name that is the first argument of a call, if one is.
 fn first_name(call: &Call) -> Option<&Name>

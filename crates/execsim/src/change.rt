@@ -1,7 +1,7 @@
 //! Plain words: a task does them on its command itself, with no call between.
 ghost use Rattle.std.specs.Prelude.{◌≡◌, ℕ, List, IfSome, IsTrue, None, Some, false, option_copied, slice_get, take};
 ghost use Rattle.exectrace.specs.{Sink.Puts, Sink.Tape, Trace.Done, Trace.printed_line};
-ghost use Rattle.taskscript.specs.{declared.word.Word.TheVariants.Plain, Commands.argument_view, Commands.command_view};
+ghost use Rattle.script.specs.{declared.word.Word.TheVariants.Plain, Commands.argument_view, Commands.command_view};
 ghost use Rattle.execmodel.specs.{State.State, Calls.argument, Calls.call_of, Calls.evaluated, Calls.goes_on, Calls.next_call, Calls.number_in, Calls.stored, Step.call_step, Step.does, Step.task_step};
 ghost use Rattle.execsim.specs.{Callers.HasTask, Changes.ChangesScripts, Changes.PutsPrint, Changes.changes, Agreement.Follows, Agreement.line_seen};
 
@@ -12,8 +12,8 @@ use exectrace::lines::CallOutcome;
 use exectrace::printing::put_short_call;
 use exectrace::sinks::written;
 use exectrace::{ShortArg, Sink};
+use script::{Argument, Command, PlainWord, Variable, Word};
 use taskq::TaskId;
-use taskscript::{Argument, Command, PlainWord, Variable, Word};
 
 /// What a plain word that prints nothing changes: a variable of its task, or none, is given a value, and the task goes on.
 #[derive(Clone, Copy)]

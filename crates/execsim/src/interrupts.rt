@@ -10,10 +10,10 @@ use crate::kernel::Kernel;
 use execlist::space::ListSpace;
 use exectrace::printing::{put_serve, put_server, put_softint};
 use exectrace::{Name, Sink};
+use script::Source as NamedSource;
 use softint::caused::IntId;
 use softint::chain::ServerId;
 use softint::source::Source;
-use taskscript::Source as NamedSource;
 
 /// How many sources there are.
 const SOURCES: u32 = 3;

@@ -9,8 +9,8 @@ use crate::kernel::Kernel;
 use crate::ports::name_or_empty;
 use execlist::space::ListSpace;
 use exectrace::{Name, Sink};
+use script::LibraryWord;
 use taskq::TaskId;
-use taskscript::LibraryWord;
 
 impl<S: ListSpace> Kernel<S> {
     /// Opens the library of a name with at least that version, if there is one and it has a place, once others were expunged under low memory to it

@@ -1,7 +1,7 @@
 //! Memory: blocks that AllocMem gives and FreeMem takes back.
 ghost use Rattle.std.specs.Prelude.{◌≡◌, true, false};
 ghost use Rattle.memlist.specs.Fit.{avail};
-ghost use Rattle.taskscript.specs.declared.word.memory.MemoryWord.TheVariants as words;
+ghost use Rattle.script.specs.declared.word.memory.MemoryWord.TheVariants as words;
 ghost use Rattle.execmodel.specs.{State.Plain, GivingWay.after_asking, Memory.block_at, Memory.can_be_asked, Memory.extents, Memory.freed, Memory.has_only, Memory.is_named, Memory.place_for, Memory.placed, Memory.does_memory};
 ghost use Rattle.execsim.specs.{Callers.HasTask, Agreement.Follows, Views.call_view};
 
@@ -10,8 +10,8 @@ use crate::kernel::Kernel;
 use execlist::space::ListSpace;
 use exectrace::Sink;
 use memlist::{MEMF_CHIP, MEMF_CLEAR, MEMF_FAST, MEMF_LARGEST, MEMF_PUBLIC, MEMF_TOTAL};
+use script::MemoryWord;
 use taskq::TaskId;
-use taskscript::MemoryWord;
 
 /// What AllocMem may be asked for.
 const ALLOC_BITS: u32 = MEMF_PUBLIC | MEMF_CHIP | MEMF_FAST | MEMF_CLEAR;

@@ -9,8 +9,8 @@ use crate::call::Call;
 use crate::kernel::Kernel;
 use execlist::space::ListSpace;
 use exectrace::Sink;
+use script::NestingWord;
 use taskq::TaskId;
-use taskscript::NestingWord;
 
 impl<S: ListSpace> Kernel<S> {
     /// Counts one more Forbid of the running task, and answers whether its count has room for it.

@@ -8,8 +8,8 @@ use crate::call::{Call, Caller};
 use crate::kernel::Kernel;
 use execlist::space::ListSpace;
 use exectrace::Sink;
+use script::PlainWord;
 use taskq::TaskId;
-use taskscript::PlainWord;
 
 /// The sum of two words.
 pub(crate) fn sum(a: u32, b: u32) -> u32

@@ -18,8 +18,8 @@ use execheap::Refusal;
 use execlist::space::ListSpace;
 use exectrace::{Name, Sink};
 use msgport::action::{Action, PortAction};
+use script::PortWord;
 use taskq::TaskId;
-use taskscript::PortWord;
 
 /// What AllocSignal is asked for by a call that takes any signal: the word of -1.
 const ANY_SIGNAL: u32 = 0xffff_ffff;

@@ -17,9 +17,9 @@ use execheap::{Action, Awaited, Refusal};
 use execlist::space::ListSpace;
 use exectrace::printing::put_timer;
 use exectrace::{Name, Sink};
+use script::RequestWord;
 use softint::source::Source;
 use taskq::TaskId;
-use taskscript::RequestWord;
 
 /// What AbortIO answers for a request that is not under way: the word of -1.
 const NOT_ABORTED: u32 = 0xffff_ffff;

@@ -7,8 +7,8 @@ ghost use Rattle.execsim.specs.{Advancing.GoesSilently, Advancing.StepsSilently,
 use crate::kernel::Kernel;
 use execlist::space::ListSpace;
 use exectrace::Sink;
+use script::Word;
 use taskq::TaskId;
-use taskscript::Word;
 
 impl<S: ListSpace> Kernel<S> {
     /// Task t, which rests, does plain words that print nothing, as long as its next command is one, and at most that many. The answer is how many.

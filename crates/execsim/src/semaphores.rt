@@ -14,9 +14,9 @@ use crate::kernel::Kernel;
 use execheap::Refusal;
 use execlist::space::ListSpace;
 use exectrace::Sink;
+use script::SemaphoreWord;
 use sigsem::semaphore::Obtained;
 use taskq::TaskId;
-use taskscript::SemaphoreWord;
 
 /// What AttemptSemaphore answers: 1 for a task that has the semaphore, and else 0.
 fn attempted(has: bool) -> u32

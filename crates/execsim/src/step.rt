@@ -2,7 +2,7 @@
 ghost use Rattle.std.specs.Prelude.{◌≡◌, ◌<◌, ◌≤◌, false, is_some, length, sum_by, Some, None, IfSome, IsTrue, if◌then◌else◌};
 ghost use Rattle.execlist.specs.Disciplines.{by_priority};
 ghost use Rattle.exectrace.specs.{Sink.Puts, Trace.printed_line, declared.sinks.SinkState.SinkState};
-ghost use Rattle.taskscript.specs.Events.{ticks as ticks_of};
+ghost use Rattle.script.specs.Events.{ticks as ticks_of};
 ghost use Rattle.scheduler.specs.{Schedule.IsToOneOf, Dispatch.switch_of, Dispatch.rescheduled, Dispatch.added};
 ghost use Rattle.softint.specs.Sources.{highest};
 ghost use Rattle.execmodel.specs.Step.{announced, switches, settle, does, ends, acts, acting, step, steps, request, tick, ticks, starts, all_added, event, events, task_step};
@@ -18,9 +18,9 @@ use exectrace::printing::{put_call, put_idle, put_switch};
 use exectrace::sinks::written;
 use exectrace::{Arg, ShortArg, Sink};
 use scheduler::Switch;
+use script::{Event, Word};
 use softint::source::Source;
 use taskq::TaskId;
-use taskscript::{Event, Word};
 
 impl<S: ListSpace> Kernel<S> {
     // ---- settle

@@ -11,8 +11,8 @@ use crate::call::{Call, Caller};
 use crate::kernel::Kernel;
 use execlist::space::ListSpace;
 use exectrace::Sink;
+use script::SignalWord;
 use taskq::TaskId;
-use taskscript::SignalWord;
 
 /// Whether the mask holds only signals that scripts may name: 12 to 31.
 pub(crate) fn is_mask(mask: u32) -> bool

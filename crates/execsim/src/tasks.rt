@@ -11,8 +11,8 @@ use crate::call::Call;
 use crate::kernel::Kernel;
 use execlist::space::ListSpace;
 use exectrace::{Name, Sink};
+use script::TaskWord;
 use taskq::TaskId;
-use taskscript::TaskWord;
 
 /// Whether a task may have the priority that the word is, read as a signed one.
 pub(crate) fn is_priority(word: u32) -> bool

@@ -1,7 +1,7 @@
 -- The proof of `Kernel::does_plain`: a call of task t, by its word: a plain one.
 use Rattle.std.proofs.Common.{◌≡◌, ℕ, subst, sym}
 use Rattle.exectrace.specs.Sink.{Tape}
-use Rattle.taskscript.specs.declared.word.plain.PlainWord.{PlainWord}
+use Rattle.script.specs.declared.word.plain.PlainWord.{PlainWord}
 use Rattle.execmodel.specs.{State.Call, Plain.does_plain, Plain.does_set, Plain.does_add, Plain.does_sub, Plain.does_and, Plain.does_or}
 use Rattle.execsim.specs.Agreement.{Seen, Follows}
 use Rattle.execsim.proofs.kernel.Kernel.does_plain.Goals as goal

@@ -1,7 +1,7 @@
 -- The proof of `Kernel::does_plain_in_body`.
 use Rattle.std.proofs.Common.{◌≡◌, subst, sym}
 use Rattle.exectrace.specs.Sink.{Tape}
-use Rattle.taskscript.specs.declared.word.plain.PlainWord.{PlainWord}
+use Rattle.script.specs.declared.word.plain.PlainWord.{PlainWord}
 use Rattle.execmodel.specs.{State.Call, Bodies.does_plain_by, Calls.Caller}
 use Rattle.execsim.specs.Agreement.{Seen, Follows}
 use Rattle.execsim.proofs.kernel.Kernel.does_plain_in_body.Goals as goal

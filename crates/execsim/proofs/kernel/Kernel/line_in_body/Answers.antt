@@ -3,7 +3,7 @@ use Rattle.std.proofs.Common.{ap, sym, take, ◌∙◌}
 use Rattle.exectrace.specs.Trace.{printed_line}
 use Rattle.exectrace.specs.Trace as trace
 use Rattle.exectrace.proofs.Pieces.{put_same}
-use Rattle.taskscript.specs.Commands.{argument_view}
+use Rattle.script.specs.Commands.{argument_view}
 use Rattle.execmodel.specs.Calls.{evaluated_in_body}
 use Rattle.execsim.proofs.Calling.{map-map_as}
 use Rattle.execsim.proofs.kernel.Kernel.line_in_body.Goals as goal

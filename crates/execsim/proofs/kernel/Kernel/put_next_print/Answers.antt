@@ -1,6 +1,6 @@
 -- What is put is the line of the next call.
 use Rattle.std.proofs.Common.{◌≡◌, rules, refl, ap, ◌∙◌, ◌+◌}
-use Rattle.taskscript.specs.{declared.word.Word.TheVariants.Plain, declared.word.plain.PlainWord.TheVariants.Print, Commands.command_view}
+use Rattle.script.specs.{declared.word.Word.TheVariants.Plain, declared.word.plain.PlainWord.TheVariants.Print, Commands.command_view}
 use Rattle.execmodel.specs.State.{Program}
 use Rattle.execsim.proofs.Changing.{puts_next}
 use Rattle.execsim.proofs.kernel.Kernel.put_next_print.Goals as goal

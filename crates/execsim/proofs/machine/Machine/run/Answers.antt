@@ -1,6 +1,6 @@
 -- The proof of `Machine::run`: starts the machine and does one event after another.
 use Rattle.std.proofs.Common.{ap, sym, ◌∙◌, subst, sum_by}
-use Rattle.taskscript.specs.Events.{ticks as ticks_of}
+use Rattle.script.specs.Events.{ticks as ticks_of}
 use Rattle.execsim.specs.{Headline.Shown, Time.HasTimeFor}
 use Rattle.execsim.proofs.{Acting.acts_by, Acting.known_after_action, Clock.time_from_start, Following.while_good, Following.while_good_then, Reached.run_reached, Advancing.not_known}
 use Rattle.execsim.proofs.machine.Machine.run.Goals as goal
