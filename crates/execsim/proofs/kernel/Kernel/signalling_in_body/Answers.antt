@@ -7,4 +7,4 @@ use Rattle.execsim.proofs.kernel.Kernel.signalling_in_body.Goals as goal
 pub returns-else-not-is_mask-clause-sent : goal.returns-else-not-is_mask-clause-sent
 returns-else-not-is_mask-clause-sent g c n moved = signalled_pair c.args.name.now.bytes (call_in_body (command_view c.args.command.now) c.args.self.now.scripts) _ _
     (c.is_signal.ensures c.if-not-is_signal.false) (rw c.in-Some.is at c.pair_in_body.ensures)
-    (rw c.is_task.ensures at c.if-not-is_task.false) (rw c.is_mask.ensures at c.if-not-is_mask.false) c.put_short_call.ensures moved
+    (rw c.is_task.ensures at c.if-not-is_task.false) (rw c.is_mask.ensures at c.if-not-is_mask.false) c.hear.ensures moved
