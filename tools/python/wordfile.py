@@ -1,5 +1,5 @@
-"""Makes docs/words.json: the rows of the words that the program `runs` prints from taskscript's tables, the sources in the comments of
-taskscript, and the rest from words.toml."""
+"""Makes docs/words.json: the rows of the words that the program `runs` prints from the tables of `script`, the sources in the comments
+there, and the rest from words.toml."""
 import json
 import pathlib
 import re
@@ -9,7 +9,7 @@ import tomllib
 import tables
 
 TOOLS = tables.TOP / "tools"
-WORD_FILES = tables.TOP / "crates" / "taskscript" / "src" / "word"
+WORD_FILES = tables.TOP / "crates" / "script" / "src" / "word"
 
 # A variant of a group's enum with its comment, and the row of a variant.
 VARIANT = re.compile(r"((?:    /// [^\n]*\n)+)    (\w+),\n")
@@ -118,7 +118,7 @@ def word_file(printed):
     sources = source_rows()
     if names != list(sources):
         missing = sorted(set(sources).symmetric_difference(names)) or "their order"
-        raise BadWords(f"words.toml and the tables of taskscript do not have the same words: {missing}")
+        raise BadWords(f"words.toml and the tables of `script` do not have the same words: {missing}")
     words = [one_word(row, printed[row["name"]], sources[row["name"]]) for row in rows]
     numbers = tomllib.loads((TOOLS / "numbers.toml").read_text())["numbers"]
     return {"format": 1, "words": words, "numbers": numbers}

@@ -9,10 +9,9 @@ use crate::said::cut;
 use crate::show::{Advice, Span, field_span, width_of};
 use crate::spacing::spacing_advice;
 use crate::variables::is_variable;
+use script::{Kind, Word, is_name, word_of, words};
 use std::alloc::Global;
-use taskscript::{
-    Kind, Word, fields_of, is_identifier, is_name, label_in, number_of, quoted_in, word_of, words,
-};
+use taskscript::{fields_of, is_identifier, label_in, number_of, quoted_in};
 use toml::Value;
 
 /// What a line has to be that is no label but ends with a colon.

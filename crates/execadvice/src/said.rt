@@ -1,8 +1,9 @@
 //! A line that says something, by its parts.
 
 use crate::made::Made;
+use script::{Kind, Word, word_of};
 use std::alloc::{AllocError, Global};
-use taskscript::{Kind, Word, fields_of, label_in, word_of};
+use taskscript::{fields_of, label_in};
 
 /// The word of a line, the target before it, and the arguments after it.
 #[derive(Drop)]

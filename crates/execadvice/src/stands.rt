@@ -4,8 +4,9 @@ use crate::made::Made;
 use crate::said::{Said, label_of, said_by};
 use crate::show::Advice;
 use crate::variables::{is_shared, is_variable};
+use script::is_word_of_interrupt;
 use std::alloc::Global;
-use taskscript::{is_word_of_interrupt, line_in};
+use taskscript::line_in;
 use toml::Value;
 
 /// The words that the body of an interrupt may have.

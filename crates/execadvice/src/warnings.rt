@@ -7,9 +7,10 @@ use crate::members::{member_of, name_of};
 use crate::near::{nearest, proposing};
 use crate::show::{Advice, Span, field_span};
 use crate::variables::{Variables, is_shared, is_variable};
+use script::{PortWord, TaskWord, Word};
 use std::alloc::Global;
 use std::collections::HashSet;
-use taskscript::{LinePlace, Owner, PortWord, TaskWord, Word, items_at, quoted_in};
+use taskscript::{LinePlace, Owner, items_at, quoted_in};
 use toml::{Table, Value};
 
 /// The most pairs of names that are compared for the proposals of a file.

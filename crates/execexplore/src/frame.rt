@@ -4,8 +4,8 @@ ghost use Rattle.ways.specs.Ways.{count_all};
 
 use crate::failure::Failure;
 use crate::options::{kinds_listed, kinds_served};
+use script::{Event, MachineFile};
 use std::alloc::Global;
-use taskscript::{Event, MachineFile};
 use ways::Sizes;
 
 /// How many ways are tried at most.

@@ -3,8 +3,8 @@ ghost use Rattle.std.specs.Prelude.{◌≡◌, ◌≤◌, ◌++◌, IfOk, IfSome
 ghost use Rattle.execexplore.specs.Reporting.{kind_text, kinds_text, marked_kind};
 
 use crate::stretch::Stretch;
+use script::{Event, MachineFile, Source};
 use std::alloc::{AllocError, Global};
-use taskscript::{Event, MachineFile, Source};
 use wayrun::See;
 
 /// How many extras a way may have.

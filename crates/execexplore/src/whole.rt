@@ -11,9 +11,10 @@ use crate::frame::{Frame, MOST_ACTIONS, MOST_WAYS, check_ticks, kinds_for, numbe
 use crate::options::{Options, kinds_text};
 use crate::stretch::{Stretch, stretch_window};
 use execrun::{Texts, read_text};
+use script::{Event, Events, MachineFile};
 use sha2::{Digest, Sha256};
 use std::alloc::{AllocError, Global};
-use taskscript::{Event, EventFault, Events, FileFault, MachineFile, read_events, read_machine};
+use taskscript::{EventFault, FileFault, read_events, read_machine};
 use wayreport::{Part, Report, found_of, lines_of, report_text, ways_text};
 use wayrun::search;
 use ways::{Outcome, Sizes, Watcher, Window, actions_of};

@@ -7,7 +7,7 @@ use Rattle.execlib.specs.declared.library.Loaded.{Loaded}
 use Rattle.execlib.specs.Libraries as library
 use Rattle.execmodel.specs.{State.Library, State.on_heap, Memory.freed, Memory.place_for, Memory.placed, Libraries.base_opened, Libraries.base_or_place, Libraries.entered_or_loaded, Libraries.library_named, Libraries.with_library}
 use Rattle.execmodel.specs.Libraries as model
-use Rattle.taskscript.specs.File.{LibraryData}
+use Rattle.script.specs.File.{LibraryData}
 use Rattle.execheap.specs.{Table.Tabled, Table.IsSound, Table.base_at, Table.library_at, Table.library_closed, Table.library_opened, Table.library_removed, Numbered.Numbered, Numbered.IsKept, Numbered.shown_heap, Numbered.shown_library, Numbered.shown_memory}
 use Rattle.execheap.proofs.Libraries.{base_shown, count_there, delayed_there, library_at_shown, library_changed, library_freed, library_placed, library_there, openings_shown}
 use Rattle.execheap.proofs.{Blocks.fit_shown, LibraryTables.loads_absent, LibraryTables.loads_loaded, LibraryTables.loads_nowhere, Loaded.lies_at}

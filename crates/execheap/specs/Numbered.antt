@@ -9,7 +9,7 @@ use Rattle.sigsem.specs.Semaphores as sems
 use Rattle.sigsem.specs.Semaphores.{Semaphores, sem_at, waiters_of}
 use Rattle.iorequest.specs.{declared.request.Request.Request as TimerRequest, Request.is_under_way, Requests.is_request, Requests.request_at}
 use Rattle.timerdev.specs.{Held.Held, Timing.Timer, Timing.Waiting, Timing.is_waiting}
-use Rattle.taskscript.specs.File.{LibraryData}
+use Rattle.script.specs.File.{LibraryData}
 use Rattle.execmodel.specs.State.{Object, Plain, ListHead, Node, MsgPort, Message, Semaphore, Library, Request, Block, Heap, PublicPort, Memory}
 use Rattle.execmodel.specs.{Lists.is_list, Lists.is_node, Semaphores.is_semaphore, Requests.is_request as is_request_object}
 use Rattle.execmodel.specs.Ports as model

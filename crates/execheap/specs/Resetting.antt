@@ -1,7 +1,7 @@
 -- When a memory that was used is as large as that of a file.
 use Rattle.std.specs.Prelude.{◌≡◌, ℕ, List}
 use Rattle.memlist.specs.declared.region.Region.{Region}
-use Rattle.taskscript.specs.File.{LibraryData}
+use Rattle.script.specs.File.{LibraryData}
 use Rattle.execmodel.specs.State.{Memory}
 
 -- it has these regions, room for that many objects of each kind and for that many tasks, and these libraries

@@ -4,7 +4,7 @@
 ghost use Rattle.std.specs.Prelude.{◌≡◌, ◌≤◌, ◌↔◌, [], true, false, length, map, IfOk};
 ghost use Rattle.execlib.specs.Libraries.{description_of};
 ghost use Rattle.memlist.specs.Fit.{avail};
-ghost use Rattle.taskscript.specs.Records.{library_view};
+ghost use Rattle.script.specs.Records.{library_view};
 ghost use Rattle.execmodel.specs.{State.Plain, Memory.block_at, Memory.can_be_asked, Memory.extents, Memory.freed, Memory.is_named, Memory.place_for, Memory.placed, GivingWay.after_asking};
 ghost use Rattle.timerdev.specs.Timing.{new_timer};
 ghost use Rattle.execheap.specs.{Numbered.shown_library, Resetting.IsAsLarge};
@@ -13,9 +13,9 @@ use crate::objects::Objects;
 use execlib::library::LibInit;
 use execlist::space::ListSpace;
 use memlist::Region;
+use script::LibraryRecord;
 use std::alloc::{AllocError, Global};
 use std::marker::Model;
-use taskscript::LibraryRecord;
 
 /// The memory of a machine and the objects that live in it: lists and nodes, ports and messages, semaphores, the libraries that are
 /// loaded, and requests with the timer that finishes them, over list spaces of the type S.

@@ -4,7 +4,7 @@ ghost use Rattle.std.specs.Prelude.{◌≡◌, ◌≤◌, ◌↔◌, not, ◌&&�
 ghost use Rattle.memlist.specs.{Fit.asks, Fit.avail, Fit.fit, Memory.IsWellFormed, Memory.allocated, Memory.can_free, Memory.untouched, Memory.without_block, Readers.gap_from, Readers.gaps_in};
 ghost use Rattle.execlist.specs.Pool.{IsStocked, all_free, slot};
 ghost use Rattle.execlib.specs.Libraries.{close_fault, count_of, description_of, is_loaded, loaded_at, library_to_open, no_library_loaded, opened_base};
-ghost use Rattle.taskscript.specs.Records.{library_view};
+ghost use Rattle.script.specs.Records.{library_view};
 ghost use Rattle.execheap.specs.Table.{IsSound, after_asking, base_at, begins_at, emptied, free_pools, library_at, library_closed, library_opened, library_removed, next_object, number_at, pool_of, ready_for, ready_to_open, slots_of, unused, with_object, without_object};
 ghost use Rattle.execheap.specs.Numbered.{shown_library};
 
@@ -14,9 +14,9 @@ use execlib::libs::{LibId, Libs};
 use execlist::pool::Pool;
 use execlist::space::ListSpace;
 use memlist::{Gap, MEMF_PUBLIC, MemList, Region};
+use script::LibraryRecord;
 use std::alloc::{AllocError, Global};
 use std::marker::Model;
-use taskscript::LibraryRecord;
 
 /// The blocks of a memory, for each kind the addresses of its objects, by number, and the libraries.
 #[derive(Drop)]

@@ -3,8 +3,8 @@ use Rattle.std.proofs.Common.{◌≡◌, ◌≢◌, ℕ, zero, suc, ◌+◌, ◌
 use Rattle.std.proofs.lemmas.{Grind.flat_map-append, List.length-replicate, List.take_more, List.Sums.sum_by-cons, List.Sums.sum_by-drop_more, List.Sums.sum_by_more, List.Sums.sum_by_more_le}
 use Rattle.exectrace.specs.{Sink.Tape, Sink.Adds, Sink.Breaks, Sink.Puts, Sink.TakesAll, declared.sinks.SinkState.SinkState, declared.sinks.SinkState.TheVariants.Good, Trace.printed, Trace.printed_line}
 use Rattle.exectrace.proofs.Pieces.{adds_all, adds_fitting, adds_none, adds_then, put_all, put_part}
-use Rattle.taskscript.specs.declared.event.Event.TheVariants.{Run, Tick, Irq}
-use Rattle.taskscript.specs.{Events.ticks as ticks_of, File.MachineData, declared.event.Event.Event}
+use Rattle.script.specs.declared.event.Event.TheVariants.{Run, Tick, Irq}
+use Rattle.script.specs.{Events.ticks as ticks_of, File.MachineData, declared.event.Event.Event}
 use Rattle.scheduler.specs.Schedule.{Schedule}
 use Rattle.execmodel.specs.{State.Memory, State.Timer, State.Scripts, State.State, State.Outcome, State.andthen, State.booted, Pending.next_softint, Step.starts, Step.event, Step.events, Step.run, Step.steps}
 use Rattle.execmodel.proofs.Moments.{events_more}

@@ -1,8 +1,8 @@
 -- A run is the same one step and one tick at a time.
 use Rattle.std.proofs.Common.{◌≡◌, ℕ, zero, suc, ◌+◌, ◌*◌, List, [], ◌∷◌, ◌++◌, replicate, refl, ap, sym, ◌∙◌, append-nil, arith, sum_by}
 use Rattle.std.proofs.lemmas.{List.Folds.sum_by-replicate, List.Sums.sum_by-append, List.Sums.sum_by-cons}
-use Rattle.taskscript.specs.declared.event.Event.TheVariants.{Run, Tick, Irq}
-use Rattle.taskscript.specs.{Events.ticks as ticks_of, declared.event.Event.Event}
+use Rattle.script.specs.declared.event.Event.TheVariants.{Run, Tick, Irq}
+use Rattle.script.specs.{Events.ticks as ticks_of, declared.event.Event.Event}
 use Rattle.execmodel.specs.{State.State, State.Outcome, State.quiet, State.andthen, Step.steps, Step.ticks, Step.event, Step.events}
 use Rattle.execmodel.proofs.Moments.{events_more, run_cut, tick_cut}
 use Rattle.execlog.specs.Log.{unit_of, units}

@@ -2,8 +2,8 @@
 -- the lines that it printed.
 use Rattle.std.specs.Prelude.{◌≡◌, ℕ, suc, ◌||◌, if◌then◌else◌, nat_lt, is_some, List, [], ◌∷◌, ◌++◌, length, replicate, Option, None, Some, flat_map}
 use Rattle.exectrace.specs.Trace.{printed}
-use Rattle.taskscript.specs.declared.event.Event.TheVariants.{Run, Tick, Irq}
-use Rattle.taskscript.specs.{File.MachineData, declared.event.Event.Event}
+use Rattle.script.specs.declared.event.Event.TheVariants.{Run, Tick, Irq}
+use Rattle.script.specs.{File.MachineData, declared.event.Event.Event}
 use Rattle.execmodel.specs.{State.Scripts, State.State, State.Outcome, State.booted, State.program_of, Pending.next_softint, Step.event, Step.run, Step.starts}
 use Rattle.execlog.specs.{declared.moment.Actor.Actor, declared.moment.Moment.Moment}
 

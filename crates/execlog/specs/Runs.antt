@@ -1,8 +1,8 @@
 -- What running a machine adds to its log, by what the machine shows.
 use Rattle.std.specs.Prelude.{ℕ, List, Option, None, Result, Ok, Err}
 use Rattle.exectrace.specs.Sink.{Tape, Adds, Breaks, TakesAll}
-use Rattle.taskscript.specs.declared.event.Event.TheVariants.{Run, Tick, Irq}
-use Rattle.taskscript.specs.declared.event.Event.{Event}
+use Rattle.script.specs.declared.event.Event.TheVariants.{Run, Tick, Irq}
+use Rattle.script.specs.declared.event.Event.{Event}
 use Rattle.execmodel.specs.{State.State, Step.events}
 use Rattle.execsim.specs.{Agreement.Seen, Agreement.Agrees, Readers.actor_seen}
 use Rattle.execlog.specs.declared.log.LogFault.TheVariants.{Memory, Write}

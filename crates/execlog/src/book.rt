@@ -5,8 +5,8 @@ ghost use Rattle.execlog.specs.Rows.{IsFrame};
 use crate::frame::Frame;
 use crate::index::Index;
 use crate::moment::Actor;
+use script::{Command, Name};
 use std::alloc::{AllocError, Global};
-use taskscript::{Command, Name};
 
 /// How many bytes of names are compared one by one, at most.
 const MOST_BYTES: usize = 8;

@@ -1,7 +1,7 @@
 //! A run with an entry for each step, tick and request. Steps that print nothing are done together if they are not shown.
 ghost use Rattle.std.specs.Prelude.{◌≡◌, ◌+◌, ◌*◌, ◌∷◌, ◌<◌, ◌≤◌, ◌^◌, ℕ, [], false, replicate, sum_by, None, IfOk, OnOk};
 ghost use Rattle.exectrace.specs.declared.sinks.SinkState.{SinkState};
-ghost use Rattle.taskscript.specs.{Events.ticks as ticks_of, File.MachineData};
+ghost use Rattle.script.specs.{Events.ticks as ticks_of, File.MachineData};
 ghost use Rattle.execmodel.specs.{State.booted, Step.starts};
 ghost use Rattle.execsim.specs.{Agreement.Agrees, Time.HasTimeFor};
 ghost use Rattle.execlog.specs.{declared.moment.Moment.Moment, Log.Entry, Log.ShowsLog, Log.entry_after, Log.log_of, Log.turns, Log.unit_of, Log.units, Runs.Extends, Runs.Logs, Runs.LogsRun, Runs.Wrote};
@@ -14,8 +14,8 @@ use execlist::space::ListSpace;
 use execsim::Machine;
 use exectrace::Sink;
 use exectrace::sinks::{put, written};
+use script::Event;
 use std::alloc::{AllocError, Global};
-use taskscript::Event;
 use thiserror::Error;
 
 /// Why a log did not come to its end.

@@ -4,8 +4,8 @@ ghost use Rattle.execlog.specs.Runs.{actor_now};
 
 use execlist::space::ListSpace;
 use execsim::Machine;
+use script::Event;
 use taskq::TaskId;
-use taskscript::Event;
 
 /// A task at a command.
 #[derive(Clone, Copy)]

@@ -5,7 +5,7 @@ use Rattle.execlist.specs.Order.{first}
 use Rattle.forbid.specs.Nesting.{Nesting}
 use Rattle.scheduler.specs.Schedule.{Schedule}
 use Rattle.softint.specs.{declared.latches.Latches.Latches, declared.source.Source.Source}
-use Rattle.taskscript.specs.Commands.{CommandData}
+use Rattle.script.specs.Commands.{CommandData}
 use Rattle.execmodel.specs.Requests.{answering_port, acting_at, with_reply, ended, ends_with, finishes, finishes_each, finishes_all_due, finishes_set}
 use Rattle.execmodel.specs.{State.Call, State.State, State.Timer as Clock, State.Outcome, State.quiet, State.says, State.andthen, State.unless_stopped, State.on_memory, State.on_timer, State.on_pending, State.Bodies, Calls.call_in_body, Pending.caused_no_more, Bodies.body_step, Bodies.runs_body, Interrupts.softint_at, Interrupts.server_at, Interrupts.runs_softint, Interrupts.runs_server, Interrupts.runs_chain, Interrupts.finishes_for}
 use Rattle.softint.specs.declared.source.Source.TheVariants as source

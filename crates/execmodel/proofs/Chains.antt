@@ -5,7 +5,7 @@ use Rattle.std.proofs.lemmas.{Bool.cond-true, Bool.cond-false, List.FromFn.lengt
 use Rattle.execlist.specs.Order.{enqueue, order, first, without, is_lower}
 use Rattle.execlist.proofs.OrderLaws.{first_of_order, order_leaves_out}
 use Rattle.softint.specs.{Sources.is_source, declared.source.Source.Source}
-use Rattle.taskscript.specs.File.{ServerData}
+use Rattle.script.specs.File.{ServerData}
 use Rattle.execmodel.specs.{Pending.source_named, Interrupts.server_pri, Interrupts.servers_of, Interrupts.no_server, Interrupts.by_choice, Interrupts.chain_of}
 use Rattle.execmodel.proofs.Heaps.{true_is_not_false}
 

@@ -5,8 +5,8 @@ use Rattle.execlist.specs.{Order.first, Disciplines.by_arrival}
 use Rattle.scheduler.specs.{Schedule.Schedule, Schedule.signals_of, Schedule.status_of, Schedule.awaits, Dispatch.signalled, Dispatch.arrives}
 use Rattle.msgport.specs.{Port.acting, Ports.nt_message, Ports.nt_replymsg, declared.action.Action.Action, declared.message.Message.Message as Content}
 use Rattle.msgport.specs.declared.action.Action.TheVariants as action
-use Rattle.taskscript.specs.declared.variable.Variable.TheVariants.{Private, Shared}
-use Rattle.taskscript.specs.{declared.variable.Variable.Variable, File.SoftintData}
+use Rattle.script.specs.declared.variable.Variable.TheVariants.{Private, Shared}
+use Rattle.script.specs.{declared.variable.Variable.Variable, File.SoftintData}
 use Rattle.execmodel.specs.State.{Call, Scripts, Heap, Memory, Mark, put, got, State, Outcome, leaving, Pending, Bodies, on_schedule}
 use Rattle.execmodel.specs.Calls.{Caller, ByTask, ByBody, argument, stored, stored_shared, goes_on, done, answered, silent, alerted, done_by, answered_by, silent_by, unless_by, name_argument}
 use Rattle.execmodel.specs.Ports.{is_port_at, is_message_at, is_queued, port_alert, message_alert, messages_of, content_of, port_of, appended, with_content, typed, posted, taken_off, reply_port_alert, loose_alert, put_alert, reply_alert, replied_by, delivered, performed, taken_by, does_put_msg_by, does_get_msg_by, does_reply_msg_by}

@@ -2,7 +2,7 @@
 use Rattle.std.proofs.Common.{◌≡◌, ℕ, List, [], ◌++◌, refl, sym, ap, subst}
 use Rattle.std.proofs.lemmas.Grind.{flat_map-append}
 use Rattle.execlist.specs.Disciplines.{by_arrival}
-use Rattle.taskscript.specs.{File.MachineData, declared.event.Event.Event}
+use Rattle.script.specs.{File.MachineData, declared.event.Event.Event}
 use Rattle.execmodel.specs.{State.Call, State.Memory, State.Mark, State.State, State.Outcome, State.on_schedule, State.booted, State.andthen, Ports.messages_of, Bodies.body_step, Step.switches, Step.ends, Step.starts, Step.events, Step.run, Marks.port_turn, Marks.turns_at_port, Laws.FirstInFirstOut, Requests.finishes}
 use Rattle.scheduler.specs.Dispatch.{rescheduled}
 use Rattle.execmodel.proofs.{Queues.Follows, Queues.IsOnce, Queues.follows_more, Queues.follows_once, Queues.in_order, Itself.does_itself, Itself.call_works, Stretches.Relation, Stretches.HoldsOfEach, Stretches.clock_gains, Stretches.of_starts, Stretches.of_events, Telling.body_alters, Posts.IsTidy, Asking.finishing, Asking.without_reply, Works.Works, Works.by_moves, Works.by_asking, Works.by_taking, Fifo.touched_follow, Fifo.moves_follow, Fifo.asked_follow, Fifo.taken_follow, TidyLaw.tidies, TidyLaw.rescheduled_tidy, TidyLaw.booted_tidy, TidyLaw.quietly, TidyLaw.switches_quiet}

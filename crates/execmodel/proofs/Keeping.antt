@@ -6,8 +6,8 @@ use Rattle.taskq.specs.Tasks.{is_ready, is_live}
 use Rattle.scheduler.specs.Schedule.{Schedule, status_of, signals_of, is_absent, removed, waits_at_semaphore, allocates as allocates_signal, frees, sets_signals, awaits, waits_for, takes, after_wait, clears_and_waits}
 use Rattle.scheduler.specs.Dispatch.{arrives, added, reprioritized, signalled}
 use Rattle.forbid.specs.Nesting.{Nesting}
-use Rattle.taskscript.specs.declared.variable.Variable.TheVariants.{Private, Shared}
-use Rattle.taskscript.specs.{declared.variable.Variable.Variable, File.SoftintData}
+use Rattle.script.specs.declared.variable.Variable.TheVariants.{Private, Shared}
+use Rattle.script.specs.{declared.variable.Variable.Variable, File.SoftintData}
 use Rattle.exectrace.specs.Trace.{Timer as TimerLine}
 use Rattle.timerdev.specs.Timing.{looked_at, until_next}
 use Rattle.iorequest.specs.{declared.request.ReqState.ReqState, declared.request.ReqState.TheVariants.UnderWay, declared.request.Begun.Begun, declared.request.Begun.TheVariants.Queue}

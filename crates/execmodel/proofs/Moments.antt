@@ -1,7 +1,7 @@
 -- Every due time of a run is the end of a run: of the events before it, and of its own cut short.
 use Rattle.std.proofs.Common.{◌≡◌, ℕ, zero, suc, ◌+◌, List, [], ◌∷◌, ◌++◌, refl, sym, ap, ◌∙◌, append-nil, append_assoc, arith}
-use Rattle.taskscript.specs.declared.event.Event.TheVariants.{Run, Tick}
-use Rattle.taskscript.specs.declared.event.Event.{Event}
+use Rattle.script.specs.declared.event.Event.TheVariants.{Run, Tick}
+use Rattle.script.specs.declared.event.Event.{Event}
 use Rattle.execmodel.specs.{State.State, State.Outcome, State.quiet, State.andthen, Step.step, Step.steps, Step.tick, Step.ticks, Step.event, Step.events}
 
 -- an outcome, and then another action

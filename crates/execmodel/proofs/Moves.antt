@@ -9,9 +9,9 @@ use Rattle.scheduler.specs.Schedule.{Schedule}
 use Rattle.msgport.specs.{Port.new_port, declared.action.PortAction.PortAction}
 use Rattle.sigsem.specs.declared.semaphore.Obtained.TheVariants.{Owner, Waits}
 use Rattle.sigsem.specs.Semaphores.{is_open, is_last, is_owned, is_owner}
-use Rattle.taskscript.specs.declared.word.Word.TheVariants as group
-use Rattle.taskscript.specs.declared.word.semaphores.SemaphoreWord.TheVariants as semaphores
-use Rattle.taskscript.specs.declared.word.libraries.LibraryWord.TheVariants as libraries
+use Rattle.script.specs.declared.word.Word.TheVariants as group
+use Rattle.script.specs.declared.word.semaphores.SemaphoreWord.TheVariants as semaphores
+use Rattle.script.specs.declared.word.libraries.LibraryWord.TheVariants as libraries
 use Rattle.iorequest.specs.Request.{is_under_way}
 use Rattle.execmodel.specs.State.{Call, Object, Plain, ListHead, Node, MsgPort, Message, Semaphore, Library, Request, Block, Heap, Memory, Mark, asked, passed, left, State, Outcome, on_schedule, on_memory, on_heap}
 use Rattle.execmodel.specs.Ports.{is_port, is_message, is_port_at, is_message_at, port_size, port_created, makes_port, after_asking_for_port, messages_of, messages_of_object, with_action, is_queued, is_public, is_awaited_at, delete_alert, loose_alert, looked}

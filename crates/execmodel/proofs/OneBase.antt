@@ -6,7 +6,7 @@ use Rattle.scheduler.specs.Dispatch.{rescheduled}
 use Rattle.memlist.specs.{declared.region.Region.Region, Fit.round, Memory.IsWellFormed}
 use Rattle.memlist.proofs.Answered.{nat_eq-same, cases_eq, key_same, key_other}
 use Rattle.iorequest.specs.declared.request.Request.{Request as TimerRequest}
-use Rattle.taskscript.specs.{File.MachineData, Machines.IsMachine, declared.event.Event.Event}
+use Rattle.script.specs.{File.MachineData, Machines.IsMachine, declared.event.Event.Event}
 use Rattle.execmodel.specs.State.{Call, Object, ListHead, Message, Library, Request, Block, Heap, Memory, Waiting as Queued, Mark, State, Outcome, andthen, on_schedule, booted}
 use Rattle.execmodel.specs.Semaphores.{with_semaphore, left_by_task, entered, queued, dropped, handed_on, released_once}
 use Rattle.execmodel.specs.Libraries.{is_library, is_library_at, is_numbered, library_number, number_of, with_library, base_of}

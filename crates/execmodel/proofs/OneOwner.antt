@@ -3,7 +3,7 @@ use Rattle.std.proofs.Common.{◌≡◌, ◌≢◌, ℕ, Bool, true, false, List
 use Rattle.execlist.specs.Disciplines.{by_arrival}
 use Rattle.memlist.specs.Memory.{IsWellFormed}
 use Rattle.memlist.proofs.{Tiling.tiled, Fitting.disjoint}
-use Rattle.taskscript.specs.{File.MachineData, declared.event.Event.Event}
+use Rattle.script.specs.{File.MachineData, declared.event.Event.Event}
 use Rattle.execmodel.specs.{State.Call, State.Object, State.Plain, State.Block, State.State, State.Outcome, State.booted, State.andthen, State.on_schedule, Calls.argument, Calls.alerted, Calls.unless, Bodies.body_step, Memory.extents, Memory.block_at, Memory.is_plain, Memory.is_named, Memory.memory_deed, Deeds.performs, Step.switches, Step.ends, Step.starts, Step.run, Laws.EachByteHasOneOwner, Laws.FreeMemRefusesObjects, Requests.finishes}
 use Rattle.scheduler.specs.Dispatch.{rescheduled}
 use Rattle.execmodel.proofs.{Heaps.true_is_not_false, Itself.does_itself, Itself.call_works, Stretches.Relation, Stretches.HoldsOfEach, Stretches.of_starts, Stretches.of_events, Commands.none_some, Telling.body_alters, Asking.finishing, TidyLaw.FormedState, TidyLaw.works_regions, TidyLaw.works_formed, TidyLaw.altered_formed, TidyLaw.finished_formed, TidyLaw.booted_formed, TidyLaw.quietly, TidyLaw.switches_quiet}

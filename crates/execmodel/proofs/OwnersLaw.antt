@@ -2,7 +2,7 @@
 use Rattle.std.proofs.Common.{◌⊎◌, inl, inr, ◌≡◌, ℕ, Bool, true, false, Option, None, Some, refl, sym, ap, ◌∙◌, subst, if◌then◌else◌}
 use Rattle.execlist.specs.{Lists.is_at, Disciplines.by_arrival}
 use Rattle.memlist.proofs.Answered.{nat_eq-other, cases_eq}
-use Rattle.taskscript.specs.File.{MachineData}
+use Rattle.script.specs.File.{MachineData}
 use Rattle.execmodel.specs.{State.Call, State.State, State.Outcome, State.Memory, State.quiet, State.booted, State.andthen, State.on_schedule, Calls.next_call, Pending.next_softint, Bodies.body_step, Objects.object_at, Semaphores.sem_of, Semaphores.waiters_of, Step.switches, Step.settle, Step.ends, Step.call_step, Step.task_step, Step.softint_or_task_step, Step.acting, Step.acts, Step.step, Step.tick, Step.starts, Step.run, Laws.Action, Laws.OneStep, Laws.OneTick, Laws.OneRequest, Laws.outcome_of, Laws.IsLastRelease, Laws.OwnersChangeAtTheLastRelease, Laws.FreeSemaphoresHaveNoWaiters, Requests.finishes}
 use Rattle.scheduler.specs.Dispatch.{rescheduled}
 use Rattle.execmodel.proofs.Stretches.{Relation, HoldsOfInterrupts, HoldsOfEach, of_softint, of_set, of_settle, of_request, ticked, of_starts, of_events}

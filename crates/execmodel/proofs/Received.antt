@@ -7,7 +7,7 @@ use Rattle.taskq.specs.declared.TaskState.TheVariants.{Ready, Running, Waiting, 
 use Rattle.taskq.specs.{Tasks.state_at, Tasks.is_live, declared.TaskState.TaskState, declared.Why.TheVariants.Signals, declared.Why.TheVariants.Sem}
 use Rattle.scheduler.specs.Schedule.{Schedule, status_of, signals_of, is_absent, awaits, begins, renewed, is_switching_allowed, is_quantum_over, leaves as leaves_for_good, removed, ticked, ticked_for, waits_for, waits_at_semaphore, with_signals}
 use Rattle.scheduler.specs.{declared.Switch.Switch, declared.Switch.TheVariants.To, declared.Switch.TheVariants.Idle, Dispatch.arrives, Dispatch.added, Dispatch.displaced, Dispatch.after_switch, Dispatch.rescheduled, Dispatch.switch_of, Dispatch.signalled}
-use Rattle.taskscript.specs.File.{MachineData}
+use Rattle.script.specs.File.{MachineData}
 use Rattle.execmodel.specs.{State.Call, State.Mark, State.State, State.Outcome, State.quiet, State.booted, State.andthen, State.on_schedule, Calls.next_call, Pending.next_softint, Bodies.body_step, Step.switches, Step.ends, Step.call_step, Step.task_step, Step.softint_or_task_step, Step.acting, Step.acts, Step.step, Step.tick, Step.starts, Step.run, Laws.OneStep, Laws.OneTick, Laws.OneRequest, Laws.IsToCall, Laws.is_own_taking, Laws.WaitersHaveReceivedNone, Laws.ReceivedSignalsStay, Requests.finishes}
 use Rattle.execmodel.proofs.Stretches.{Relation, HoldsOfInterrupts, HoldsOfEach, of_softint, of_set, of_settle, of_request, ticked as ticked_stretch, of_starts, of_events}
 use Rattle.execmodel.proofs.Agreement.{running_state, set_there, set_here, in_range, set_state, all_absent, got}

@@ -8,7 +8,8 @@ use Rattle.softint.specs.{declared.source.Source.Source, declared.latches.Latche
 use Rattle.softint.specs.declared.source.Source.TheVariants as source
 use Rattle.scheduler.specs.{Schedule.Schedule, Schedule.ticked, Schedule.ticked_for, Schedule.is_interrupting_allowed, declared.Switch.Switch as Choice, Dispatch.switch_of, Dispatch.rescheduled}
 use Rattle.scheduler.specs.declared.Switch.TheVariants as switch
-use Rattle.execmodel.specs.Interrupts.{serving_counted, text_of_source, finishes_for, chain_of, runs_chain, serves, servings, interrupts}
+use Rattle.exectrace.specs.Heard.{text_of_source}
+use Rattle.execmodel.specs.Interrupts.{serving_counted, finishes_for, chain_of, runs_chain, serves, servings, interrupts}
 use Rattle.execmodel.specs.{State.State, State.Outcome, State.quiet, State.andthen, State.unless_stopped, State.on_schedule, State.on_pending, Pending.allows_interrupts, Pending.with_latch_of, Pending.next_source, Step.announced, Step.switches, Step.settle, Laws.says_switch, Laws.is_serving, Laws.InterruptsKeepNestings, Laws.ThreeServingsAtMost}
 use Rattle.execmodel.proofs.BodyActions.{standing, steady, IsOfBody, AreOfBodies, softint_bodily, served_bodily}
 use Rattle.execmodel.proofs.Heaps.{true_is_not_false}

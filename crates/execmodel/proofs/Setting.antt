@@ -3,8 +3,8 @@ use Rattle.std.proofs.Common.{◌⊎◌, inl, inr, ◌≡◌, ℕ, Bool, true, f
 use Rattle.msgport.specs.declared.action.Action.{Action}
 use Rattle.iorequest.specs.declared.request.Begun.TheVariants.{Finish, Queue, Until, NewTime}
 use Rattle.iorequest.specs.{declared.request.ReqState.ReqState, declared.request.ReqState.TheVariants.Idle, Request.is_to_wait, Request.is_until, Request.due_of, Request.error_of, Request.sets_time, Request.time_of}
-use Rattle.taskscript.specs.declared.word.requests.RequestWord.{RequestWord}
-use Rattle.taskscript.specs.declared.word.requests.RequestWord.TheVariants as requests
+use Rattle.script.specs.declared.word.requests.RequestWord.{RequestWord}
+use Rattle.script.specs.declared.word.requests.RequestWord.TheVariants as requests
 use Rattle.execmodel.specs.Requests.{request_of, answering_port, acting_at, with_reply, ended, timer_begun, begun_at, looks_for, aborts}
 use Rattle.execmodel.specs.{State.Call, State.Timer, State.Memory, State.State, State.on_memory, Calls.done, Calls.answered, Calls.waiting, Ports.performed as performed_action, Step.request}
 use Rattle.execmodel.proofs.{Commands.performed_memory, Asking.state_of}

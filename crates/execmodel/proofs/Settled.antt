@@ -6,8 +6,8 @@ use Rattle.execlist.proofs.OrderLaws.{chosen_is_earliest}
 use Rattle.forbid.specs.Nesting.{Nesting, may_switch, may_interrupt, not_nested}
 use Rattle.scheduler.specs.Schedule.{Schedule, priority_of, nesting_of, switch_for, renewed, begins, is_switching_allowed, is_interrupting_allowed, is_quantum_over, takes_over}
 use Rattle.scheduler.specs.{declared.Switch.Switch, declared.Switch.TheVariants.To, declared.Switch.TheVariants.Idle, Dispatch.arrives, Dispatch.displaced, Dispatch.after_switch, Dispatch.switch_of, Dispatch.rescheduled}
-use Rattle.taskscript.specs.declared.event.Event.TheVariants.{Run, Tick, Irq}
-use Rattle.taskscript.specs.declared.event.Event.{Event}
+use Rattle.script.specs.declared.event.Event.TheVariants.{Run, Tick, Irq}
+use Rattle.script.specs.declared.event.Event.{Event}
 use Rattle.execmodel.specs.{State.State, State.Outcome, State.quiet, State.on_schedule, State.on_memory, State.on_timer, State.on_pending, State.andthen, State.unless_stopped, State.booted, Pending.source_named, Pending.with_latch_of, Pending.allows_interrupts, Interrupts.interrupts, Step.announced, Step.switches, Step.settle, Step.acts, Step.step, Step.steps, Step.request, Step.tick, Step.ticks, Step.starts, Step.all_added, Step.event, Step.events, Step.run, Laws.IsSettled, Laws.EachStateIsSettled}
 use Rattle.timerdev.specs.Timing.{ticked}
 use Rattle.softint.specs.{declared.source.Source.Source, declared.source.Source.TheVariants.Vertb, Sources.is_latched}

@@ -2,9 +2,9 @@
 use Rattle.std.proofs.Common.{◌≡◌, ℕ, ◌+◌, ◌*◌, ◌≤◌, lit≤, true, List, [], ◌∷◌, length, map, refl, sym, subst, length-append, arith, if◌then◌else◌, count_by, nat_le, flat_map, leb-true}
 use Rattle.std.proofs.lemmas.{Bool.and_parts, List.Sums.sum_by-cons}
 use Rattle.exectrace.specs.Trace.{Argument, Quoted, argument_text}
-use Rattle.taskscript.specs.declared.variable.Variable.TheVariants.{Private, Shared}
-use Rattle.taskscript.specs.{declared.word.row.Kind.Kind, declared.variable.Variable.Variable, Commands.ArgumentData, Commands.number, Commands.variable, Commands.quoted, Commands.place, Commands.CommandData, Machines.IsOfKind, Machines.AreOfKinds, Machines.HasItsArguments, Machines.QuotesOnce, Machines.is_quoted, Names.is_name, Words.kinds, WordTable.few_kinds}
-use Rattle.taskscript.specs.declared.word.row.Kind.TheVariants as kind
+use Rattle.script.specs.declared.variable.Variable.TheVariants.{Private, Shared}
+use Rattle.script.specs.{declared.word.row.Kind.Kind, declared.variable.Variable.Variable, Commands.ArgumentData, Commands.number, Commands.variable, Commands.quoted, Commands.place, Commands.CommandData, Machines.IsOfKind, Machines.AreOfKinds, Machines.HasItsArguments, Machines.QuotesOnce, Machines.is_quoted, Names.is_name, Words.kinds, WordTable.few_kinds}
+use Rattle.script.specs.declared.word.row.Kind.TheVariants as kind
 use Rattle.execmodel.specs.{State.Call, State.Scripts, Calls.evaluated, Calls.evaluated_in_body, Calls.call_of, Calls.call_in_body, Laws.FitsKind, Laws.FitKinds, Laws.FitsItsWord}
 use Rattle.execmodel.proofs.ShortLines.{IsShortText, AreShort}
 

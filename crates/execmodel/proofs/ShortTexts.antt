@@ -2,7 +2,7 @@
 use Rattle.std.proofs.Common.{◌≡◌, ℕ, zero, suc, pos, Bool, true, false, List, [], ◌∷◌, Option, None, Some, sym, subst, ap, ◌+◌, All, IfSome, if◌then◌else◌, slice_get, slice_index_or}
 use Rattle.std.proofs.lemmas.List.Elements.{All-nil, All-cons, All-head, All-tail, All-append, All-weaker}
 use Rattle.exectrace.specs.Trace.{TraceLine, Timer}
-use Rattle.taskscript.specs.{Words.word_text, Commands.CommandData, declared.word.Word.Word}
+use Rattle.script.specs.{Words.word_text, Commands.CommandData, declared.word.Word.Word}
 use Rattle.execlist.specs.Order.{first}
 use Rattle.scheduler.specs.Schedule.{name_of, Schedule}
 use Rattle.execmodel.specs.{State.Call, State.Scripts, State.Bodies, State.State, State.Outcome, State.quiet, State.says, State.andthen, State.unless_stopped, State.program_of, State.on_schedule, State.on_memory, Calls.call_at, Calls.call_after, Calls.call_in_body, Calls.next_call, Ports.performed, Bodies.body_step, Requests.answering_port, Requests.acting_at, Requests.with_reply, Requests.ended, Requests.finishes, Interrupts.softint_at, Interrupts.server_at}

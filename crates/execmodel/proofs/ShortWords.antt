@@ -2,7 +2,7 @@
 use Rattle.std.proofs.Common.{◌≡◌, ◌≤◌, Bool, true, false, cond, List, [], ◌∷◌, Option, Some, refl, subst, length, nat_le, find, IfSome, bytes_eq, leb-true}
 use Rattle.std.specs.List.{list_all}
 use Rattle.std.proofs.lemmas.Bool.{and_parts}
-use Rattle.taskscript.specs.{declared.word.Word.Word, Words.all_words, Words.word_text, WordTable.word_known}
+use Rattle.script.specs.{declared.word.Word.Word, Words.all_words, Words.word_text, WordTable.word_known}
 
 -- one that is found among those that all pass a test passes it too
 found_passes : {A : Type 0} (found passes : A → Bool) (xs : List A) → list_all passes xs ≡ true → IfSome (find found xs) (λ x. passes x ≡ true)

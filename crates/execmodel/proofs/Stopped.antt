@@ -1,7 +1,7 @@
 -- A machine that an alert has stopped does nothing.
 use Rattle.std.proofs.Common.{◌≡◌, ℕ, zero, suc, Bool, true, false, List, [], ◌∷◌, ◌++◌, refl, ap, sym, ◌∙◌, if◌then◌else◌, append-nil}
-use Rattle.taskscript.specs.declared.event.Event.TheVariants.{Run, Tick, Irq}
-use Rattle.taskscript.specs.declared.event.Event.{Event}
+use Rattle.script.specs.declared.event.Event.TheVariants.{Run, Tick, Irq}
+use Rattle.script.specs.declared.event.Event.{Event}
 use Rattle.execmodel.specs.{State.State, State.Outcome, State.quiet, State.andthen, State.unless_stopped, Pending.source_named, Step.acts, Step.settle, Step.step, Step.steps, Step.request, Step.tick, Step.ticks, Step.event, Step.events}
 use Rattle.softint.specs.declared.source.Source.{Source}
 

@@ -4,9 +4,9 @@ use Rattle.std.proofs.lemmas.Int.{ints}
 use Rattle.execlist.specs.Disciplines.{by_arrival}
 use Rattle.softint.specs.declared.source.Source.TheVariants.{Vertb}
 use Rattle.iorequest.specs.Request.{sets_time, time_of}
-use Rattle.taskscript.specs.{declared.word.Word.Word, declared.word.requests.RequestWord.RequestWord}
-use Rattle.taskscript.specs.declared.word.Word.TheVariants as group
-use Rattle.taskscript.specs.declared.word.requests.RequestWord.TheVariants as requests
+use Rattle.script.specs.{declared.word.Word.Word, declared.word.requests.RequestWord.RequestWord}
+use Rattle.script.specs.declared.word.Word.TheVariants as group
+use Rattle.script.specs.declared.word.requests.RequestWord.TheVariants as requests
 use Rattle.timerdev.specs.Timing.{offset}
 use Rattle.execmodel.specs.{State.Call, State.Timer, State.State, State.quiet, State.andthen, State.on_schedule, Calls.argument, Calls.next_call, Pending.next_softint, Requests.request_of, Requests.finishes_set, Requests.does_requests, Step.switches, Step.settle, Step.ends, Step.call_step, Step.task_step, Step.softint_or_task_step, Step.acting, Step.acts, Step.step, Step.tick, Step.request, Step.run, Laws.Action as Act, Laws.OneStep, Laws.OneTick, Laws.OneRequest, Laws.outcome_of, Laws.IsSetting, Laws.SystemTimeGoesWithTheClock}
 use Rattle.scheduler.specs.Dispatch.{rescheduled}

@@ -3,8 +3,8 @@ use Rattle.std.proofs.Common.{[], ◌≡◌, ℕ, Bool, true, false, List, Optio
 use Rattle.execmodel.specs.Calls.{argument, done, answered, waiting, silent, alerted, ByBody, unless_by, alerted_by, Caller, ByTask, stored, stored_shared, goes_on, done_by, answered_by, silent_by, call_in_body}
 use Rattle.execmodel.specs.Ports.{port_created, port_alert, messages_of, content_of, put_alert, reply_alert, looked, delivered, taken_by, replied_by, does_put_msg_by, does_get_msg_by, does_reply_msg_by, port_rules}
 use Rattle.execmodel.specs.{State.Call, State.State, State.Outcome, State.quiet, State.on_schedule, State.Program, State.Scripts, State.Mark, State.leaving, State.no_program, Causing.does_cause_by, Requests.answering_port, Requests.with_reply, Requests.looks_for, Requests.aborts, Plain.jumps, Signals.signal_alert, Signals.waited, Signals.does_signal_by, Nesting.gives_nesting, Nesting.nest_alert, Tasks.ends_other, Semaphores.awaited_by, Semaphores.leaving_queue, Semaphores.obtains, Semaphores.passes, Pending.causes, Bodies.does_plain_by, Bodies.does_signals_by, Bodies.does_ports_by, Bodies.does_interrupts_by, Bodies.does_word_by, Bodies.body_step, Bodies.does_in_body, Keeping.without_progress_of}
-use Rattle.taskscript.specs.declared.variable.Variable.TheVariants.{Private, Shared}
-use Rattle.taskscript.specs.{declared.word.Word.Word, declared.word.task_signals.SignalWord.SignalWord, declared.word.ports.PortWord.PortWord, declared.word.interrupts.InterruptWord.InterruptWord, declared.word.plain.PlainWord.PlainWord, declared.variable.Variable.Variable, Words.word_text, Commands.CommandData}
+use Rattle.script.specs.declared.variable.Variable.TheVariants.{Private, Shared}
+use Rattle.script.specs.{declared.word.Word.Word, declared.word.task_signals.SignalWord.SignalWord, declared.word.ports.PortWord.PortWord, declared.word.interrupts.InterruptWord.InterruptWord, declared.word.plain.PlainWord.PlainWord, declared.variable.Variable.Variable, Words.word_text, Commands.CommandData}
 use Rattle.execlist.specs.Order.{first}
 use Rattle.scheduler.specs.Schedule.{name_of, nested}
 use Rattle.forbid.specs.Nesting.{Nesting}
@@ -17,11 +17,11 @@ use Rattle.exectrace.specs.Trace as trace
 use Rattle.std.proofs.lemmas.List.Elements.{All-nil, All-cons}
 use Rattle.execmodel.proofs.Commands.{performed_scripts, IsAltered, rested, done_alters, silent_alters, signal_alters, put_alters, get_alters, reply_alters, cause_alters}
 use Rattle.execmodel.proofs.{ShortLines.IsShortText, ShortCalls.IsBrief, ShortCalls.HasArguments, ShortAlerts.IsShortAlert, ShortAlerts.coded, ShortAlerts.short_codes, Keeping.goes_on_keeps, Keeping.stored_keeps, Keeping.kept_keeps}
-use Rattle.taskscript.specs.declared.word.Word.TheVariants as group
-use Rattle.taskscript.specs.declared.word.plain.PlainWord.TheVariants as plain
-use Rattle.taskscript.specs.declared.word.task_signals.SignalWord.TheVariants as signals
-use Rattle.taskscript.specs.declared.word.ports.PortWord.TheVariants as ports
-use Rattle.taskscript.specs.declared.word.interrupts.InterruptWord.TheVariants as causing
+use Rattle.script.specs.declared.word.Word.TheVariants as group
+use Rattle.script.specs.declared.word.plain.PlainWord.TheVariants as plain
+use Rattle.script.specs.declared.word.task_signals.SignalWord.TheVariants as signals
+use Rattle.script.specs.declared.word.ports.PortWord.TheVariants as ports
+use Rattle.script.specs.declared.word.interrupts.InterruptWord.TheVariants as causing
 
 -- ---- programs
 

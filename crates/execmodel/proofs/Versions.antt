@@ -2,7 +2,7 @@
 use Rattle.std.proofs.Common.{◌≡◌, ℕ, Bool, true, false, List, [], ◌∷◌, Option, None, Some, refl, sym, ap, ◌∙◌, not, ◌&&◌, if◌then◌else◌, nat_eq, is_some, length}
 use Rattle.std.specs.List.{range_with_len}
 use Rattle.execlist.specs.Disciplines.{by_arrival}
-use Rattle.taskscript.specs.{declared.word.Word.Word, File.MachineData}
+use Rattle.script.specs.{declared.word.Word.Word, File.MachineData}
 use Rattle.execmodel.specs.{State.Call, State.Object, State.Memory, State.State, State.andthen, State.on_schedule, State.booted, Objects.is_allowed, Loaded.base_of, GivingWay.asked_each, GivingWay.after_asking, GivingWay.after_asking_for_object, Memory.place_for, Ports.is_port, Ports.port_size, Ports.after_asking_for_port, Libraries.library_at, Libraries.ready_to_load, Libraries.ready_to_open, Step.ends, Step.switches, Step.starts, Step.run, Laws.LibrariesAreAskedInVersionTwo, Laws.UnaskedMemoryStays, Laws.AskingChangesTheBlocks}
 use Rattle.scheduler.specs.Dispatch.{rescheduled}
 use Rattle.execlib.specs.Libraries.{public_memory}

@@ -6,7 +6,7 @@ use Rattle.taskq.specs.declared.TaskState.TheVariants.{Absent, Running, Removed,
 use Rattle.taskq.specs.{Tasks.Tasks, Tasks.is_live, declared.TaskState.TaskState, declared.Why.TheVariants.Signals}
 use Rattle.scheduler.specs.Schedule.{Schedule, status_of, signals_of, is_absent, awaits, begins, renewed, is_switching_allowed, is_quantum_over, leaves as leaves_for_good, removed, departs, ticked, ticked_for, waits_for, waits_at_semaphore, with_signals}
 use Rattle.scheduler.specs.{declared.Switch.Switch, declared.Switch.TheVariants.To, declared.Switch.TheVariants.Idle, Dispatch.arrives, Dispatch.added, Dispatch.displaced, Dispatch.after_switch, Dispatch.rescheduled, Dispatch.switch_of, Dispatch.signalled}
-use Rattle.taskscript.specs.{File.MachineData, Machines.IsMachine, declared.event.Event.Event, Commands.CommandData}
+use Rattle.script.specs.{File.MachineData, Machines.IsMachine, declared.event.Event.Event, Commands.CommandData}
 use Rattle.execmodel.specs.{State.Call, State.Mark, State.State, State.Outcome, State.on_schedule, State.begun, State.booted, State.andthen, Calls.next_call, Bodies.body_step, Semaphores.waiters_of, Step.switches, Step.ends, Step.starts, Step.events, Step.run, Marks.semaphore_turn, Marks.turns_at_semaphore, Laws.QueuesAgreeWithTheSchedule, Laws.SemaphoresPassInOrder, Laws.times_waiting, Requests.finishes}
 use Rattle.execlist.specs.{Lists.times, Disciplines.by_arrival}
 use Rattle.execmodel.proofs.Agreement.{AllAgree, all_absent, absent_agrees, alike_agrees, rearrives_agrees, added_agrees, signalled_agrees, stops_agrees, asks_agrees, wakes_agrees, removed_agrees, rescheduled_agrees, waits_at, running_state}

@@ -9,7 +9,7 @@ use Rattle.scheduler.specs.Schedule.{after_wait, allocates as allocates_signal, 
 use Rattle.scheduler.specs.Dispatch.{added, reprioritized, signalled}
 use Rattle.sigsem.specs.Semaphores.{free_sem, is_last, is_open, outcome_for}
 use Rattle.iorequest.specs.Request.{idle_request, is_under_way}
-use Rattle.taskscript.specs.{declared.word.Word.Word, declared.word.interrupts.InterruptWord.InterruptWord, declared.word.libraries.LibraryWord.LibraryWord, declared.word.lists.ListWord.ListWord, declared.word.memory.MemoryWord.MemoryWord, declared.word.nesting.NestingWord.NestingWord, declared.word.plain.PlainWord.PlainWord, declared.word.ports.PortWord.PortWord, declared.word.requests.RequestWord.RequestWord, declared.word.semaphores.SemaphoreWord.SemaphoreWord, declared.word.task_signals.SignalWord.SignalWord, declared.word.tasks.TaskWord.TaskWord}
+use Rattle.script.specs.{declared.word.Word.Word, declared.word.interrupts.InterruptWord.InterruptWord, declared.word.libraries.LibraryWord.LibraryWord, declared.word.lists.ListWord.ListWord, declared.word.memory.MemoryWord.MemoryWord, declared.word.nesting.NestingWord.NestingWord, declared.word.plain.PlainWord.PlainWord, declared.word.ports.PortWord.PortWord, declared.word.requests.RequestWord.RequestWord, declared.word.semaphores.SemaphoreWord.SemaphoreWord, declared.word.task_signals.SignalWord.SignalWord, declared.word.tasks.TaskWord.TaskWord}
 use Rattle.exectrace.specs.Trace.{TraceLine}
 use Rattle.execmodel.specs.Keeping.{and_progress_of, without_progress_of, beside_interrupts, beside_memory, beside_nestings, beside_plain, beside_ports, beside_requests, beside_semaphores, beside_signals, beside_tasks, clock_alone, without_blocks, PlainWordsChangeScripts, SignalWordsChangeSignalsAndStates, NestingWordsChangeNestings, TaskWordsChangeStatesPrioritiesAndObjects, ListWordsChangeTheMemory, MemoryWordsChangeTheMemory, PortWordsChangePortsSignalsAndStates, SemaphoreWordsChangeStatesAndObjects, InterruptWordsChangeWhatIsCaused, LibraryWordsChangeTheMemory, RequestWordsChangeRequestsPortsSignalsAndStates}
 use Rattle.execmodel.specs.Libraries.{opening, close_alert, closed, count_of, does_libraries, is_delayed, is_library_at, library_alert, removed as library_removed, library_to_open, opened, ready_to_open, library_rules}
@@ -25,18 +25,18 @@ use Rattle.execmodel.proofs.Shifts.{Shifted, aborts_shift, added_shifts, answere
 use Rattle.execmodel.proofs.Telling.{Tells, aborts_tells, alerted_tells, answered_tells, cause_tells, counted_tells, created_tells, done_tells, ended_tells, get_tells, jumps_tells, looked_tells, looks_tells, obtains_tells, passes_tells, put_tells, reply_tells, replying_tells, signal_tells, silent_tells, waited_tells}
 use Rattle.execmodel.proofs.Works.{Works, aborts_works, begins_works, by_asking, by_moves, created_works, goes_there, is_resting_there, is_settable_there, may_do, may_send, resting_rewritten, sends_works, waits_works}
 use Rattle.execmodel.proofs.{Asking.writes, Deeds.placed_same, GivingWay.asking_for_object_keeps, GivingWay.asking_for_port_keeps, GivingWay.either_memory, GivingWay.ready_keeps, GivingWay.removed_keeps, Setting.Leaves, Setting.aborts_same, Setting.begun_leaves, Setting.looks_same, Setting.sends_leaves, ShortAlerts.IsShortAlert, ShortAlerts.coded, ShortAlerts.short_codes, ShortAlerts.state_short, ShortAlerts.uncoded, Taking.after_asking_taking}
-use Rattle.taskscript.specs.declared.word.Word.TheVariants as group
-use Rattle.taskscript.specs.declared.word.plain.PlainWord.TheVariants as plain
-use Rattle.taskscript.specs.declared.word.task_signals.SignalWord.TheVariants as signals
-use Rattle.taskscript.specs.declared.word.nesting.NestingWord.TheVariants as nesting
-use Rattle.taskscript.specs.declared.word.tasks.TaskWord.TheVariants as tasks
-use Rattle.taskscript.specs.declared.word.lists.ListWord.TheVariants as lists
-use Rattle.taskscript.specs.declared.word.memory.MemoryWord.TheVariants as memory
-use Rattle.taskscript.specs.declared.word.ports.PortWord.TheVariants as ports
-use Rattle.taskscript.specs.declared.word.semaphores.SemaphoreWord.TheVariants as semaphores
-use Rattle.taskscript.specs.declared.word.libraries.LibraryWord.TheVariants as libraries
-use Rattle.taskscript.specs.declared.word.requests.RequestWord.TheVariants as requests
-use Rattle.taskscript.specs.declared.word.interrupts.InterruptWord.TheVariants as interrupts
+use Rattle.script.specs.declared.word.Word.TheVariants as group
+use Rattle.script.specs.declared.word.plain.PlainWord.TheVariants as plain
+use Rattle.script.specs.declared.word.task_signals.SignalWord.TheVariants as signals
+use Rattle.script.specs.declared.word.nesting.NestingWord.TheVariants as nesting
+use Rattle.script.specs.declared.word.tasks.TaskWord.TheVariants as tasks
+use Rattle.script.specs.declared.word.lists.ListWord.TheVariants as lists
+use Rattle.script.specs.declared.word.memory.MemoryWord.TheVariants as memory
+use Rattle.script.specs.declared.word.ports.PortWord.TheVariants as ports
+use Rattle.script.specs.declared.word.semaphores.SemaphoreWord.TheVariants as semaphores
+use Rattle.script.specs.declared.word.libraries.LibraryWord.TheVariants as libraries
+use Rattle.script.specs.declared.word.requests.RequestWord.TheVariants as requests
+use Rattle.script.specs.declared.word.interrupts.InterruptWord.TheVariants as interrupts
 
 -- ---- what is known of every word
 

@@ -6,7 +6,7 @@ use Rattle.execlist.specs.Lists.{Key}
 use Rattle.msgport.specs.{Port.Port, declared.message.Message.Message as Content}
 use Rattle.sigsem.specs.declared.semaphore.Sem.{Sem}
 use Rattle.iorequest.specs.declared.request.Request.{Request as TimerRequest}
-use Rattle.taskscript.specs.File.{LibraryData}
+use Rattle.script.specs.File.{LibraryData}
 -- the request of each that waits is its address
 pub use Rattle.timerdev.specs.Timing.{Due, AtClock, AtSystem, Waiting, Timer}
 

@@ -1,12 +1,12 @@
 -- What the body of a software interrupt or of a server does (RKM Libraries, Exec Interrupts). A body runs to its end at once, or to an alert; it
 -- has the shared variables alone, prints under its own name, and no task makes its calls.
 use Rattle.std.specs.Prelude.{ℕ, List, [], ◌∷◌}
-use Rattle.taskscript.specs.declared.word.Word.TheVariants.{Plain, Signals, Ports, Interrupts}
-use Rattle.taskscript.specs.{declared.word.Word.Word, declared.word.plain.PlainWord.PlainWord, declared.word.task_signals.SignalWord.SignalWord, declared.word.ports.PortWord.PortWord, declared.word.interrupts.InterruptWord.InterruptWord, Commands.CommandData}
-use Rattle.taskscript.specs.declared.word.plain.PlainWord.TheVariants as plain
-use Rattle.taskscript.specs.declared.word.task_signals.SignalWord.TheVariants as signals
-use Rattle.taskscript.specs.declared.word.ports.PortWord.TheVariants as ports
-use Rattle.taskscript.specs.declared.word.interrupts.InterruptWord.TheVariants as interrupts
+use Rattle.script.specs.declared.word.Word.TheVariants.{Plain, Signals, Ports, Interrupts}
+use Rattle.script.specs.{declared.word.Word.Word, declared.word.plain.PlainWord.PlainWord, declared.word.task_signals.SignalWord.SignalWord, declared.word.ports.PortWord.PortWord, declared.word.interrupts.InterruptWord.InterruptWord, Commands.CommandData}
+use Rattle.script.specs.declared.word.plain.PlainWord.TheVariants as plain
+use Rattle.script.specs.declared.word.task_signals.SignalWord.TheVariants as signals
+use Rattle.script.specs.declared.word.ports.PortWord.TheVariants as ports
+use Rattle.script.specs.declared.word.interrupts.InterruptWord.TheVariants as interrupts
 use Rattle.execmodel.specs.{State.Call, State.State, State.Outcome, State.quiet, State.andthen, State.unless_stopped, Calls.Caller, Calls.ByBody, Calls.call_in_body, Calls.done_by, Plain.does_set_by, Plain.does_add_by, Plain.does_sub_by, Plain.does_and_by, Plain.does_or_by, Signals.does_signal_by, Ports.does_put_msg_by, Ports.does_get_msg_by, Ports.does_reply_msg_by, Causing.does_cause_by}
 
 -- ---- the words of a body; no body of a file has another one

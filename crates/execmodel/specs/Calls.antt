@@ -3,8 +3,8 @@
 use Rattle.std.specs.Prelude.{ℕ, ◌+◌, true, List, Option, None, Some, map, slice_get, slice_index_or, slice_set}
 use Rattle.exectrace.specs.Trace.{Argument, Value, Quoted, Done, Answers, Waits, Alert}
 use Rattle.exectrace.specs.Trace as trace
-use Rattle.taskscript.specs.declared.variable.Variable.TheVariants.{Private, Shared}
-use Rattle.taskscript.specs.{declared.variable.Variable.Variable, Commands.ArgumentData, Commands.number, Commands.variable, Commands.quoted, Commands.place, Commands.CommandData, Words.word_text}
+use Rattle.script.specs.declared.variable.Variable.TheVariants.{Private, Shared}
+use Rattle.script.specs.{declared.variable.Variable.Variable, Commands.ArgumentData, Commands.number, Commands.variable, Commands.quoted, Commands.place, Commands.CommandData, Words.word_text}
 use Rattle.scheduler.specs.Schedule.{name_of}
 use Rattle.execmodel.specs.State.{Call, Scripts, State, Outcome, quiet, says, program_of, with_program, on_scripts}
 

@@ -1,7 +1,7 @@
 -- Calls on interrupts (RKM Libraries, Exec Interrupts: software interrupts).
 use Rattle.std.specs.Prelude.{ℕ, [], unwrap_or}
-use Rattle.taskscript.specs.declared.word.interrupts.InterruptWord.{InterruptWord}
-use Rattle.taskscript.specs.declared.word.interrupts.InterruptWord.TheVariants as word
+use Rattle.script.specs.declared.word.interrupts.InterruptWord.{InterruptWord}
+use Rattle.script.specs.declared.word.interrupts.InterruptWord.TheVariants as word
 use Rattle.execmodel.specs.{State.Call, State.State, State.Outcome, Calls.Caller, Calls.ByTask, Calls.name_argument, Calls.done_by, Pending.causes, Pending.softint_named}
 
 -- Cause name: the software interrupt of that name is caused (autodoc exec.library/Cause)

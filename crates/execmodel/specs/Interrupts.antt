@@ -1,12 +1,13 @@
 -- How interrupts run (RKM Libraries, Exec Interrupts): software interrupts one a step, the servers of a source if it is served.
 use Rattle.std.specs.Prelude.{ℕ, ℤ, zero, suc, pos, false, if◌then◌else◌, List, [], ◌∷◌, Option, None, Some, length, map, filter, slice_index_or}
 use Rattle.std.specs.List.{range_with_len}
+use Rattle.exectrace.specs.Heard.{text_of_source}
 use Rattle.exectrace.specs.Trace.{Serve, Server, Softint}
 use Rattle.execlist.specs.{Order.chosen, Order.without, Disciplines.pri_at}
 use Rattle.softint.specs.{Sources.is_source, declared.source.Source.Source}
 use Rattle.softint.specs.declared.source.Source.TheVariants as source
-use Rattle.taskscript.specs.{File.SoftintData, File.ServerData, Sources.source_text}
-use Rattle.taskscript.specs.declared.source.Source.TheVariants as named
+use Rattle.script.specs.{File.SoftintData, File.ServerData}
+use Rattle.script.specs.declared.source.Source.TheVariants as named
 use Rattle.scheduler.specs.Schedule.{Schedule, ticked}
 use Rattle.execmodel.specs.{State.Bodies, State.State, State.Outcome, State.quiet, State.says, State.andthen, State.unless_stopped, State.on_schedule, State.on_pending, Pending.source_named, Pending.caused_no_more, Pending.with_latch_of, Pending.next_source, Bodies.runs_body, Requests.finishes_all_due}
 
@@ -69,12 +70,6 @@ runs_chain (k ∷ others) s =
     andthen (runs_server k) (unless_stopped (if (server_at k s.bodies).claim then quiet else runs_chain others)) s
 
 -- ---- serving
-
--- the text of a source
-abbrev pub text_of_source : Source → List ℕ
-text_of_source source.Ports = source_text named.Ports
-text_of_source source.Vertb = source_text named.Vertb
-text_of_source source.Exter = source_text named.Exter
 
 -- for VERTB the quantum of the running task loses one serving (project rule)
 abbrev pub serving_counted : Source → Schedule → Schedule

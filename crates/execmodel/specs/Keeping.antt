@@ -1,6 +1,6 @@
 -- What the words of a group leave as it is. An alert stops the machine, whatever the word.
 use Rattle.std.specs.Prelude.{◌≡◌, ℕ, false, [], None}
-use Rattle.taskscript.specs.{declared.word.plain.PlainWord.PlainWord, declared.word.task_signals.SignalWord.SignalWord, declared.word.nesting.NestingWord.NestingWord, declared.word.tasks.TaskWord.TaskWord, declared.word.lists.ListWord.ListWord, declared.word.memory.MemoryWord.MemoryWord, declared.word.ports.PortWord.PortWord, declared.word.semaphores.SemaphoreWord.SemaphoreWord, declared.word.interrupts.InterruptWord.InterruptWord, declared.word.libraries.LibraryWord.LibraryWord, declared.word.requests.RequestWord.RequestWord}
+use Rattle.script.specs.{declared.word.plain.PlainWord.PlainWord, declared.word.task_signals.SignalWord.SignalWord, declared.word.nesting.NestingWord.NestingWord, declared.word.tasks.TaskWord.TaskWord, declared.word.lists.ListWord.ListWord, declared.word.memory.MemoryWord.MemoryWord, declared.word.ports.PortWord.PortWord, declared.word.semaphores.SemaphoreWord.SemaphoreWord, declared.word.interrupts.InterruptWord.InterruptWord, declared.word.libraries.LibraryWord.LibraryWord, declared.word.requests.RequestWord.RequestWord}
 use Rattle.scheduler.specs.Schedule.{Schedule}
 use Rattle.execmodel.specs.{State.Call, State.Timer, State.Memory, State.Pending, State.Program, State.Scripts, State.State, State.Outcome, State.andthen, State.program_of, State.with_program, Plain.does_plain, Signals.does_signals, Nesting.does_nesting, Tasks.does_tasks, Lists.does_lists, Memory.does_memory, Ports.does_ports, Semaphores.does_semaphores, Causing.does_interrupts, Libraries.does_libraries, Requests.does_requests, Requests.finishes_set}
 

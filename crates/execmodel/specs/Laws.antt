@@ -1,19 +1,19 @@
 -- Laws of every run: of each machine that a file may state, and each list of events.
 use Rattle.std.specs.Prelude.{◌≡◌, ◌≢◌, ◌⊎◌, ℕ, zero, suc, ◌*◌, ◌≤◌, ◌<◌, ◌≤ℤ◌, map, sum_by, length, Bool, true, false, nat_eq, bit_and, count_by, All, List, [], ◌∷◌, ◌++◌, Option, None, Some, is_some, slice_get, codes, option_map}
 use Rattle.exectrace.specs.Trace.{Argument, Value, Quoted, Switch, Serve, TraceLine, printed_line}
-use Rattle.taskscript.specs.declared.word.libraries.LibraryWord.TheVariants.{CloseLibrary, RemLibrary}
-use Rattle.taskscript.specs.{declared.word.row.Kind.Kind, Words.kinds, File.MachineData, Machines.IsMachine, declared.event.Event.Event, declared.word.Word.Word, declared.word.semaphores.SemaphoreWord.TheVariants.ReleaseSemaphore, declared.word.memory.MemoryWord.TheVariants.FreeMem, Events.ticks as event_ticks}
-use Rattle.taskscript.specs.declared.word.row.Kind.TheVariants as kind
+use Rattle.script.specs.declared.word.libraries.LibraryWord.TheVariants.{CloseLibrary, RemLibrary}
+use Rattle.script.specs.{declared.word.row.Kind.Kind, Words.kinds, File.MachineData, Machines.IsMachine, declared.event.Event.Event, declared.word.Word.Word, declared.word.semaphores.SemaphoreWord.TheVariants.ReleaseSemaphore, declared.word.memory.MemoryWord.TheVariants.FreeMem, Events.ticks as event_ticks}
+use Rattle.script.specs.declared.word.row.Kind.TheVariants as kind
 use Rattle.memlist.specs.{declared.region.Region.Region, Pieces.AreDisjoint, Pieces.IsTiled}
 use Rattle.execlist.specs.{Order.chosen, Disciplines.pri_at, Lists.times}
 use Rattle.signals.specs.Signals.{has_signal}
 use Rattle.taskq.specs.{declared.TaskState.TheVariants.Waiting, declared.Why.TheVariants.Signals}
 use Rattle.scheduler.specs.Schedule.{Schedule, name_of, priority_of, status_of, signals_of, is_switching_allowed}
 use Rattle.softint.specs.{declared.source.Source.Source, declared.source.Source.TheVariants.Vertb, Sources.is_latched}
-use Rattle.taskscript.specs.declared.word.Word.TheVariants as group
-use Rattle.taskscript.specs.declared.word.task_signals.SignalWord.TheVariants as signals
-use Rattle.taskscript.specs.declared.word.ports.PortWord.TheVariants as ports
-use Rattle.taskscript.specs.declared.word.requests.RequestWord.TheVariants as requests
+use Rattle.script.specs.declared.word.Word.TheVariants as group
+use Rattle.script.specs.declared.word.task_signals.SignalWord.TheVariants as signals
+use Rattle.script.specs.declared.word.ports.PortWord.TheVariants as ports
+use Rattle.script.specs.declared.word.requests.RequestWord.TheVariants as requests
 use Rattle.execmodel.specs.State.{Call, Scripts, Object, Plain, Block, Heap, Memory, Waiting as Queued, Mark, State, Outcome, on_schedule, on_memory, on_pending, on_timer, booted}
 use Rattle.execmodel.specs.{Calls.argument, Calls.alerted, Calls.next_call, Calls.call_in_body, Keeping.without_blocks, GivingWay.gives_way, GivingWay.after_asking, GivingWay.after_asking_for_object, Libraries.is_library_at, Libraries.number_of, Libraries.count_of, Libraries.is_delayed, Libraries.ready_to_open, Memory.block_at, Memory.extents, Memory.place_for, Memory.does_memory, Objects.object_at, Ports.is_port_at, Ports.messages_of, Ports.after_asking_for_port, Requests.request_of, Semaphores.sem_of, Semaphores.waiters_of, Pending.allows_interrupts, Pending.next_softint, Pending.with_latch_of, Interrupts.interrupts, Interrupts.runs_softint, Interrupts.softint_at, Interrupts.server_at, Step.does, Step.ends, Step.acts, Step.step, Step.tick, Step.request, Step.settle, Step.switches, Step.all_added, Step.starts, Step.events, Step.run, Agreement.Agrees, Agreement.once_if, Queues.IsInOrder, Marks.turns_at_port, Marks.turns_at_semaphore}
 use Rattle.iorequest.specs.Request.{is_under_way, sets_time, time_of}

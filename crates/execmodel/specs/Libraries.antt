@@ -2,8 +2,8 @@
 -- library has is the alert HANDLE; a library that is closed more often than opened is the alert LIB (project rule).
 use Rattle.std.specs.Prelude.{ℕ, ◌+◌, ◌-◌, Bool, false, not, ◌&&◌, if◌then◌else◌, nat_eq, nat_le, bytes_eq, unwrap_or, slice_index_or, codes, List, [], Option, None, Some, ⊤, option_and_then}
 use Rattle.std.specs.{List.position_from, Option.option_map_or}
-use Rattle.taskscript.specs.{File.LibraryData, declared.word.libraries.LibraryWord.LibraryWord}
-use Rattle.taskscript.specs.declared.word.libraries.LibraryWord.TheVariants as word
+use Rattle.script.specs.{File.LibraryData, declared.word.libraries.LibraryWord.LibraryWord}
+use Rattle.script.specs.declared.word.libraries.LibraryWord.TheVariants as word
 use Rattle.execmodel.specs.{State.Call, State.Library, State.Heap, State.Memory, State.State, State.Outcome, State.on_memory, State.on_heap, Calls.argument, Calls.name_argument, Calls.done, Calls.answered, Calls.unless, Places.freed, Places.place_for, Places.placed, GivingWay.after_asking}
 use Rattle.execlib.specs.Libraries.{public_memory, most_openings, only_if}
 unfoldable pub use Rattle.execmodel.specs.Loaded.{is_library, is_library_at, library_number, count_in, delayed_in, number_of, count_of, is_delayed, with_library, is_numbered, base_of, removed}

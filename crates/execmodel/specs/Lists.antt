@@ -4,8 +4,8 @@
 use Rattle.std.specs.Prelude.{ℕ, zero, suc, ℤ, Bool, true, false, not, ◌-◌, ◌==◌, if◌then◌else◌, nat_eq, is_some, length, map, take, drop, find, unwrap_or, codes, List, [], ◌∷◌, ◌++◌, Option, None, Some, ⊤}
 use Rattle.std.specs.{List.list_any, Int.cast_signed, Int.w32}
 use Rattle.execlist.specs.{Order.enqueue, Order.first, Order.without, Lists.Key, Lists.blank, Lists.last, Lists.name_is, Lists.part_after, Lists.part_before, Lists.put_after}
-use Rattle.taskscript.specs.declared.word.lists.ListWord.{ListWord}
-use Rattle.taskscript.specs.declared.word.lists.ListWord.TheVariants as word
+use Rattle.script.specs.declared.word.lists.ListWord.{ListWord}
+use Rattle.script.specs.declared.word.lists.ListWord.TheVariants as word
 use Rattle.execmodel.specs.{State.Call, State.Object, State.ListHead, State.Node, State.Block, State.Heap, State.State, State.Outcome, Calls.argument, Calls.name_argument, Deeds.Deed, Deeds.performs, Deeds.changes, Deeds.takes, Deeds.reads, Deeds.frees, Deeds.makes, Objects.object_at, Objects.is_kind, Tasks.is_priority}
 
 -- ---- lists and nodes in memory

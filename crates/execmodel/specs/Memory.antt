@@ -1,8 +1,8 @@
 -- Memory (RKM Libraries, Exec Memory Allocation): blocks that AllocMem gives and FreeMem takes back.
 use Rattle.std.specs.Prelude.{ℕ, Bool, true, false, not, ◌&&◌, if◌then◌else◌, nat_eq, nat_lt, bit_and, codes, List, Option, None, Some, unwrap_or}
 use Rattle.memlist.specs.Fit.{avail, asks, round}
-use Rattle.taskscript.specs.declared.word.memory.MemoryWord.{MemoryWord}
-use Rattle.taskscript.specs.declared.word.memory.MemoryWord.TheVariants as word
+use Rattle.script.specs.declared.word.memory.MemoryWord.{MemoryWord}
+use Rattle.script.specs.declared.word.memory.MemoryWord.TheVariants as word
 use Rattle.execmodel.specs.{State.Call, State.Object, State.Plain, State.Block, State.Heap, State.State, State.Outcome, State.on_memory, Calls.argument, Calls.answered, Deeds.Deed, Deeds.performs, Deeds.allots, Deeds.frees, Objects.place_for_object, GivingWay.after_asking}
 pub use Rattle.execmodel.specs.Places.{block_at, extents, place_for, placed, freed}
 

@@ -3,8 +3,8 @@
 use Rattle.std.specs.Prelude.{ℕ, Bool, not, if◌then◌else◌, codes, List, Option, None, Some, ⊤, is_some}
 use Rattle.forbid.specs.Nesting.{Nesting, after_forbid, after_permit, after_disable, after_enable}
 use Rattle.scheduler.specs.Schedule.{nesting_of, nested}
-use Rattle.taskscript.specs.declared.word.nesting.NestingWord.{NestingWord}
-use Rattle.taskscript.specs.declared.word.nesting.NestingWord.TheVariants as word
+use Rattle.script.specs.declared.word.nesting.NestingWord.{NestingWord}
+use Rattle.script.specs.declared.word.nesting.NestingWord.TheVariants as word
 use Rattle.execmodel.specs.{State.Call, State.State, State.Outcome, State.on_schedule, Calls.done, Calls.unless}
 
 -- the alert of such a call: the count has no room for it

@@ -6,8 +6,8 @@ use Rattle.std.specs.List.{list_any, position_or_len}
 use Rattle.execlist.specs.{Order.without, Disciplines.Discipline, Disciplines.by_arrival, Disciplines.pri_at}
 use Rattle.softint.specs.{Sources.with_latch, Sources.highest, declared.source.Source.Source}
 use Rattle.softint.specs.declared.source.Source.TheVariants as source
-use Rattle.taskscript.specs.{declared.source.Source.Source as Named, File.SoftintData}
-use Rattle.taskscript.specs.declared.source.Source.TheVariants as named
+use Rattle.script.specs.{declared.source.Source.Source as Named, File.SoftintData}
+use Rattle.script.specs.declared.source.Source.TheVariants as named
 use Rattle.scheduler.specs.Schedule.{Schedule, is_interrupting_allowed}
 use Rattle.execmodel.specs.State.{Pending, State, on_pending}
 

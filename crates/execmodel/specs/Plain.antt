@@ -1,7 +1,7 @@
 -- Plain words: they set variables, calculate, jump and print, and ask nothing of Exec (project rule).
 use Rattle.std.specs.Prelude.{ℕ, ◌+◌, ◌-◌, ◌%◌, ◌^◌, if◌then◌else◌, nat_eq, bit_and, bit_or, ⊤}
-use Rattle.taskscript.specs.declared.word.plain.PlainWord.{PlainWord}
-use Rattle.taskscript.specs.declared.word.plain.PlainWord.TheVariants as word
+use Rattle.script.specs.declared.word.plain.PlainWord.{PlainWord}
+use Rattle.script.specs.declared.word.plain.PlainWord.TheVariants as word
 use Rattle.execmodel.specs.{State.Call, State.State, State.Outcome, State.quiet, State.on_scripts, Calls.Caller, Calls.ByTask, Calls.argument, Calls.done, Calls.silent_by, Calls.goes_on}
 
 -- Set a: answers a

@@ -11,8 +11,8 @@ use Rattle.msgport.specs.declared.action.PortAction.TheVariants.{Signal, Cause, 
 use Rattle.msgport.specs.{declared.action.Action.Action, declared.action.PortAction.PortAction, declared.message.Message.Message as Content, Port.Port, Port.acting, Port.new_port, Port.wait_bit, Ports.new_message, Ports.nt_freemsg, Ports.nt_message, Ports.nt_replymsg}
 use Rattle.msgport.specs.declared.action.Action.TheVariants as action
 use Rattle.iorequest.specs.Request.{is_under_way}
-use Rattle.taskscript.specs.declared.word.ports.PortWord.{PortWord}
-use Rattle.taskscript.specs.declared.word.ports.PortWord.TheVariants as word
+use Rattle.script.specs.declared.word.ports.PortWord.{PortWord}
+use Rattle.script.specs.declared.word.ports.PortWord.TheVariants as word
 use Rattle.execmodel.specs.State.{Call, Object, MsgPort, Message, Request, Block, Heap, PublicPort, Memory, State, Outcome, put, got, leaving, on_schedule, on_memory, on_heap}
 use Rattle.execmodel.specs.{Calls.Caller, Calls.ByTask, Calls.argument, Calls.name_argument, Calls.done, Calls.done_by, Calls.answered, Calls.answered_by, Calls.waiting, Calls.unless, Calls.unless_by, Pending.causes, Pending.softint_named, GivingWay.after_asking_for_object, Memory.makes_object, Memory.freed, Memory.placed, Objects.object_at, Objects.is_kind, Objects.place_for_object, Objects.replaced, Tasks.is_priority}
 

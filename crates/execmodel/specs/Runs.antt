@@ -1,21 +1,21 @@
 -- Small machines and their whole traces, as the definitions compute them: a few, one for the chief rule of each group of words.
 use Rattle.std.specs.Prelude.{◌≡◌, ℕ, ℤ, true, false, pos, negsuc, List, [], ◌∷◌, None, Some, codes}
 use Rattle.exectrace.specs.Trace.{printed}
-use Rattle.taskscript.specs.declared.word.Word.TheVariants.{Plain, Signals, Nesting, Tasks, Memory, Lists, Ports, Semaphores, Interrupts, Libraries, Requests}
-use Rattle.taskscript.specs.declared.word.plain.PlainWord.TheVariants.{Set, Add, Sub, And, JumpZ, Print}
-use Rattle.taskscript.specs.declared.word.task_signals.SignalWord.TheVariants.{Signal, Wait, SetSignal}
-use Rattle.taskscript.specs.declared.word.nesting.NestingWord.TheVariants.{Forbid, Permit, Disable, Enable}
-use Rattle.taskscript.specs.declared.word.tasks.TaskWord.TheVariants.{SetTaskPri, AddTask, RemTask, FindTask}
-use Rattle.taskscript.specs.declared.variable.Variable.TheVariants.{Private, Shared}
-use Rattle.taskscript.specs.declared.event.Event.TheVariants.{Run, Tick, Irq}
-use Rattle.taskscript.specs.declared.word.requests.RequestWord.TheVariants.{CreateIORequest, OpenDevice, SetIO, DoIO, SendIO, CheckIO, WaitIO, AbortIO, IOMicros, IOError, IOFlags, DeleteIORequest}
-use Rattle.taskscript.specs.declared.word.libraries.LibraryWord.TheVariants.{OpenLibrary, CloseLibrary, RemLibrary, LibOpenCnt}
-use Rattle.taskscript.specs.declared.word.memory.MemoryWord.TheVariants.{AllocMem, AvailMem}
-use Rattle.taskscript.specs.declared.word.lists.ListWord.TheVariants.{NewList, FreeList, NewNode, AddHead, Enqueue, First, Last, Succ}
-use Rattle.taskscript.specs.declared.word.ports.PortWord.TheVariants.{CreateMsgPort, DeleteMsgPort, AddPort, RemPort, FindPort, PortCause, NewMsg, MsgType, PutMsg, GetMsg, WaitPort, ReplyMsg, FreeMsg}
-use Rattle.taskscript.specs.declared.word.semaphores.SemaphoreWord.TheVariants.{NewSem, FreeSem, ObtainSemaphore, AttemptSemaphore, ReleaseSemaphore}
-use Rattle.taskscript.specs.{declared.word.Word.Word, declared.event.Event.Event, Commands.ArgumentData, Commands.number, Commands.variable, Commands.place, Commands.CommandData, Commands.quoted, File.MachineData, File.SoftintData, File.ServerData, File.TaskData, declared.source.Source.Source, declared.word.interrupts.InterruptWord.TheVariants.Cause, declared.word.requests.RequestWord.RequestWord, declared.word.libraries.LibraryWord.LibraryWord, declared.word.semaphores.SemaphoreWord.SemaphoreWord}
-use Rattle.taskscript.specs.declared.source.Source.TheVariants as source
+use Rattle.script.specs.declared.word.Word.TheVariants.{Plain, Signals, Nesting, Tasks, Memory, Lists, Ports, Semaphores, Interrupts, Libraries, Requests}
+use Rattle.script.specs.declared.word.plain.PlainWord.TheVariants.{Set, Add, Sub, And, JumpZ, Print}
+use Rattle.script.specs.declared.word.task_signals.SignalWord.TheVariants.{Signal, Wait, SetSignal}
+use Rattle.script.specs.declared.word.nesting.NestingWord.TheVariants.{Forbid, Permit, Disable, Enable}
+use Rattle.script.specs.declared.word.tasks.TaskWord.TheVariants.{SetTaskPri, AddTask, RemTask, FindTask}
+use Rattle.script.specs.declared.variable.Variable.TheVariants.{Private, Shared}
+use Rattle.script.specs.declared.event.Event.TheVariants.{Run, Tick, Irq}
+use Rattle.script.specs.declared.word.requests.RequestWord.TheVariants.{CreateIORequest, OpenDevice, SetIO, DoIO, SendIO, CheckIO, WaitIO, AbortIO, IOMicros, IOError, IOFlags, DeleteIORequest}
+use Rattle.script.specs.declared.word.libraries.LibraryWord.TheVariants.{OpenLibrary, CloseLibrary, RemLibrary, LibOpenCnt}
+use Rattle.script.specs.declared.word.memory.MemoryWord.TheVariants.{AllocMem, AvailMem}
+use Rattle.script.specs.declared.word.lists.ListWord.TheVariants.{NewList, FreeList, NewNode, AddHead, Enqueue, First, Last, Succ}
+use Rattle.script.specs.declared.word.ports.PortWord.TheVariants.{CreateMsgPort, DeleteMsgPort, AddPort, RemPort, FindPort, PortCause, NewMsg, MsgType, PutMsg, GetMsg, WaitPort, ReplyMsg, FreeMsg}
+use Rattle.script.specs.declared.word.semaphores.SemaphoreWord.TheVariants.{NewSem, FreeSem, ObtainSemaphore, AttemptSemaphore, ReleaseSemaphore}
+use Rattle.script.specs.{declared.word.Word.Word, declared.event.Event.Event, Commands.ArgumentData, Commands.number, Commands.variable, Commands.place, Commands.CommandData, Commands.quoted, File.MachineData, File.SoftintData, File.ServerData, File.TaskData, declared.source.Source.Source, declared.word.interrupts.InterruptWord.TheVariants.Cause, declared.word.requests.RequestWord.RequestWord, declared.word.libraries.LibraryWord.LibraryWord, declared.word.semaphores.SemaphoreWord.SemaphoreWord}
+use Rattle.script.specs.declared.source.Source.TheVariants as source
 use Rattle.memlist.specs.declared.region.Region.{Region}
 use Rattle.execmodel.specs.{Step.run, State.Mark, State.put, State.got, State.out, State.asked, State.passed, State.left}
 

@@ -8,8 +8,8 @@ use Rattle.scheduler.specs.{Schedule.waits_at_semaphore, Dispatch.arrives}
 use Rattle.sigsem.specs.declared.semaphore.Obtained.TheVariants.{Owner, Waits}
 use Rattle.sigsem.specs.Semaphores.{free_sem, is_last, is_open, is_owned, is_owner, is_too_deep, once_less, once_more, outcome_for, owned_next}
 use Rattle.sigsem.specs.{declared.semaphore.Sem.Sem, declared.semaphore.Obtained.Obtained}
-use Rattle.taskscript.specs.declared.word.semaphores.SemaphoreWord.{SemaphoreWord}
-use Rattle.taskscript.specs.declared.word.semaphores.SemaphoreWord.TheVariants as word
+use Rattle.script.specs.declared.word.semaphores.SemaphoreWord.{SemaphoreWord}
+use Rattle.script.specs.declared.word.semaphores.SemaphoreWord.TheVariants as word
 use Rattle.execmodel.specs.State.{Call, Scripts, Object, Semaphore, Block, Heap, State, Outcome, asked, passed, left, leaving, program_of, on_schedule, on_memory, on_heap}
 use Rattle.execmodel.specs.{Calls.argument, Calls.done, Calls.answered, Calls.waiting, Calls.unless, GivingWay.after_asking_for_object, Memory.makes_object, Memory.freed, Objects.object_at, Objects.is_kind, Objects.replaced}
 

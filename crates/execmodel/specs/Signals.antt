@@ -4,8 +4,8 @@ use Rattle.std.specs.Int.{cast_signed, cast_unsigned, w32}
 use Rattle.execlist.specs.Disciplines.{by_arrival}
 use Rattle.signals.specs.Signals.{grant, grant_number, is_own_signal}
 use Rattle.scheduler.specs.{Schedule.signals_of, Schedule.come_for, Schedule.after_wait, Schedule.allocates, Schedule.frees, Schedule.sets_signals, Dispatch.signalled}
-use Rattle.taskscript.specs.declared.word.task_signals.SignalWord.{SignalWord}
-use Rattle.taskscript.specs.declared.word.task_signals.SignalWord.TheVariants as word
+use Rattle.script.specs.declared.word.task_signals.SignalWord.{SignalWord}
+use Rattle.script.specs.declared.word.task_signals.SignalWord.TheVariants as word
 use Rattle.execmodel.specs.{State.Call, State.Scripts, State.State, State.Outcome, State.on_schedule, Calls.Caller, Calls.ByTask, Calls.argument, Calls.done, Calls.done_by, Calls.answered, Calls.waiting, Calls.unless, Calls.unless_by}
 
 -- there is a task of that number; the first one is 1

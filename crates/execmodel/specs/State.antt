@@ -2,7 +2,7 @@
 -- queue is a sequence in order of arrival.
 use Rattle.std.specs.Prelude.{ℕ, Bool, false, if◌then◌else◌, nat_eq, List, [], ◌∷◌, ◌++◌, Option, None, map, length, replicate, slice_index_or, slice_set}
 use Rattle.exectrace.specs.Trace.{Argument, TraceLine}
-use Rattle.taskscript.specs.{declared.word.Word.Word, declared.variable.Variable.Variable, Commands.CommandData, File.MachineData, File.SoftintData, File.ServerData, File.TaskData}
+use Rattle.script.specs.{declared.word.Word.Word, declared.variable.Variable.Variable, Commands.CommandData, File.MachineData, File.SoftintData, File.ServerData, File.TaskData}
 use Rattle.scheduler.specs.Schedule.{Schedule, unstarted}
 use Rattle.softint.specs.{Sources.no_latches, declared.latches.Latches.Latches}
 use Rattle.timerdev.specs.Timing.{new_timer}

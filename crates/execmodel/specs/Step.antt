@@ -3,9 +3,9 @@ use Rattle.std.specs.Prelude.{ℕ, zero, suc, true, if◌then◌else◌, List, [
 use Rattle.execlist.specs.Disciplines.{by_arrival}
 use Rattle.exectrace.specs.Trace.{Value, Done, Switch, Idle}
 use Rattle.exectrace.specs.Trace as trace
-use Rattle.taskscript.specs.declared.word.Word.TheVariants.{Plain, Signals, Nesting, Tasks, Lists, Memory, Ports, Semaphores, Interrupts, Libraries, Requests}
-use Rattle.taskscript.specs.declared.event.Event.TheVariants.{Run, Tick, Irq}
-use Rattle.taskscript.specs.{declared.word.Word.Word, declared.event.Event.Event, File.MachineData}
+use Rattle.script.specs.declared.word.Word.TheVariants.{Plain, Signals, Nesting, Tasks, Lists, Memory, Ports, Semaphores, Interrupts, Libraries, Requests}
+use Rattle.script.specs.declared.event.Event.TheVariants.{Run, Tick, Irq}
+use Rattle.script.specs.{declared.word.Word.Word, declared.event.Event.Event, File.MachineData}
 use Rattle.scheduler.specs.{Schedule.Schedule, Schedule.name_of, Schedule.leaves, declared.Switch.Switch as Choice, Dispatch.switch_of, Dispatch.rescheduled, Dispatch.added}
 use Rattle.scheduler.specs.declared.Switch.TheVariants as switch
 use Rattle.execmodel.specs.State.{Call, Scripts, State, Outcome, quiet, says, andthen, unless_stopped, program_of, on_schedule, on_memory, on_pending, on_timer, booted}

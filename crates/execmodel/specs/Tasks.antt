@@ -4,8 +4,8 @@ use Rattle.std.specs.Int.{cast_signed, cast_unsigned, w32}
 use Rattle.execlist.specs.Disciplines.{by_arrival}
 use Rattle.taskq.specs.Tasks.{is_live}
 use Rattle.scheduler.specs.{Schedule.Schedule, Schedule.status_of, Schedule.priority_of, Schedule.is_absent, Schedule.leaves, Schedule.removed, Schedule.found, Dispatch.added, Dispatch.reprioritized}
-use Rattle.taskscript.specs.declared.word.tasks.TaskWord.{TaskWord}
-use Rattle.taskscript.specs.declared.word.tasks.TaskWord.TheVariants as word
+use Rattle.script.specs.declared.word.tasks.TaskWord.{TaskWord}
+use Rattle.script.specs.declared.word.tasks.TaskWord.TheVariants as word
 use Rattle.execmodel.specs.{State.Call, State.Scripts, State.State, State.Outcome, State.on_schedule, State.on_memory, State.on_heap, Calls.argument, Calls.name_argument, Calls.done, Calls.answered, Calls.unless, Signals.is_task, Semaphores.awaited_by, Semaphores.dropped, Semaphores.leaving_queue}
 
 -- there is a live task of that number

@@ -1,6 +1,6 @@
 //! Laws of whole runs and of words: functions without effect whose contracts say what the definitions amount to.
 ghost use Rattle.std.specs.Prelude.{◌≡◌, true, List};
-ghost use Rattle.taskscript.specs.declared.event.Event.{Event};
+ghost use Rattle.script.specs.declared.event.Event.{Event};
 ghost use Rattle.execmodel.specs.Keeping.{PlainWordsChangeScripts, SignalWordsChangeSignalsAndStates, NestingWordsChangeNestings, TaskWordsChangeStatesPrioritiesAndObjects, ListWordsChangeTheMemory, MemoryWordsChangeTheMemory, PortWordsChangePortsSignalsAndStates, SemaphoreWordsChangeStatesAndObjects, InterruptWordsChangeWhatIsCaused, LibraryWordsChangeTheMemory, RequestWordsChangeRequestsPortsSignalsAndStates};
 ghost use Rattle.execmodel.specs.Laws.{FirstInFirstOut, EachByteHasOneOwner, FreeMemRefusesObjects, OwnersChangeAtTheLastRelease, FreeSemaphoresHaveNoWaiters, SemaphoresPassInOrder, QueuesAgreeWithTheSchedule, EachStateIsSettled, SwitchesGoToTheChosen, EachSwitchLineIsAChoice, OnlySwitchesSaySo, WaitersHaveReceivedNone, ReceivedSignalsStay, InterruptsKeepNestings, ThreeServingsAtMost, OpenLibrariesStay, LibrariesHaveOneBase, LibrariesAreAskedInVersionTwo, UnaskedLibrariesStay, UnaskedMemoryStays, AskingChangesTheBlocks, ReplyPortsLive, RequestsUnderWayWait, TheClockCountsTicks, SystemTimeGoesWithTheClock, CallsFitTheirWords, LinesAreShort, LibrariesGiveWayAsFarAsNeeded, OnlyClosedLibrariesGiveWay};
 ghost use Rattle.execmodel.specs.{State.State, State.Outcome, State.quiet, State.andthen, State.unless_stopped, Step.event, Step.events};

@@ -1,7 +1,7 @@
 -- The time that is left to a machine after each of some turns.
 use Rattle.std.proofs.Common.{◌≡◌, ℕ, suc, ◌+◌, ◌*◌, ◌<◌, List, length, get_or, drop, ap, ◌∙◌, arith, sum_by, suc-mul}
 use Rattle.std.proofs.lemmas.List.Sums.{sum_by-drop_more}
-use Rattle.taskscript.specs.{Events.ticks as ticks_of, declared.event.Event.Event}
+use Rattle.script.specs.{Events.ticks as ticks_of, declared.event.Event.Event}
 use Rattle.execsim.specs.{Agreement.Seen, Time.HasTimeFor}
 use Rattle.execsim.proofs.Clock.{time_for_fewer}
 

@@ -22,10 +22,11 @@ use exectrace::sinks::{put, written};
 use flows::write_flows;
 use notes::{write_calls, write_clock, write_served};
 use records::{Process, write_last, write_process};
+use script::Events;
 use slices::{Slices, write_threads};
 use std::alloc::{AllocError, Global};
 use taskq::TaskState;
-use taskscript::{Events, Listed};
+use taskscript::Listed;
 
 /// The beginning of the document.
 const HEAD: &str =

@@ -3,11 +3,11 @@ use crate::film::Shown;
 use crate::lines::{CallLine, TraceLine, read_line};
 use execsim::{ObjectView, TaskView};
 use msgport::action::PortAction;
-use std::alloc::AllocError;
-use taskq::{TaskId, TaskState};
-use taskscript::{
+use script::{
     InterruptWord, MachineFile, PortWord, RequestWord, SemaphoreWord, SignalWord, Source, Word,
 };
+use std::alloc::AllocError;
+use taskq::{TaskId, TaskState};
 
 /// Who does something.
 #[derive(Clone, Copy)]

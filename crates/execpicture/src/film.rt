@@ -1,16 +1,16 @@
 //! A run, one step and one tick at a time: after each of them a watcher sees the machine.
 ghost use Rattle.std.specs.Prelude.{◌≡◌, ◌+◌, ◌*◌, ℕ, false, sum_by, OnOk};
-ghost use Rattle.taskscript.specs.Events.{ticks as ticks_of};
+ghost use Rattle.script.specs.Events.{ticks as ticks_of};
 ghost use Rattle.execsim.specs.Time.{HasTimeFor};
 
 use crate::fault::PictureFault;
 use execlist::link::LinkSpace;
 use execsim::{Flow, Machine};
 use exectrace::WriteSink;
+use script::{Event, Events, MachineFile, Source};
 use std::alloc::Global;
 use std::{mem, str};
 use taskq::TaskId;
-use taskscript::{Event, Events, MachineFile, Source};
 
 /// The machine of a picture.
 pub(crate) type Shown = Machine<LinkSpace>;

@@ -1,5 +1,6 @@
 //! What a line of a trace says.
-use taskscript::{Word, number_of, word_of};
+use script::{Word, word_of};
+use taskscript::number_of;
 
 /// A call, as a line shows it.
 #[derive(Clone, Copy)]

@@ -4,8 +4,9 @@ use crate::lines::{CallLine, TraceLine, read_line};
 use crate::page::Page;
 use crate::page::Value::{Hex, Plain};
 use crate::seen::Kind;
+use script::{Command, PortWord, RequestWord, SemaphoreWord, Variable, Word};
 use std::alloc::{AllocError, Global};
-use taskscript::{Command, Listed, PortWord, RequestWord, SemaphoreWord, Variable, Word};
+use taskscript::Listed;
 
 /// An object that a call has made.
 #[derive(Drop)]

@@ -4,8 +4,8 @@ use crate::film::Shown;
 use execsim::{Call, ObjectView};
 use exectrace::ShortArg;
 use iorequest::request::ReqState;
+use script::{PortWord, RequestWord, SemaphoreWord, Word};
 use taskq::{TaskId, TaskState};
-use taskscript::{PortWord, RequestWord, SemaphoreWord, Word};
 
 /// What a task waits for in a call.
 #[derive(Clone, Copy, PartialEq)]

@@ -23,8 +23,9 @@ use crate::stretch::Stretch;
 use exectrace::Sink;
 use exectrace::sinks::{put, written};
 use plan::{object_rows, plan_of};
+use script::{Event, Events};
 use std::alloc::{AllocError, Global};
-use taskscript::{Event, Events, Listed};
+use taskscript::Listed;
 
 /// How many steps, ticks and requests a picture shows at most.
 pub const LIMIT: u32 = 200;

@@ -3,7 +3,8 @@ use Rattle.std.proofs.Common.{◌≡◌, ℕ, Bool, List, [], ◌∷◌, None, S
 use Rattle.std.proofs.KnownBytes.{Appends-nil}
 use Rattle.std.specs.Io.KnownBytes.{Appends, Keeps, WriteAppends}
 use Rattle.exectrace.specs.{Sink.Tape, declared.sinks.SinkState.SinkState, declared.sinks.SinkState.TheVariants.Good}
-use Rattle.taskscript.specs.{File.MachineData, File.file_of, Events.script_of, declared.event.Event.Event, declared.fault.FileFault.FileFault, declared.fault.EventFault.EventFault}
+use Rattle.script.specs.{File.MachineData, declared.event.Event.Event}
+use Rattle.taskscript.specs.{File.file_of, Events.script_of, declared.fault.FileFault.FileFault, declared.fault.EventFault.EventFault}
 use Rattle.execsim.specs.{Headline.Simulates, declared.simulation.End.End, declared.simulation.SimFault.SimFault}
 use Rattle.execsim.specs.declared.simulation.SimFault.TheVariants as fault
 use Rattle.execrun.specs.{Lending.named, Running.Held, Running.WritesTrace, Running.answer_of, declared.fault.Fault.Fault}

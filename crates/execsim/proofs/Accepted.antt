@@ -2,7 +2,7 @@
 use Rattle.std.proofs.Common.{◌≡◌, ◌≢◌, List, ℕ, [], ◌∷◌, ◌++◌, All, map, sym, ◌∙◌, subst, arith, AllPairs, length-append}
 use Rattle.std.proofs.lemmas.{List.get_or_append_left, List.length-map, List.Elements.All-nil, List.Elements.All-cons, List.Elements.All-head, List.Elements.All-tail}
 use Rattle.std.proofs.Math.ListN.{get_or-map as default_map}
-use Rattle.taskscript.specs.{File.MachineData, File.SoftintData, Machines.IsMachine, Machines.softint_names, Machines.server_names, Machines.task_names}
+use Rattle.script.specs.{File.MachineData, File.SoftintData, Machines.IsMachine, Machines.softint_names, Machines.server_names, Machines.task_names}
 
 module _ {X Y : Type 0} (P : Y → Type 0) (f : X → Y) where
   pub all_shown : (xs : List X) → All (λ x. P (f x)) xs → All P (map f xs)

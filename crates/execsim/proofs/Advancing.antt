@@ -1,11 +1,32 @@
 -- Steps that print nothing, and one before them.
-use Rattle.std.proofs.Common.{◌≡◌, ◌<◌, ◌+◌, ℕ, zero, suc, List, [], None, Some, refl, ap, sym, ◌∙◌, subst, arith, add-one, inl, inr, ◌≤◌, length, Bool, false, true, Result, Ok, Err, IfOk}
-use Rattle.exectrace.specs.{Sink.Tape, Sink.Puts, Sink.Writes, Trace.printed, declared.sinks.SinkState.TheVariants.Good, declared.sinks.WriteFault.WriteFault}
+use Rattle.std.proofs.Common.{◌≡◌, ◌<◌, ◌+◌, ℕ, zero, suc, List, [], ◌++◌, None, Some, refl, ap, sym, ◌∙◌, subst, arith, add-one, inl, inr, ◌≤◌, length, Bool, false, true, Result, Ok, Err, IfOk}
+use Rattle.exectrace.specs.Printing.{printing}
+use Rattle.exectrace.specs.{Sink.Writes, Sink.Tape, Trace.printed, declared.sinks.SinkState.TheVariants.Good, declared.sinks.WriteFault.WriteFault}
 use Rattle.exectrace.proofs.Pieces.{puts_written}
-use Rattle.taskscript.specs.declared.event.Event.TheVariants.{Run}
+use Rattle.script.specs.declared.event.Event.TheVariants.{Run}
 use Rattle.execmodel.specs.{State.Memory, State.Outcome, State.State, State.andthen, Step.event, Step.step, Step.steps}
-use Rattle.execsim.specs.{Actions.softint_seen, Advancing.Advances, Advancing.Ends, Advancing.GoesSilently, Advancing.IsSilent, Advancing.StepsSilently, Agreement.Seen, Agreement.Agrees, Agreement.Follows, Callers.HasTask, Changes.ChangesScripts, Headline.Shown, Resting.IsSettled, Resting.Rests, Time.HasTimeFor, Time.IsKnown}
-use Rattle.execsim.proofs.{Clock.steps_gain, Clock.time_left, Following.while_good, Reached.steps_reached, Settling.idle_step, Settling.no_step, Settling.settled_scripts, Settling.step_then, Settling.then_step}
+use Rattle.execsim.specs.{Actions.softint_seen, Advancing.Advances, Advancing.Ends, Advancing.GoesSilently, Advancing.IsSilent, Advancing.StepsSilently, Agreement.Seen, Agreement.Agrees, Agreement.Follows, Agreement.Quietly, Callers.HasTask, Changes.ChangesScripts, Headline.Shown, Resting.IsSettled, Resting.Rests, Time.HasTimeFor, Time.IsKnown}
+use Rattle.execsim.proofs.{Clock.steps_gain, Clock.time_left, Following.while_good, Following.follows_silence, Reached.steps_reached, Settling.idle_step, Settling.no_step, Settling.settled_scripts, Settling.step_then, Settling.then_step}
+use Rattle.exectrace.specs.Hearing.{Hearing}
+
+-- ---- whoever listens, by one listener that hears nothing
+
+abbrev pub silence : Hearing
+silence = record {
+  Told = Unit {0};
+  good = λ t. true;
+  hears = λ a b lines. lines ≡ [];
+  none = λ a. refl;
+  both = λ a b c xs ys p q. ap (λ l. l ++ ys) p ∙ q;
+  deaf = λ a b xs bad p. absurd cc;
+  ignores = λ a xs bad. absurd cc;
+}
+
+pub in_silence : {f : State → Outcome} {m n : Seen} → Quietly f m n → Follows silence f m n tt tt
+in_silence quietly = record { agrees = quietly.agrees; prints = quietly.quiet }
+
+pub quietly_by : {f : State → Outcome} {m n : Seen} → Follows silence f m n tt tt → Quietly f m n
+quietly_by follows = record { agrees = follows.agrees; quiet = follows.prints }
 
 -- ---- what changes
 
@@ -30,12 +51,10 @@ rests_after {t = t} changed before = record {
 
 -- ---- steps that print nothing
 
--- what leaves each tape as it is prints nothing
-prints_none : (bytes : List ℕ) → ((tape : Tape) → Puts tape tape bytes) → bytes ≡ []
-prints_none bytes puts = elim ((puts (record { taken = Some []; state = Good })).while_good refl) [
-  | inl all ↦ sym all.took
-  | inr broke ↦ elim broke.stopped [ inl failed ↦ cc | inr empty ↦ cc ]
-]
+-- what leaves a machine as it is says nothing
+quietly_no_step : (m : Seen) → Quietly (steps 0) m m
+unfolding steps
+quietly_no_step m = record { agrees = λ s e. e; quiet = λ s e. refl }
 
 -- as an event
 is_step : (s : State) → event (Run 1) s ≡ step s
@@ -56,13 +75,13 @@ silent_more (suc n) s before last =
     (before.0, silent_more n (step s).state before.1 (ap (λ (r : State). printed (step r).lines) (state_front n s) ∙ last))
 
 pub goes_nowhere : (m : Seen) → GoesSilently 0 m m
-goes_nowhere m = record { follows = no_step m; silent = λ s e. tt; changes = changes_nothing m }
+goes_nowhere m = record { follows = quietly_no_step m; silent = λ s e. tt; changes = changes_nothing m }
 
-pub goes_then : {m n o : Seen} (k : ℕ) → GoesSilently k m n → ChangesScripts n o → ((tape : Tape) → Follows step n o tape tape) → GoesSilently (k + 1) m o
+pub goes_then : {m n o : Seen} (k : ℕ) → GoesSilently k m n → ChangesScripts n o → Quietly step n o → GoesSilently (k + 1) m o
 goes_then k before changed last = record {
-  follows = λ tape. then_step k (before.follows tape) (last tape);
+  follows = quietly_by (then_step k (in_silence before.follows) (in_silence last));
   silent = λ s e. rw add-one (silent_more k s (before.silent s e)
-      (prints_none _ (λ tape. (last tape).prints (steps k s).state ((before.follows tape).agrees s e))));
+      (ap printed (last.quiet (steps k s).state (before.follows.agrees s e))));
   changes = changes_more before.changes changed;
 }
 
@@ -72,7 +91,7 @@ goes_idly {m} zero settled uncaused none = goes_nowhere m
 goes_idly {m} (suc k) settled uncaused none =
     let same : k + 1 ≡ suc k = omega arith in
     subst (λ (n : ℕ). GoesSilently n m m) same
-    (goes_then k (goes_idly k settled uncaused none) (changes_nothing m) (λ tape. idle_step settled tape uncaused none))
+    (goes_then k (goes_idly k settled uncaused none) (changes_nothing m) (quietly_by (idle_step settled tt uncaused none)))
 
 -- it is not known that a machine is settled
 pub not_known : {X : Type 0} → false ≡ true → X
@@ -80,9 +99,9 @@ not_known is = let bad : false ≡ true = is in absurd cc
 
 -- ---- and a step before them
 
-module _ {k : ℕ} {m n : Seen} {a b : Tape} (made : StepsSilently k m n a b) where
-  pub all_steps : Follows (steps (k + 1)) m n a b
-  all_steps = step_then k made.first (made.others.follows b)
+module _ {H : Hearing} {k : ℕ} {m n : Seen} {a b : H.Told} (made : StepsSilently H k m n a b) where
+  pub all_steps : Follows H (steps (k + 1)) m n a b
+  all_steps = step_then k made.first (follows_silence b made.others.follows)
 
   -- the machine goes on to a state that the abstract machine comes to
   pub known_after_steps : IsKnown m → IsKnown n
@@ -93,7 +112,7 @@ module _ {k : ℕ} {m n : Seen} {a b : Tape} (made : StepsSilently k m n a b) wh
   }
 
   -- no time is taken
-  pub time_stays : IsKnown m → a.state ≡ Good → b.state ≡ Good → (ticks : ℕ) → HasTimeFor ticks m → HasTimeFor ticks n
+  pub time_stays : IsKnown m → H.good a ≡ true → H.good b ≡ true → (ticks : ℕ) → HasTimeFor ticks m → HasTimeFor ticks n
   time_stays known good whole ticks enough =
       (time_left 0 ticks ticks (omega arith) (steps_gain (k + 1)) (steps_reached (k + 1)) (λ was. record { known = known; time = enough })
       (while_good good all_steps) whole).time
@@ -112,7 +131,7 @@ going_on : (k : ℕ) (failed : Bool) (result : Result ℕ WriteFault) → IfOk r
 going_on k failed (Ok n) is = is.1
 going_on k failed (Err why) is = _
 
-pub advances_by : {k more : ℕ} {old new : Shown} {a b : Tape} {result : Result ℕ WriteFault} → StepsSilently k old.seen new.seen a b → k ≤ more
+pub advances_by : {k more : ℕ} {old new : Shown} {a b : Tape} {result : Result ℕ WriteFault} → StepsSilently printing k old.seen new.seen a b → k ≤ more
     → a.state ≡ Good → Ends k new.failed b result → Advances more old new a b result
 advances_by {k} {more} {old} {new} {a} {b} {result} made within good ends = record {
   within = on_ok k new.failed result (λ n. n ≤ more) ends.going within;

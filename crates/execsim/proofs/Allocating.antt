@@ -1,13 +1,13 @@
 -- How the machine follows the words of memory.
 use Rattle.std.proofs.Common.{◌≡◌, ℕ, true, false, Option, None, Some, refl, sym, ◌∙◌, codes, unwrap_or}
-use Rattle.exectrace.specs.Sink.{Tape}
 use Rattle.memlist.specs.Fit.{avail}
-use Rattle.taskscript.specs.declared.word.memory.MemoryWord.TheVariants as words
+use Rattle.script.specs.declared.word.memory.MemoryWord.TheVariants as words
 use Rattle.execmodel.specs.Memory.{has_only, alloc_bits, can_be_asked, allocates, block_at, extents, is_named, place_for, placed, freed, alloc_alert, does_memory, memory_deed}
 use Rattle.execmodel.specs.{State.Call, State.Memory, State.Object, State.Plain, State.State, State.Outcome, State.on_memory, Calls.argument, Calls.done, Calls.answered, Calls.alerted, Deeds.performs, GivingWay.after_asking}
 use Rattle.execmodel.proofs.{Deeds.allotting, GivingWay.asking_keeps}
 use Rattle.execsim.specs.Agreement.{Seen, Follows, queues_in_order}
 use Rattle.execsim.proofs.{GivingWay.asking-in_order, Following.reads_memory, Following.moves_memory, Following.follows_as, Following.follows_change}
+use Rattle.exectrace.specs.Hearing.{Hearing}
 
 pub placed-in_order : (size : ℕ) (object : Object) (place : Option ℕ) (y : Memory)
     → placed size object place (queues_in_order y) ≡ queues_in_order (placed size object place y)
@@ -18,15 +18,15 @@ placed-in_order size object (Some address) y = refl
 abbrev takes_block : ℕ → Call → (size reqs : ℕ) → State → Outcome
 takes_block t call size reqs s = allocates t call size Plain (place_for size reqs s.memory) s
 
-module _ {m n : Seen} {a b : Tape} (t : ℕ) (call : Call) where
-  pub alloc_refused : has_only alloc_bits (argument 1 call) ≡ false → Follows (alerted (codes "VALUE") t call) m n a b → Follows (does_memory words.AllocMem t call) m n a b
+module _ {H : Hearing} {m n : Seen} {a b : H.Told} (t : ℕ) (call : Call) where
+  pub alloc_refused : has_only alloc_bits (argument 1 call) ≡ false → Follows H (alerted (codes "VALUE") t call) m n a b → Follows H (does_memory words.AllocMem t call) m n a b
   unfolding performs memory_deed
   alloc_refused refused follows = follows_as (λ s e. rw refused refl) follows
 
   -- a plain block is taken if it fits
   block_taken : {o : Seen} (size reqs : ℕ) (place : Option ℕ) → place ≡ place_for size reqs m.memory
       → n ≡ record m { memory = placed size Plain place m.memory }
-      → Follows (answered t call (unwrap_or place 0)) n o a b → Follows (takes_block t call size reqs) m o a b
+      → Follows H (answered t call (unwrap_or place 0)) n o a b → Follows H (takes_block t call size reqs) m o a b
   block_taken size reqs place fits is follows = follows_as
       {g = allocates t call size Plain place}
       (λ s e.
@@ -34,12 +34,12 @@ module _ {m n : Seen} {a b : Tape} (t : ℕ) (call : Call) where
       rw same refl)
       (follows_change (moves_memory (placed size Plain place) (placed size Plain place) (placed-in_order size Plain place) is) follows)
 
-module _ {m n o : Seen} {a b : Tape} (t : ℕ) (call : Call) where
+module _ {H : Hearing} {m n o : Seen} {a b : H.Told} (t : ℕ) (call : Call) where
   -- libraries are expunged under low memory, and then the block is taken
   pub alloc_tried : (place : Option ℕ) → has_only alloc_bits (argument 1 call) ≡ true
       → place ≡ place_for (argument 0 call) (argument 1 call) (after_asking (argument 0 call) (argument 1 call) m.memory)
       → n ≡ record m { memory = placed (argument 0 call) Plain place (after_asking (argument 0 call) (argument 1 call) m.memory) }
-      → Follows (answered t call (unwrap_or place 0)) n o a b → Follows (does_memory words.AllocMem t call) m o a b
+      → Follows H (answered t call (unwrap_or place 0)) n o a b → Follows H (does_memory words.AllocMem t call) m o a b
   unfolding memory_deed
   alloc_tried place allowed fits is follows =
       let size = argument 0 call in
@@ -51,9 +51,9 @@ module _ {m n o : Seen} {a b : Tape} (t : ℕ) (call : Call) where
       (follows_change (moves_memory {m = m} (after_asking size reqs) (after_asking size reqs) (asking-in_order size reqs) refl)
       (block_taken t call size reqs place fits is follows))
 
-module _ {m n : Seen} {a b : Tape} (t : ℕ) (call : Call) where
+module _ {H : Hearing} {m n : Seen} {a b : H.Told} (t : ℕ) (call : Call) where
   pub free_refused : is_named (argument 1 call) (block_at (argument 0 call) m.memory.heap) ≡ false
-      → Follows (alerted (codes "MEM") t call) m n a b → Follows (does_memory words.FreeMem t call) m n a b
+      → Follows H (alerted (codes "MEM") t call) m n a b → Follows H (does_memory words.FreeMem t call) m n a b
   unfolding performs memory_deed
   free_refused refused follows = follows_as
       (λ s e.
@@ -63,7 +63,7 @@ module _ {m n : Seen} {a b : Tape} (t : ℕ) (call : Call) where
 
   pub free_done : {o : Seen} → is_named (argument 1 call) (block_at (argument 0 call) m.memory.heap) ≡ true
       → n ≡ record m { memory = freed (argument 0 call) m.memory }
-      → Follows (done t call) n o a b → Follows (does_memory words.FreeMem t call) m o a b
+      → Follows H (done t call) n o a b → Follows H (does_memory words.FreeMem t call) m o a b
   unfolding performs memory_deed
   free_done named is follows = follows_as
       {g = λ s. done t call (on_memory (freed (argument 0 call)) s)}
@@ -74,13 +74,13 @@ module _ {m n : Seen} {a b : Tape} (t : ℕ) (call : Call) where
       (follows_change (moves_memory (freed (argument 0 call)) (freed (argument 0 call)) (λ y. refl) is) follows)
 
   pub avail_refused : can_be_asked (argument 0 call) ≡ false
-      → Follows (alerted (codes "VALUE") t call) m n a b → Follows (does_memory words.AvailMem t call) m n a b
+      → Follows H (alerted (codes "VALUE") t call) m n a b → Follows H (does_memory words.AvailMem t call) m n a b
   unfolding performs memory_deed
   avail_refused refused follows = follows_as (λ s e. rw refused refl) follows
 
   pub avail_answered : (answer : ℕ) → can_be_asked (argument 0 call) ≡ true
       → answer ≡ avail m.memory.regions (extents m.memory.heap) (argument 0 call)
-      → Follows (answered t call answer) m n a b → Follows (does_memory words.AvailMem t call) m n a b
+      → Follows H (answered t call answer) m n a b → Follows H (does_memory words.AvailMem t call) m n a b
   unfolding performs memory_deed
   avail_answered answer allowed is follows = follows_as
       {g = answered t call answer}

@@ -1,7 +1,7 @@
 -- How the tasks are, task by task.
 use Rattle.std.proofs.Common.{◌≡◌, ℕ, suc, ◌+◌, ap, arith}
 use Rattle.exectrace.specs.Sink.{Puts, Tape}
-use Rattle.exectrace.proofs.Pieces.{puts_then}
+use Rattle.exectrace.specs.Putting.{puts_then}
 use Rattle.scheduler.specs.Schedule.{Schedule}
 use Rattle.execmodel.specs.State.{Scripts}
 use Rattle.execsim.specs.Standing.{wait_text, waits_text}

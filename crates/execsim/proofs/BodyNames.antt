@@ -3,7 +3,7 @@ use Rattle.std.proofs.Common.{◌≡◌, ◌≢◌, ℕ, suc, ◌+◌, ◌<◌, 
 use Rattle.std.specs.List.{list_any, position_or_len}
 use Rattle.std.proofs.lemmas.{List.get_or_default, List.length-map, List.map_push, List.take-map, List.take_more, List.Sums.position_or_len_is, List.Sums.prefix_len-le-length, Slice.Eq.bytes_eq-Decides}
 use Rattle.std.proofs.Math.ListN.{get_or-map as default_map}
-use Rattle.taskscript.specs.{File.SoftintData, Machines.softint_names}
+use Rattle.script.specs.{File.SoftintData, Machines.softint_names}
 use Rattle.execmodel.specs.{Interrupts.no_softint, Pending.softint_named}
 
 no_bytes : (n x : List ℕ) → n ≢ x → bytes_eq n x ≡ false

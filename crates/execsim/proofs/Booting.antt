@@ -2,7 +2,7 @@
 use Rattle.std.proofs.Common.{◌≡◌, List, [], false, length, map, refl, ap, sym, ◌∙◌, subst, nat_eq}
 use Rattle.std.proofs.lemmas.List.{length-map}
 use Rattle.execlist.specs.Order.{order}
-use Rattle.taskscript.specs.{File.TaskData, File.MachineData, Records.task_view, declared.file.TaskRecord.TaskRecord}
+use Rattle.script.specs.{File.TaskData, File.MachineData, Records.task_view, declared.file.TaskRecord.TaskRecord}
 use Rattle.scheduler.specs.Schedule.{unstarted}
 use Rattle.execmodel.specs.State.{booted}
 use Rattle.softint.specs.Sources.{no_latches}

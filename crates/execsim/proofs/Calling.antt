@@ -1,7 +1,7 @@
 -- The calls that commands are.
 use Rattle.std.proofs.Common.{◌≡◌, ℕ, ◌+◌, ◌<◌, List, [], ◌∷◌, ◌++◌, None, Some, refl, ap, sym, ◌∙◌, get_or, length, map, take, set, slice_get}
 use Rattle.std.proofs.lemmas.List.{map_push, take_more, take_more_set}
-use Rattle.taskscript.specs.Commands.{CommandData}
+use Rattle.script.specs.Commands.{CommandData}
 use Rattle.execmodel.specs.{State.Call, State.Scripts, State.program_of, Calls.call_of, Calls.call_at, Calls.call_after, Calls.next_call}
 
 pub map-map_as : {A B C : Type 0} (f : B → C) (v : A → B) (xs : List A) → map (λ a. f (v a)) xs ≡ map f (map v xs)

@@ -1,15 +1,16 @@
 -- How the machine follows a plain word that is done on its command, with no call between.
 use Rattle.std.proofs.Common.{◌≡◌, ℕ, ◌+◌, ◌-◌, ◌%◌, ◌^◌, List, [], ◌∷◌, None, Some, length, refl, ap, sym, ◌∙◌, map, take, length-set, option_map, Option, IfSome, codes, if◌then◌else◌, nat_eq, bit_and, bit_or, slice_get}
 use Rattle.std.proofs.lemmas.Option.{slice_get-map}
-use Rattle.exectrace.specs.{Sink.Puts, Sink.Tape, Short.short_argument, Trace.Done, Trace.printed_line, declared.lines.ShortArg.ShortArg}
+use Rattle.exectrace.specs.{Short.short_argument, Trace.Done, declared.lines.ShortArg.ShortArg}
 use Rattle.exectrace.specs.Trace as trace
-use Rattle.taskscript.specs.declared.variable.Variable.TheVariants.{Private, Shared}
-use Rattle.taskscript.specs.{declared.command.Argument.Argument, declared.command.Command.Command, Commands.ArgumentData, Commands.CommandData, Commands.argument_view, Commands.command_view, Words.word_text, declared.variable.Variable.Variable, declared.word.Word.TheVariants.Plain}
-use Rattle.taskscript.specs.declared.word.plain.PlainWord.TheVariants as word
+use Rattle.script.specs.declared.variable.Variable.TheVariants.{Private, Shared}
+use Rattle.script.specs.{declared.command.Argument.Argument, declared.command.Command.Command, Commands.ArgumentData, Commands.CommandData, Commands.argument_view, Commands.command_view, Words.word_text, declared.variable.Variable.Variable, declared.word.Word.TheVariants.Plain}
+use Rattle.script.specs.declared.word.plain.PlainWord.TheVariants as word
 use Rattle.scheduler.specs.Schedule.{name_of}
 use Rattle.execmodel.specs.{State.Call, State.Scripts, State.State, State.program_of, Calls.argument, Calls.call_of, Calls.done, Calls.evaluated, Calls.goes_on, Calls.next_call, Calls.number_in, Calls.silent, Calls.stored, Plain.does_set, Plain.does_add, Plain.does_sub, Plain.does_and, Plain.does_or, Plain.jumps, Plain.does_jump, Plain.does_jump_zero, Plain.does_jump_not_zero, Plain.does_print, Step.call_step, Step.does, Step.does_word, Step.task_step}
-use Rattle.execsim.specs.{Changes.PutsPrint, Changes.changes, Agreement.Seen, Agreement.Follows, Agreement.line_seen, declared.change.Change.Change}
-use Rattle.execsim.proofs.{Calling.map-map_as, Calling.next-command, Caused.one_only, Endings.follows_done, Following.moves_scripts, Following.follows_as, Following.follows_quietly, Stepping.task_step_as}
+use Rattle.execsim.specs.{Changes.PutsPrint, Changes.changes, Agreement.Seen, Agreement.Follows, Agreement.Quietly, Agreement.line_seen, declared.change.Change.Change}
+use Rattle.execsim.proofs.{Calling.map-map_as, Calling.next-command, Caused.one_only, Endings.follows_done, Following.moves_scripts, Following.follows_as, Following.quietly_as, Following.quietly_moves, Following.reads_scripts, Stepping.task_step_as}
+use Rattle.exectrace.specs.Hearing.{Hearing}
 
 -- what is done next, if it is a command
 pub next_changes : (t : ℕ) (scripts : Scripts) (command : CommandData) (place : ℕ) (change : Option Change) → (program_of scripts t).kept ≡ None
@@ -83,16 +84,17 @@ module _ (t : ℕ) (call : Call) (first second : ℕ) (one : first ≡ argument 
       ∙ ap (λ p. jumps t p s) (sym (p ∙ ap (λ x. if nat_eq x 0 then call.next else second) one
       ∙ ap (λ y. if nat_eq (argument 0 call) 0 then call.next else y) two))
 
-pub follows_changes : {m n o : Seen} (t : ℕ) (change : Change) (tape : Tape) → n ≡ record m { scripts = stored t change.target change.value m.scripts }
-    → o ≡ record n { scripts = goes_on t change.next n.scripts } → Follows (changes t change) m o tape tape
-follows_changes t change tape first is = follows_quietly tape
+pub follows_changes : {m n o : Seen} (t : ℕ) (change : Change) → n ≡ record m { scripts = stored t change.target change.value m.scripts }
+    → o ≡ record n { scripts = goes_on t change.next n.scripts } → Quietly (changes t change) m o
+follows_changes t change first is = quietly_moves
     (moves_scripts (λ scripts. goes_on t change.next (stored t change.target change.value scripts))
     (is ∙ ap (λ (x : Seen). record x { scripts = goes_on t change.next x.scripts }) first))
 
 -- a task that does a plain word does its next call
-pub changed_as : {m n : Seen} {tape : Tape} (t : ℕ) (change : Change) → ((s : State) → call_step t (next_call t m.scripts) s ≡ changes t change s)
-    → Follows (changes t change) m n tape tape → Follows (task_step (Some t)) m n tape tape
-changed_as t change is follows = task_step_as t _ refl (follows_as {g = changes t change} (λ s e. is s) follows)
+pub changed_as : {m n : Seen} (t : ℕ) (change : Change) → ((s : State) → call_step t (next_call t m.scripts) s ≡ changes t change s)
+    → Quietly (changes t change) m n → Quietly (task_step (Some t)) m n
+changed_as {m} t change is quietly = quietly_as {g = changes t change}
+    (λ s e. ap (λ c. call_step t c s) (reads_scripts (next_call t) refl s e) ∙ is s) quietly
 
 -- a plain word leaves as many tasks
 pub tasks_after : (t : ℕ) (target : Option Variable) (value next : ℕ) (scripts : Scripts)
@@ -127,12 +129,12 @@ value_alone t command found value scripts one is same =
     ∙ ap (λ x. x ∷ []) (sym (same command.name.bytes)))
 
 -- what task t does next is a Print of that command
-pub puts_next : {m : Seen} {a b : Tape} (t place : ℕ) (command : CommandData) → (program_of m.scripts t).kept ≡ None
+pub puts_next : {H : Hearing} {m : Seen} {a b : H.Told} (t place : ℕ) (command : CommandData) → (program_of m.scripts t).kept ≡ None
     → slice_get (program_of m.scripts t).code (program_of m.scripts t).place ≡ Some command → place ≡ (program_of m.scripts t).place + 1
     → command.word ≡ Plain word.Print
-    → ((next : ℕ) → Puts a b (printed_line (line_seen t (call_of t next command m.scripts) Done m))) → PutsPrint t place m a b
+    → ((next : ℕ) → H.hears a b ((line_seen t (call_of t next command m.scripts) Done m) ∷ [])) → PutsPrint H t place m a b
 unfolding call_of
-puts_next {m} t place command kept here behind prints line = record {
+puts_next {H} {m} t place command kept here behind prints line = record {
   call = call_of t place command m.scripts;
   is = next-command t m.scripts command kept here ∙ ap (λ next. Some (call_of t next command m.scripts)) (sym behind);
   prints = prints;
@@ -141,9 +143,9 @@ puts_next {m} t place command kept here behind prints line = record {
 }
 
 -- a task that has put the line of its next call, a Print, and goes on does that call
-pub printed_as : {m n : Seen} {a b : Tape} (t next : ℕ) → PutsPrint t next m a b → n ≡ record m { scripts = goes_on t next m.scripts }
-    → Follows (task_step (Some t)) m n a b
+pub printed_as : {H : Hearing} {m n : Seen} {a b : H.Told} (t next : ℕ) → PutsPrint H t next m a b → n ≡ record m { scripts = goes_on t next m.scripts }
+    → Follows H (task_step (Some t)) m n a b
 unfolding does does_print
-printed_as {m} t next puts is = task_step_as t (Some puts.call) puts.is
+printed_as {H} {m} t next puts is = task_step_as t (Some puts.call) puts.is
     (follows_as {g = done t puts.call} (λ s e. ap (λ w. does_word w t puts.call s) puts.prints)
     (follows_done t puts.call (is ∙ ap (λ (k : ℕ). record m { scripts = goes_on t k m.scripts }) (sym puts.behind)) puts.line))

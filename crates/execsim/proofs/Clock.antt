@@ -2,10 +2,10 @@
 use Rattle.std.proofs.Common.{◌≡◌, ℕ, zero, suc, ◌+◌, ◌*◌, ◌^◌, ◌<◌, ◌≤◌, Bool, true, false, cond, List, [], ◌∷◌, length, take, get_or, Option, None, Some, subst, refl, ap, sym, ◌∙◌, arith, sum_by}
 use Rattle.std.proofs.lemmas.{List.Sums.sum_by-cons, List.Sums.sum_by_more_le, Nat.mul-le}
 use Rattle.execlist.specs.Disciplines.{by_arrival}
-use Rattle.exectrace.specs.{Sink.Tape, declared.sinks.SinkState.TheVariants.Good}
-use Rattle.taskscript.specs.declared.event.Event.TheVariants.{Run, Tick, Irq}
-use Rattle.taskscript.specs.{Events.ticks as ticks_of, declared.event.Event.Event, declared.word.Word.Word}
-use Rattle.taskscript.specs.declared.word.Word.TheVariants as word
+use Rattle.exectrace.specs.{declared.sinks.SinkState.TheVariants.Good}
+use Rattle.script.specs.declared.event.Event.TheVariants.{Run, Tick, Irq}
+use Rattle.script.specs.{Events.ticks as ticks_of, declared.event.Event.Event, declared.word.Word.Word}
+use Rattle.script.specs.declared.word.Word.TheVariants as word
 use Rattle.softint.specs.{declared.source.Source.Source, declared.source.Source.TheVariants.Vertb}
 use Rattle.scheduler.specs.{declared.Switch.Switch as Choice, Dispatch.switch_of, Dispatch.rescheduled}
 use Rattle.scheduler.specs.declared.Switch.TheVariants as switch
@@ -14,6 +14,7 @@ use Rattle.timerdev.specs.Timing.{ticked}
 use Rattle.execmodel.proofs.{Itself.does_itself, Itself.word_itself, Itself.word_keeps, Stretches.HoldsOfEach, Stretches.HoldsOfInterrupts, Stretches.of_request, Stretches.of_starts, Stretches.of_steps}
 use Rattle.execsim.specs.{Agreement.Seen, Agreement.Agrees, Agreement.FollowsWhileGood, Reached.IsReached, Reached.after_start, Time.HasTimeFor, Time.IsInTime}
 use Rattle.execsim.proofs.{Following.good_before, Keeping.finish_keeps, Keeping.keeps_step, Reached.ticks_reached, Reached.events_reached}
+use Rattle.exectrace.specs.Hearing.{Hearing}
 
 -- ---- what moves the clock
 
@@ -142,9 +143,9 @@ micros_shown : {m : Seen} (s : State) → Agrees m s → m.memory.timer.tick_mic
 micros_shown s e = ap (λ (y : Memory). y.timer.tick_micros) e.memory
 
 -- after an action that brings that many ticks at most, and to a state that the machine comes to
-module _ {next : State → Outcome} {m n : Seen} {a b : Tape} (spent left total : ℕ) (within : spent + left ≤ total) (gains : (s : State) → Gains spent s (next s).state)
+module _ {H : Hearing} {next : State → Outcome} {m n : Seen} {a b : H.Told} (spent left total : ℕ) (within : spent + left ≤ total) (gains : (s : State) → Gains spent s (next s).state)
     (reaches : (s : State) → IsReached s → IsReached (next s).state) where
-  pub time_left : (a.state ≡ Good → IsInTime total m) → FollowsWhileGood next m n a b → b.state ≡ Good → IsInTime left n
+  pub time_left : (H.good a ≡ true → IsInTime total m) → FollowsWhileGood H next m n a b → H.good b ≡ true → IsInTime left n
   time_left has_time follows good =
       let time = has_time (good_before follows good) in
       let s = time.known.state in
@@ -167,17 +168,17 @@ module _ {next : State → Outcome} {m n : Seen} {a b : Tape} (spent left total 
       }
 
 -- after some ticks of many there is time for one more
-pub time_for_tick : {m n : Seen} {a b : Tape} (i many : ℕ) → i < many → (a.state ≡ Good → IsInTime many m) → FollowsWhileGood (ticks i) m n a b → b.state ≡ Good → IsInTime 1 n
+pub time_for_tick : {H : Hearing} {m n : Seen} {a b : H.Told} (i many : ℕ) → i < many → (H.good a ≡ true → IsInTime many m) → FollowsWhileGood H (ticks i) m n a b → H.good b ≡ true → IsInTime 1 n
 time_for_tick i many within = time_left i 1 many (omega (arith, within)) (ticks_gain i) (ticks_reached i)
 
 -- after some events of a list there is time for the next one
-pub time_for_event : {m n : Seen} {a b : Tape} (list : List Event) (k : ℕ) (d : Event) → k < length list → (a.state ≡ Good → IsInTime (sum_by ticks_of list) m)
-    → FollowsWhileGood (events (take k list)) m n a b → b.state ≡ Good → IsInTime (ticks_of (get_or list k d)) n
+pub time_for_event : {H : Hearing} {m n : Seen} {a b : H.Told} (list : List Event) (k : ℕ) (d : Event) → k < length list → (H.good a ≡ true → IsInTime (sum_by ticks_of list) m)
+    → FollowsWhileGood H (events (take k list)) m n a b → H.good b ≡ true → IsInTime (ticks_of (get_or list k d)) n
 time_for_event list k d within = time_left (sum_by ticks_of (take k list)) (ticks_of (get_or list k d)) (sum_by ticks_of list)
     (sum_by_more_le ticks_of list k d within) (events_gain (take k list)) (events_reached (take k list))
 
 -- the start takes no time
-pub time_from_start : {m n : Seen} {a b : Tape} (many : ℕ) → (a.state ≡ Good → IsInTime many m) → FollowsWhileGood starts m n a b → b.state ≡ Good → IsInTime many n
+pub time_from_start : {H : Hearing} {m n : Seen} {a b : H.Told} (many : ℕ) → (H.good a ≡ true → IsInTime many m) → FollowsWhileGood H starts m n a b → H.good b ≡ true → IsInTime many n
 time_from_start many = time_left 0 many many (omega arith) start_gains after_start
 
 -- fewer ticks take less time

@@ -1,12 +1,13 @@
 -- How the machine follows the end of a call.
-use Rattle.std.proofs.Common.{◌≡◌, ℕ, List, true, refl, ap, ◌∙◌}
-use Rattle.exectrace.specs.{Sink.Tape, Sink.Puts, Trace.printed_line, Trace.Done, Trace.Answers, Trace.Waits, Trace.Alert}
+use Rattle.std.proofs.Common.{◌≡◌, ℕ, List, true, refl, ap, ◌∙◌, ◌∷◌, []}
+use Rattle.exectrace.specs.{Trace.Done, Trace.Answers, Trace.Waits, Trace.Alert}
 use Rattle.exectrace.specs.Trace as trace
-use Rattle.taskscript.specs.Words.{word_text}
+use Rattle.script.specs.Words.{word_text}
 use Rattle.scheduler.specs.Schedule.{name_of}
 use Rattle.execmodel.specs.{State.Call, State.State, Calls.stored, Calls.goes_on, Calls.keeps, Calls.line_of, Calls.done, Calls.answered, Calls.waiting, Calls.silent, Calls.alerted}
-use Rattle.execsim.specs.Agreement.{Seen, Agrees, Follows, line_seen}
-use Rattle.execsim.proofs.Following.{reads_schedule, moves_scripts, moves_stopped, follows_saying, follows_quietly}
+use Rattle.execsim.specs.Agreement.{Seen, Agrees, Follows, Quietly, line_seen}
+use Rattle.execsim.proofs.Following.{reads_schedule, moves_scripts, moves_stopped, follows_saying, quietly_moves}
+use Rattle.exectrace.specs.Hearing.{Hearing}
 
 name_same : {m : Seen} (t : ℕ) (s : State) → Agrees m s → name_of s.schedule t ≡ name_of m.schedule t
 name_same t s a = reads_schedule (λ y. name_of y t) (λ y. refl) refl s a
@@ -14,30 +15,30 @@ name_same t s a = reads_schedule (λ y. name_of y t) (λ y. refl) refl s a
 line_same : {m : Seen} (t : ℕ) (call : Call) (outcome : trace.Outcome) (s : State) → Agrees m s → line_of t call outcome s ≡ line_seen t call outcome m
 line_same t call outcome s a = ap (λ name. trace.Call name (word_text call.word) call.arguments outcome) (name_same t s a)
 
-pub follows_done : {m n : Seen} {a b : Tape} (t : ℕ) (call : Call) → n ≡ record m { scripts = goes_on t call.next m.scripts }
-    → Puts a b (printed_line (line_seen t call Done m)) → Follows (done t call) m n a b
+pub follows_done : {H : Hearing} {m n : Seen} {a b : H.Told} (t : ℕ) (call : Call) → n ≡ record m { scripts = goes_on t call.next m.scripts }
+    → H.hears a b ((line_seen t call Done m) ∷ []) → Follows H (done t call) m n a b
 unfolding done
 follows_done t call is puts = follows_saying _ (line_same t call Done) puts (moves_scripts (goes_on t call.next) is)
 
-pub follows_answered : {m n o : Seen} {a b : Tape} (t : ℕ) (call : Call) (value : ℕ) → n ≡ record m { scripts = stored t call.target value m.scripts }
-    → o ≡ record n { scripts = goes_on t call.next n.scripts } → Puts a b (printed_line (line_seen t call (Answers value) m)) → Follows (answered t call value) m o a b
+pub follows_answered : {H : Hearing} {m n o : Seen} {a b : H.Told} (t : ℕ) (call : Call) (value : ℕ) → n ≡ record m { scripts = stored t call.target value m.scripts }
+    → o ≡ record n { scripts = goes_on t call.next n.scripts } → H.hears a b ((line_seen t call (Answers value) m) ∷ []) → Follows H (answered t call value) m o a b
 unfolding answered
 follows_answered t call value first is puts = follows_saying _ (line_same t call (Answers value)) puts
     (moves_scripts (λ scripts. goes_on t call.next (stored t call.target value scripts)) (is ∙ ap (λ (x : Seen). record x { scripts = goes_on t call.next x.scripts }) first))
 
-pub follows_waiting : {m n : Seen} {a b : Tape} (t : ℕ) (call : Call) → n ≡ record m { scripts = keeps t call m.scripts }
-    → Puts a b (printed_line (line_seen t call Waits m)) → Follows (waiting t call) m n a b
+pub follows_waiting : {H : Hearing} {m n : Seen} {a b : H.Told} (t : ℕ) (call : Call) → n ≡ record m { scripts = keeps t call m.scripts }
+    → H.hears a b ((line_seen t call Waits m) ∷ []) → Follows H (waiting t call) m n a b
 unfolding waiting
 follows_waiting t call is puts = follows_saying _ (line_same t call Waits) puts (moves_scripts (keeps t call) is)
 
-pub follows_silent : {m n o : Seen} (t : ℕ) (call : Call) (value : ℕ) (tape : Tape) → n ≡ record m { scripts = stored t call.target value m.scripts }
-    → o ≡ record n { scripts = goes_on t call.next n.scripts } → Follows (silent t call value) m o tape tape
+pub quietly_silent : {m n o : Seen} (t : ℕ) (call : Call) (value : ℕ) → n ≡ record m { scripts = stored t call.target value m.scripts }
+    → o ≡ record n { scripts = goes_on t call.next n.scripts } → Quietly (silent t call value) m o
 unfolding silent
-follows_silent t call value tape first is = follows_quietly tape
+quietly_silent t call value first is = quietly_moves
     (moves_scripts (λ scripts. goes_on t call.next (stored t call.target value scripts)) (is ∙ ap (λ (x : Seen). record x { scripts = goes_on t call.next x.scripts }) first))
 
-pub follows_alerted : {m n : Seen} {a b : Tape} (code : List ℕ) (t : ℕ) (call : Call) → n ≡ record m { stopped = true }
-    → Puts a b (printed_line (Alert code (name_of m.schedule t) (word_text call.word))) → Follows (alerted code t call) m n a b
+pub follows_alerted : {H : Hearing} {m n : Seen} {a b : H.Told} (code : List ℕ) (t : ℕ) (call : Call) → n ≡ record m { stopped = true }
+    → H.hears a b ((Alert code (name_of m.schedule t) (word_text call.word)) ∷ []) → Follows H (alerted code t call) m n a b
 unfolding alerted
 follows_alerted code t call is puts = follows_saying _
     (λ s a. ap (λ name. Alert code name (word_text call.word)) (name_same t s a)) puts (moves_stopped true is)

@@ -1,17 +1,15 @@
 -- Actions that follow one another, and the actions of one layer.
-use Rattle.std.proofs.Common.{◌≡◌, ◌≢◌, ℕ, List, [], ◌++◌, append_assoc, ◌⊎◌, inl, inr, refl, Bool, true, false, ap, sym, ◌∙◌, subst, append-nil}
-use Rattle.std.proofs.lemmas.Grind.{flat_map-append}
+use Rattle.std.proofs.Common.{◌≡◌, ◌≢◌, ℕ, List, [], ◌∷◌, ◌++◌, append_assoc, ◌⊎◌, inl, inr, refl, Bool, true, false, ap, sym, ◌∙◌, subst, append-nil}
 use Rattle.execlist.specs.Disciplines.{by_arrival, by_priority}
-use Rattle.exectrace.specs.declared.sinks.SinkState.TheVariants.{Good, Empty, Failed}
-use Rattle.exectrace.specs.{Sink.Tape, Sink.Puts, declared.sinks.SinkState.SinkState, Trace.TraceLine, Trace.printed_line, Trace.printed}
-use Rattle.exectrace.proofs.Pieces.{puts_none, puts_nothing, puts_then, put_same}
+use Rattle.exectrace.specs.Trace.{TraceLine}
 use Rattle.scheduler.specs.Schedule.{Schedule}
 use Rattle.execmodel.specs.State.{State, Bodies, Scripts, Memory, Pending, Outcome, Mark, leaving, quiet, says, andthen, unless_stopped, on_schedule, on_scripts, on_memory, on_pending}
 use Rattle.execmodel.specs.Pending.{causes, caused_no_more, with_caused, with_latch_of}
 use Rattle.softint.specs.declared.source.Source.{Source}
-use Rattle.execsim.specs.Agreement.{Seen, Agrees, Follows, FollowsWhileGood, Moves, in_order, queues_in_order, caused_in_order}
+use Rattle.execsim.specs.Agreement.{Seen, Agrees, Follows, Quietly, FollowsWhileGood, Moves, in_order, queues_in_order, caused_in_order}
 use Rattle.execsim.specs.Actions.{caused}
 use Rattle.execsim.proofs.Ordering.{caused-in_order, taken_off-in_order}
+use Rattle.exectrace.specs.Hearing.{Hearing}
 
 -- What the state that is agreed with holds, by what the machine shows.
 
@@ -128,52 +126,68 @@ moves_then {f} p q = record { agrees = λ s a. q.agrees (f s) (p.agrees s a) }
 
 -- Actions.
 
-pub follows_as : {f g : State → Outcome} {m n : Seen} {a b : Tape} → ((s : State) → Agrees m s → f s ≡ g s) → Follows g m n a b → Follows f m n a b
+pub follows_as : {H : Hearing} {f g : State → Outcome} {m n : Seen} {a b : H.Told} → ((s : State) → Agrees m s → f s ≡ g s) → Follows H g m n a b → Follows H f m n a b
 follows_as is follows = record {
   agrees = λ s e. rw (is s e) (follows.agrees s e);
   prints = λ s e. rw (is s e) (follows.prints s e);
 }
 
 -- what is agreed with may be looked at first
-pub follows_known : {f : State → Outcome} {m n : Seen} {a b : Tape} → ((s : State) → Agrees m s → Follows f m n a b) → Follows f m n a b
+pub follows_known : {H : Hearing} {f : State → Outcome} {m n : Seen} {a b : H.Told} → ((s : State) → Agrees m s → Follows H f m n a b) → Follows H f m n a b
 follows_known follows = record { agrees = λ s e. (follows s e).agrees s e; prints = λ s e. (follows s e).prints s e }
 
 -- nothing is printed
-pub follows_quietly : {f : State → State} {m n : Seen} (t : Tape) → Moves f m n → Follows (λ s. quiet (f s)) m n t t
-follows_quietly t moves = record { agrees = moves.agrees; prints = λ s e. puts_none t }
+pub follows_quietly : {H : Hearing} {f : State → State} {m n : Seen} (t : H.Told) → Moves f m n → Follows H (λ s. quiet (f s)) m n t t
+follows_quietly {H} t moves = record { agrees = moves.agrees; prints = λ s e. H.none t }
 
-pub follows_nothing : (m : Seen) (t : Tape) → Follows quiet m m t t
-follows_nothing m t = record { agrees = λ s e. e; prints = λ s e. puts_none t }
+-- one that says nothing, whoever listens
+pub follows_silence : {H : Hearing} {f : State → Outcome} {m n : Seen} (t : H.Told) → Quietly f m n → Follows H f m n t t
+follows_silence {H} t quietly = record {
+  agrees = quietly.agrees;
+  prints = λ s e. subst (λ l. H.hears t t l) (sym (quietly.quiet s e)) (H.none t);
+}
+
+pub quietly_as : {f g : State → Outcome} {m n : Seen} → ((s : State) → Agrees m s → f s ≡ g s) → Quietly g m n → Quietly f m n
+quietly_as is quietly = record {
+  agrees = λ s e. rw (is s e) (quietly.agrees s e);
+  quiet = λ s e. ap (λ (o : Outcome). o.lines) (is s e) ∙ quietly.quiet s e;
+}
+
+pub quietly_moves : {f : State → State} {m n : Seen} → Moves f m n → Quietly (λ s. quiet (f s)) m n
+quietly_moves moves = record { agrees = moves.agrees; quiet = λ s e. refl }
+
+pub follows_nothing : {H : Hearing} (m : Seen) (t : H.Told) → Follows H quiet m m t t
+follows_nothing {H} m t = record { agrees = λ s e. e; prints = λ s e. H.none t }
 
 -- one line is printed, which is the same in each state that is agreed with
-pub follows_saying : {f : State → State} {line : State → TraceLine} {m n : Seen} {a b : Tape} (said : TraceLine)
-    → ((s : State) → Agrees m s → line s ≡ said) → Puts a b (printed_line said) → Moves f m n → Follows (λ s. says (line s) (f s)) m n a b
-follows_saying {a = a} {b = b} said same puts moves = record {
+pub follows_saying : {H : Hearing} {f : State → State} {line : State → TraceLine} {m n : Seen} {a b : H.Told} (said : TraceLine)
+    → ((s : State) → Agrees m s → line s ≡ said) → H.hears a b (said ∷ []) → Moves f m n → Follows H (λ s. says (line s) (f s)) m n a b
+follows_saying {H} {a = a} {b = b} said same puts moves = record {
   agrees = moves.agrees;
-  prints = λ s e. put_same _ (subst (λ l. Puts a b (printed_line l)) (sym (same s e)) puts) (append-nil _);
+  prints = λ s e. subst (λ l. H.hears a b (l ∷ [])) (sym (same s e)) puts;
 }
 
 -- one line is printed, and nothing else is done
-pub follows_says : {m : Seen} {a b : Tape} (line : TraceLine) → Puts a b (printed_line line) → Follows (says line) m m a b
-follows_says {m} line puts = follows_saying line (λ s e. refl) puts (moves_nowhere m)
+pub follows_says : {H : Hearing} {m : Seen} {a b : H.Told} (line : TraceLine) → H.hears a b (line ∷ []) → Follows H (says line) m m a b
+follows_says {H} {m} line puts = follows_saying line (λ s e. refl) puts (moves_nowhere m)
 
 -- a change of the state, and then an action
-pub follows_change : {f : State → State} {g : State → Outcome} {m n o : Seen} {a b : Tape} → Moves f m n → Follows g n o a b → Follows (λ s. g (f s)) m o a b
-follows_change {f} moves follows = record {
+pub follows_change : {H : Hearing} {f : State → State} {g : State → Outcome} {m n o : Seen} {a b : H.Told} → Moves f m n → Follows H g n o a b → Follows H (λ s. g (f s)) m o a b
+follows_change {H} {f} moves follows = record {
   agrees = λ s e. follows.agrees (f s) (moves.agrees s e);
   prints = λ s e. follows.prints (f s) (moves.agrees s e);
 }
 
 -- an action that leaves a mark, too
-pub follows_leaving : {f : State → Outcome} (mark : State → Mark) {m n : Seen} {a b : Tape} → Follows f m n a b → Follows (λ s. leaving (mark s) (f s)) m n a b
+pub follows_leaving : {H : Hearing} {f : State → Outcome} (mark : State → Mark) {m n : Seen} {a b : H.Told} → Follows H f m n a b → Follows H (λ s. leaving (mark s) (f s)) m n a b
 follows_leaving mark follows = record { agrees = follows.agrees; prints = follows.prints }
 
 -- one action after another
-pub follows_then : {f g : State → Outcome} {m n o : Seen} {a b c : Tape} → Follows f m n a b → Follows g n o b c → Follows (andthen f g) m o a c
+pub follows_then : {H : Hearing} {f g : State → Outcome} {m n o : Seen} {a b c : H.Told} → Follows H f m n a b → Follows H g n o b c → Follows H (andthen f g) m o a c
 unfolding andthen
-follows_then {f} {g} p q = record {
+follows_then {H} {f} {g} p q = record {
   agrees = λ s e. q.agrees (f s).state (p.agrees s e);
-  prints = λ s e. puts_then _ (p.prints s e) (q.prints (f s).state (p.agrees s e)) (flat_map-append printed_line (f s).lines (g (f s).state).lines);
+  prints = λ s e. H.both _ _ _ _ _ (p.prints s e) (q.prints (f s).state (p.agrees s e));
 }
 
 pub andthen-assoc : (f g h : State → Outcome) (s : State) → andthen f (andthen g h) s ≡ andthen (andthen f g) h s
@@ -203,73 +217,73 @@ andthen-quiet o =
     ∙ ap (λ (marks : List Mark). record { state = o.state; lines = o.lines; marks = marks }) (append-nil o.marks)
 
 -- an action, unless an alert has stopped the machine
-pub guarded_stopped : {m : Seen} {next : State → Outcome} (t : Tape) → m.stopped ≡ true → Follows (unless_stopped next) m m t t
-guarded_stopped {m} t stopped = follows_as {g = quiet}
+pub guarded_stopped : {H : Hearing} {m : Seen} {next : State → Outcome} (t : H.Told) → m.stopped ≡ true → Follows H (unless_stopped next) m m t t
+guarded_stopped {H} {m} t stopped = follows_as {g = quiet}
     (λ s e. let same : s.stopped ≡ true = reads_stopped stopped s e in rw same refl) (follows_nothing m t)
 
-pub guarded_going : {m n : Seen} {a b : Tape} {next : State → Outcome} → m.stopped ≡ false → Follows next m n a b → Follows (unless_stopped next) m n a b
+pub guarded_going : {H : Hearing} {m n : Seen} {a b : H.Told} {next : State → Outcome} → m.stopped ≡ false → Follows H next m n a b → Follows H (unless_stopped next) m n a b
 guarded_going {next = next} going follows = follows_as {g = next}
     (λ s e. let same : s.stopped ≡ false = reads_stopped going s e in rw same refl) follows
 
 -- Actions while the sink is good.
 
-is_good : (state : SinkState) → (state ≡ Good) ⊎ (state ≢ Good)
-is_good Good = inl refl
-is_good (Empty n) = inr (λ e. cc)
-is_good Failed = inr (λ e. cc)
+both_ways : {b : Bool} → b ≡ false → b ≡ true → ⊥
+both_ways bad good = let e : true ≡ false = sym good ∙ bad in cc
 
-pub while_good : {f : State → Outcome} {m n : Seen} {a b : Tape} → a.state ≡ Good → Follows f m n a b → FollowsWhileGood f m n a b
-while_good good follows = record { agrees = λ s e end. follows.agrees s e; prints = follows.prints; afterwards = λ bad. absurd (bad good) }
+pub while_good : {H : Hearing} {f : State → Outcome} {m n : Seen} {a b : H.Told} → H.good a ≡ true → Follows H f m n a b → FollowsWhileGood H f m n a b
+while_good good follows = record { agrees = λ s e end. follows.agrees s e; prints = follows.prints; afterwards = λ bad. absurd (both_ways bad good) }
 
 -- a sink that is good has been so
-pub good_before : {f : State → Outcome} {m n : Seen} {a b : Tape} → FollowsWhileGood f m n a b → b.state ≡ Good → a.state ≡ Good
-good_before {a = a} {b = b} follows good = by_state (is_good a.state)
+pub good_before : {H : Hearing} {f : State → Outcome} {m n : Seen} {a b : H.Told} → FollowsWhileGood H f m n a b → H.good b ≡ true → H.good a ≡ true
+good_before {H} {a = a} {b = b} follows good = by_state (H.good a) refl
   where
-    by_state : (a.state ≡ Good) ⊎ (a.state ≢ Good) → a.state ≡ Good
-    by_state (inl was) = was
-    by_state (inr bad) = ap (λ (t : Tape). t.state) (sym (follows.afterwards bad)) ∙ good
+    by_state : (was : Bool) → H.good a ≡ was → H.good a ≡ true
+    by_state true is = is
+    by_state false bad = ap H.good (sym (follows.afterwards bad)) ∙ good
 
 -- nothing is done any more
-pub stays_behind : {f : State → Outcome} (m : Seen) {t : Tape} → t.state ≢ Good → FollowsWhileGood f m m t t
-stays_behind m bad = record { agrees = λ s e good. absurd (bad good); prints = λ s e. puts_nothing _ bad; afterwards = λ b. refl }
+pub stays_behind : {H : Hearing} {f : State → Outcome} (m : Seen) {t : H.Told} → H.good t ≡ false → FollowsWhileGood H f m m t t
+stays_behind {H} m bad = record { agrees = λ s e good. absurd (both_ways bad good); prints = λ s e. H.ignores _ _ bad; afterwards = λ b. refl }
 
-pub follows_nothing_yet : (m : Seen) (t : Tape) → FollowsWhileGood quiet m m t t
-follows_nothing_yet m t = record { agrees = λ s e good. e; prints = λ s e. puts_none t; afterwards = λ bad. refl }
+pub follows_nothing_yet : {H : Hearing} (m : Seen) (t : H.Told) → FollowsWhileGood H quiet m m t t
+follows_nothing_yet {H} m t = record { agrees = λ s e good. e; prints = λ s e. H.none t; afterwards = λ bad. refl }
 
-pub while_good_as : {f g : State → Outcome} {m n : Seen} {a b : Tape} → ((s : State) → Agrees m s → f s ≡ g s) → FollowsWhileGood g m n a b → FollowsWhileGood f m n a b
+pub while_good_as : {H : Hearing} {f g : State → Outcome} {m n : Seen} {a b : H.Told} → ((s : State) → Agrees m s → f s ≡ g s) → FollowsWhileGood H g m n a b → FollowsWhileGood H f m n a b
 while_good_as is follows = record {
   agrees = λ s e good. rw (is s e) (follows.agrees s e good);
   prints = λ s e. rw (is s e) (follows.prints s e);
   afterwards = follows.afterwards;
 }
 
-module _ {f g : State → Outcome} {m n o : Seen} {a b c : Tape} (p : FollowsWhileGood f m n a b) (q : FollowsWhileGood g n o b c) where
-  untouched : a.state ≢ Good → c ≡ a
+module _ {H : Hearing} {f g : State → Outcome} {m n o : Seen} {a b c : H.Told} (p : FollowsWhileGood H f m n a b) (q : FollowsWhileGood H g n o b c) where
+  untouched : H.good a ≡ false → c ≡ a
   untouched bad =
       let first : b ≡ a = p.afterwards bad in
-      let still : b.state ≢ Good = (λ e. bad (ap (λ (t : Tape). t.state) (sym first) ∙ e)) in
+      let still : H.good b ≡ false = ap H.good first ∙ bad in
       q.afterwards still ∙ first
 
-  then_going : b.state ≡ Good → FollowsWhileGood (andthen f g) m o a c
+  then_going : H.good b ≡ true → FollowsWhileGood H (andthen f g) m o a c
   unfolding andthen
   then_going good = record {
     agrees = λ s e end. q.agrees (f s).state (p.agrees s e good) end;
-    prints = λ s e. puts_then _ (p.prints s e) (q.prints (f s).state (p.agrees s e good)) (flat_map-append printed_line (f s).lines (g (f s).state).lines);
+    prints = λ s e. H.both _ _ _ _ _ (p.prints s e) (q.prints (f s).state (p.agrees s e good));
     afterwards = untouched;
   }
 
-  then_failed : b.state ≢ Good → FollowsWhileGood (andthen f g) m o a c
+  then_failed : H.good b ≡ false → FollowsWhileGood H (andthen f g) m o a c
   unfolding andthen
   then_failed bad =
       let same : c ≡ b = q.afterwards bad in
       record {
-        agrees = λ s e end. absurd (bad (ap (λ (t : Tape). t.state) (sym same) ∙ end));
+        agrees = λ s e end. absurd (both_ways bad (ap H.good (sym same) ∙ end));
         prints = λ s e.
-            let lost = printed (g (f s).state).lines in
-            puts_then _ (p.prints s e) (subst (λ (t : Tape). Puts b t lost) (sym same) (puts_nothing lost bad))
-            (flat_map-append printed_line (f s).lines (g (f s).state).lines);
+            let lost = (g (f s).state).lines in
+            H.both _ _ _ _ _ (p.prints s e) (subst (λ (t : H.Told). H.hears b t lost) (sym same) (H.ignores _ lost bad));
         afterwards = untouched;
       }
 
-  pub while_good_then : FollowsWhileGood (andthen f g) m o a c
-  while_good_then = elim (is_good b.state) [ inl good ↦ then_going good | inr bad ↦ then_failed bad ]
+  pub while_good_then : FollowsWhileGood H (andthen f g) m o a c
+  while_good_then = by_state (H.good b) refl where
+    by_state : (was : Bool) → H.good b ≡ was → FollowsWhileGood H (andthen f g) m o a c
+    by_state true good = then_going good
+    by_state false bad = then_failed bad

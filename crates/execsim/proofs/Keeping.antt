@@ -1,12 +1,12 @@
 -- No body, and no request that finishes, changes what interrupts execute, or moves the clock.
 use Rattle.std.proofs.Common.{◌≡◌, ℕ, zero, suc, Bool, true, false, cond, List, [], ◌∷◌, Option, None, Some, refl, length, ◌∙◌, nat_eq, pos}
 use Rattle.exectrace.specs.Trace.{Timer}
-use Rattle.taskscript.specs.{declared.word.Word.Word, declared.word.plain.PlainWord.PlainWord, declared.word.task_signals.SignalWord.SignalWord, declared.word.ports.PortWord.PortWord, declared.word.interrupts.InterruptWord.InterruptWord, Commands.CommandData}
-use Rattle.taskscript.specs.declared.word.Word.TheVariants as word
-use Rattle.taskscript.specs.declared.word.plain.PlainWord.TheVariants as plain
-use Rattle.taskscript.specs.declared.word.task_signals.SignalWord.TheVariants as signals
-use Rattle.taskscript.specs.declared.word.ports.PortWord.TheVariants as ports
-use Rattle.taskscript.specs.declared.word.interrupts.InterruptWord.TheVariants as interrupts
+use Rattle.script.specs.{declared.word.Word.Word, declared.word.plain.PlainWord.PlainWord, declared.word.task_signals.SignalWord.SignalWord, declared.word.ports.PortWord.PortWord, declared.word.interrupts.InterruptWord.InterruptWord, Commands.CommandData}
+use Rattle.script.specs.declared.word.Word.TheVariants as word
+use Rattle.script.specs.declared.word.plain.PlainWord.TheVariants as plain
+use Rattle.script.specs.declared.word.task_signals.SignalWord.TheVariants as signals
+use Rattle.script.specs.declared.word.ports.PortWord.TheVariants as ports
+use Rattle.script.specs.declared.word.interrupts.InterruptWord.TheVariants as interrupts
 use Rattle.msgport.specs.{declared.action.Action.Action, Port.acting}
 use Rattle.msgport.specs.declared.action.Action.TheVariants as action
 use Rattle.execlist.specs.Order.{first}

@@ -1,13 +1,13 @@
 -- How the machine follows the words of libraries.
 use Rattle.std.proofs.Common.{◌≡◌, ◌≢◌, ℕ, [], false, Option, None, Some, List, refl, ap, sym, ◌∙◌, Result, OnOk, OnErr, ◌-◌, ◌&&◌, nat_eq, unwrap_or}
 use Rattle.memlist.proofs.Answered.{nat_eq-other}
-use Rattle.exectrace.specs.Sink.{Tape}
 use Rattle.execmodel.specs.Libraries.{base_of, base_opened, base_or_place, close_alert, closed, count_of, does_close_library, does_open_library, entered_or_loaded, is_delayed, library_at, library_opened, library_to_open, opened, opening, ready_to_load, ready_to_open}
 use Rattle.execmodel.specs.{State.Call, State.Library, State.Memory, State.on_memory, Calls.argument, Calls.name_argument, Calls.answered, Calls.done, Calls.unless, Memory.place_for}
 use Rattle.execlib.specs.Libraries.{public_memory}
 use Rattle.execheap.specs.{declared.refusal.Refusal.Refusal, Refusals.alert_of}
 use Rattle.execsim.specs.{Agreement.Seen, Agreement.Follows, Agreement.queues_in_order, Endings.done_or_alerted}
 use Rattle.execsim.proofs.{Allocating.placed-in_order, Following.reads_memory, Following.moves_memory, Following.follows_as, Following.follows_change, GivingWay.asking-in_order, GivingWay.freed_or-in_order, Listing.heap_changed}
+use Rattle.exectrace.specs.Hearing.{Hearing}
 
 -- ---- the order of the public ports is of no account
 
@@ -57,10 +57,10 @@ closed-in_order base y =
 
 -- ---- the words
 
-module _ {m o : Seen} {a b : Tape} (t : ℕ) (call : Call) where
+module _ {H : Hearing} {m o : Seen} {a b : H.Told} (t : ℕ) (call : Call) where
   pub open_answered : {n : Seen} (base : Option ℕ) → base ≡ opening (unwrap_or (name_argument 0 call) []) (argument 1 call) m.memory
       → n ≡ record m { memory = opened (unwrap_or (name_argument 0 call) []) (argument 1 call) m.memory }
-      → Follows (answered t call (unwrap_or base 0)) n o a b → Follows (does_open_library t call) m o a b
+      → Follows H (answered t call (unwrap_or base 0)) n o a b → Follows H (does_open_library t call) m o a b
   unfolding does_open_library
   open_answered base is changed follows =
       let name = unwrap_or (name_argument 0 call) [] in
@@ -70,14 +70,14 @@ module _ {m o : Seen} {a b : Tape} (t : ℕ) (call : Call) where
       (reads_memory (opening name version) (opening-in_order name version) (sym is) s e))
       (follows_change (moves_memory (opened name version) (opened name version) (opened-in_order name version) changed) follows)
 
-  pub close_none : argument 0 call ≡ 0 → Follows (done t call) m o a b → Follows (does_close_library t call) m o a b
+  pub close_none : argument 0 call ≡ 0 → Follows H (done t call) m o a b → Follows H (does_close_library t call) m o a b
   unfolding does_close_library
   close_none none follows = follows_as (λ s e. rw none refl) follows
 
   pub close_tried : (x : Memory) (result : Result (Unit {0}) Refusal) → argument 0 call ≢ 0
       → alert_of result ≡ close_alert (argument 0 call) m.memory.heap → OnOk result (x ≡ closed (argument 0 call) m.memory)
-      → OnErr result (x ≡ m.memory) → Follows (done_or_alerted result t call) (record m { memory = x }) o a b
-      → Follows (does_close_library t call) m o a b
+      → OnErr result (x ≡ m.memory) → Follows H (done_or_alerted result t call) (record m { memory = x }) o a b
+      → Follows H (does_close_library t call) m o a b
   unfolding does_close_library
   close_tried x result some says changed kept follows = follows_as
       {g = λ s. unless (close_alert (argument 0 call) s.memory.heap) t call (λ s. done t call (on_memory (closed (argument 0 call)) s)) s}

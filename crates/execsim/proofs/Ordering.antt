@@ -10,7 +10,7 @@ use Rattle.signals.specs.Signals.{after_post}
 use Rattle.scheduler.specs.Schedule.{Schedule, status_of, signals_of, with_priority, with_signals, switch_for, renewed, begins, is_absent, leaves, departs, removed, awaits, is_interrupting_allowed, ticked_for, ticked}
 use Rattle.scheduler.specs.Dispatch.{arrives, switch_of, displaced, after_switch, rescheduled, added, reprioritized, signalled}
 use Rattle.scheduler.specs.{declared.Switch.Switch, declared.Switch.TheVariants.To, declared.Switch.TheVariants.Idle}
-use Rattle.taskscript.specs.File.{SoftintData}
+use Rattle.script.specs.File.{SoftintData}
 use Rattle.softint.specs.declared.source.Source.{Source}
 use Rattle.softint.specs.declared.source.Source.TheVariants as source
 use Rattle.execmodel.specs.{State.Pending, Interrupts.serving_counted, Pending.is_caused, Pending.softint_pri, Pending.with_caused}

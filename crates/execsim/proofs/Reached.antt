@@ -1,8 +1,8 @@
 -- What holds of each state that a machine comes to, and so of what the machine shows.
 use Rattle.std.proofs.Common.{◌≡◌, ℕ, ◌<◌, ◌≤◌, List, [], ◌∷◌, length, Option, None, Some, Bool, true, false, ap, sym, ◌∙◌, subst, arith, Result, Ok, Err, IfOk, IfSome, if◌then◌else◌}
-use Rattle.exectrace.specs.{Sink.Tape, declared.sinks.SinkState.TheVariants.Good}
-use Rattle.taskscript.specs.declared.event.Event.TheVariants.{Run, Tick}
-use Rattle.taskscript.specs.declared.event.Event.{Event}
+use Rattle.exectrace.specs.{declared.sinks.SinkState.TheVariants.Good}
+use Rattle.script.specs.declared.event.Event.TheVariants.{Run, Tick}
+use Rattle.script.specs.declared.event.Event.{Event}
 use Rattle.execlist.specs.{Lists.is_at, Lists.times, Order.first, Disciplines.pri_at}
 use Rattle.taskq.specs.{declared.TaskState.TheVariants.Running, declared.TaskState.TheVariants.Waiting, declared.Why.TheVariants.Sem}
 use Rattle.scheduler.specs.Schedule.{Schedule, is_at_semaphore, status_of}
@@ -12,6 +12,7 @@ use Rattle.execmodel.proofs.{Stretches.of_event, Stretches.of_starts, WaitingLaw
 use Rattle.execheap.specs.declared.refusal.Refusal.{Refusal}
 use Rattle.execsim.specs.{Agreement.Seen, Agreement.Agrees, Agreement.FollowsWhileGood, Reached.IsReached, Reached.at_boot, Reached.after_start, Reached.after_event, Reached.QueuesAgree, Reached.IsInOrder, Time.IsKnown}
 use Rattle.execsim.proofs.{Following.good_before, Ordering.times_in_order}
+use Rattle.exectrace.specs.Hearing.{Hearing}
 
 -- ---- more states that a machine comes to
 
@@ -60,7 +61,7 @@ in_order_there m known =
     record { queues = shown_agree m known.state known.agrees sound; room = shown_room m known.state known.agrees sound }
 
 -- after some steps of many that holds
-pub agree_after_steps : {m n : Seen} {a b : Tape} (i : ℕ) → (a.state ≡ Good → IsKnown m) → FollowsWhileGood (steps i) m n a b → b.state ≡ Good → IsInOrder n
+pub agree_after_steps : {H : Hearing} {m n : Seen} {a b : H.Told} (i : ℕ) → (H.good a ≡ true → IsKnown m) → FollowsWhileGood H (steps i) m n a b → H.good b ≡ true → IsInOrder n
 agree_after_steps {n = n} i shown follows good =
     let known = shown (good_before follows good) in
     in_order_there n (record {

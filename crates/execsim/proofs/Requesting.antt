@@ -2,7 +2,7 @@
 use Rattle.std.proofs.Common.{◌≡◌, ◌≢◌, ℕ, zero, suc, ◌≤◌, ◌<◌, ◌^◌, Bool, true, false, cond, not, ◌&&◌, ◌⊎◌, inl, inr, List, [], ◌∷◌, length, Option, None, Some, refl, ap, sym, ◌∙◌, subst, arith, ℤ, pos, negsuc, ◌==◌, Result, Ok, Err, IfOk, OnOk, OnErr, codes, filter, map, nat_eq, nat_lt, if◌then◌else◌, option_map, unwrap_or, w32, lt-ltb, le-ltb, eq-eqb}
 use Rattle.std.specs.Int.{cast_unsigned}
 use Rattle.memlist.proofs.Answered.{nat_eq-other, nat_eq-same}
-use Rattle.exectrace.specs.{Sink.Tape, Sink.Puts, Trace.printed, Trace.printed_line, Trace.Timer}
+use Rattle.exectrace.specs.{Trace.Timer}
 use Rattle.execlist.specs.Order.{chosen, chosen_or, is_lower}
 use Rattle.scheduler.specs.Schedule.{sets_signals}
 use Rattle.msgport.specs.declared.action.Action.{Action}
@@ -22,6 +22,7 @@ use Rattle.execheap.specs.declared.awaited.Awaited.TheVariants as awaited
 use Rattle.execsim.specs.{Actions.aborts_or_alerted, Actions.finishes_all_until, Actions.finishes_with, Actions.performed as performed_seen, Actions.performed_or_alerted, Actions.tells_or_waits, Agreement.Seen, Agreement.Agrees, Agreement.Follows, Agreement.queues_in_order, Endings.answered_or_alerted, Endings.done_or_alerted}
 use Rattle.execsim.proofs.Following.{reads_memory, reads_scripts, moves_memory, moves_schedule, follows_as, follows_change, follows_leaving, follows_nothing, follows_saying, follows_then}
 use Rattle.execsim.proofs.{Listing.follows_allowed, Listing.follows_made, Listing.follows_refused, Listing.heap_changed, Porting.performed_moves, Signalling.sets_signals-in_order}
+use Rattle.exectrace.specs.Hearing.{Hearing}
 
 -- ---- changes that look at no order
 
@@ -45,11 +46,11 @@ reply-lines None request o = refl
 reply-lines (Some port) request o = refl
 
 -- an action that leaves the mark of a reply, too
-follows_reply : {f : State → Outcome} {m n : Seen} {a b : Tape} (port : State → Option ℕ) (request : ℕ) → Follows f m n a b
-    → Follows (λ s. with_reply (port s) request (f s)) m n a b
-follows_reply {f} {n = n} {a = a} {b = b} port request follows = record {
+follows_reply : {H : Hearing} {f : State → Outcome} {m n : Seen} {a b : H.Told} (port : State → Option ℕ) (request : ℕ) → Follows H f m n a b
+    → Follows H (λ s. with_reply (port s) request (f s)) m n a b
+follows_reply {H} {f} {n = n} {a = a} {b = b} port request follows = record {
   agrees = λ s e. subst (λ (x : State). Agrees n x) (sym (reply-state (port s) request (f s))) (follows.agrees s e);
-  prints = λ s e. subst (λ lines. Puts a b (printed lines)) (sym (reply-lines (port s) request (f s))) (follows.prints s e);
+  prints = λ s e. subst (λ lines. H.hears a b (lines)) (sym (reply-lines (port s) request (f s))) (follows.prints s e);
 }
 
 -- ---- what a request holds
@@ -96,25 +97,25 @@ set_alert-inside : (command request : ℕ) → nat_lt command 65536 ≡ true →
 unfolding set_io_alert resting_alert
 set_alert-inside command request inside heap = rw inside refl
 
-module _ {m o : Seen} {a b : Tape} (t : ℕ) (call : Call) where
-  pub create_none : argument 0 call ≡ 0 → Follows (answered t call 0) m o a b → Follows (model.does_create_io_request t call) m o a b
+module _ {H : Hearing} {m o : Seen} {a b : H.Told} (t : ℕ) (call : Call) where
+  pub create_none : argument 0 call ≡ 0 → Follows H (answered t call 0) m o a b → Follows H (model.does_create_io_request t call) m o a b
   unfolding model.does_create_io_request
   create_none none follows = follows_as (λ s e. rw none refl) follows
 
-  create_some : argument 0 call ≢ 0 → Follows (creates t call) m o a b → Follows (model.does_create_io_request t call) m o a b
+  create_some : argument 0 call ≢ 0 → Follows H (creates t call) m o a b → Follows H (model.does_create_io_request t call) m o a b
   unfolding model.does_create_io_request
   create_some some follows = follows_as {g = creates t call}
       (λ s e. let not_none : nat_eq (argument 0 call) 0 ≡ false = nat_eq-other (argument 0 call) 0 some in rw not_none refl) follows
 
   pub create_refused : (x : Memory) (why : Refusal) → argument 0 call ≢ 0 → Some (code_of why) ≡ port_alert (argument 0 call) m.memory.heap → x ≡ m.memory
-      → Follows (alerted (code_of why) t call) (record m { memory = x }) o a b → Follows (model.does_create_io_request t call) m o a b
+      → Follows H (alerted (code_of why) t call) (record m { memory = x }) o a b → Follows H (model.does_create_io_request t call) m o a b
   create_refused x why some says kept follows =
       create_some some (follows_refused t call (λ memory. port_alert (argument 0 call) memory.heap) (λ y. refl) _ why says (rw kept at follows))
 
   pub create_made : (x : Memory) (place : Option ℕ) → argument 0 call ≢ 0 → None ≡ port_alert (argument 0 call) m.memory.heap
       → place ≡ place_for_object is_request request_size (after_asking_for_object is_request request_size m.memory)
       → x ≡ placed request_size (Request (idle_request (argument 0 call))) place (after_asking_for_object is_request request_size m.memory)
-      → Follows (answered t call (unwrap_or place 0)) (record m { memory = x }) o a b → Follows (model.does_create_io_request t call) m o a b
+      → Follows H (answered t call (unwrap_or place 0)) (record m { memory = x }) o a b → Follows H (model.does_create_io_request t call) m o a b
   create_made x place some says fits is follows =
       create_some some (follows_allowed t call (λ memory. port_alert (argument 0 call) memory.heap) (λ y. refl) _ says
       (follows_made t call is_request request_size (Request (idle_request (argument 0 call))) place fits
@@ -122,14 +123,14 @@ module _ {m o : Seen} {a b : Tape} (t : ℕ) (call : Call) where
 
   -- ---- freed, opened and written
 
-  pub delete_none : argument 0 call ≡ 0 → Follows (done t call) m o a b → Follows (model.does_delete_io_request t call) m o a b
+  pub delete_none : argument 0 call ≡ 0 → Follows H (done t call) m o a b → Follows H (model.does_delete_io_request t call) m o a b
   unfolding model.does_delete_io_request
   delete_none none follows = follows_as (λ s e. rw none refl) follows
 
   pub delete_tried : (x : Memory) (result : Result (Unit {0}) Refusal) → argument 0 call ≢ 0
       → alert_of result ≡ model.delete_request_alert (argument 0 call) m.memory.heap → OnOk result (x ≡ freed (argument 0 call) m.memory)
-      → OnErr result (x ≡ m.memory) → Follows (done_or_alerted result t call) (record m { memory = x }) o a b
-      → Follows (model.does_delete_io_request t call) m o a b
+      → OnErr result (x ≡ m.memory) → Follows H (done_or_alerted result t call) (record m { memory = x }) o a b
+      → Follows H (model.does_delete_io_request t call) m o a b
   unfolding model.does_delete_io_request
   delete_tried x result some says changed kept follows = follows_as
       {g = λ s. unless (model.delete_request_alert (argument 0 call) s.memory.heap) t call (λ s. done t call (on_memory (freed (argument 0 call)) s)) s}
@@ -140,7 +141,7 @@ module _ {m o : Seen} {a b : Tape} (t : ℕ) (call : Call) where
       → unit ≡ model.timer_unit (unwrap_or (name_argument 0 call) []) (argument 1 call)
       → alert_of result ≡ resting_alert (argument 2 call) m.memory.heap → IfOk result (λ value. value ≡ cast_unsigned w32 (unit_error unit))
       → OnOk result (n ≡ record m { memory = on_heap (model.opened_for unit (argument 2 call)) m.memory }) → OnErr result (n ≡ m)
-      → Follows (answered_or_alerted result t call) n o a b → Follows (model.does_open_device t call) m o a b
+      → Follows H (answered_or_alerted result t call) n o a b → Follows H (model.does_open_device t call) m o a b
   unfolding model.does_open_device
   open_tried unit (Ok value) meant says tells changed kept follows =
       let opens = on_heap (model.opened_for unit (argument 2 call)) in
@@ -157,13 +158,13 @@ module _ {m o : Seen} {a b : Tape} (t : ℕ) (call : Call) where
 
   pub close_tried : (x : Memory) (result : Result (Unit {0}) Refusal) → alert_of result ≡ resting_alert (argument 0 call) m.memory.heap
       → OnOk result (x ≡ on_heap (model.closed_device (argument 0 call)) m.memory) → OnErr result (x ≡ m.memory)
-      → Follows (done_or_alerted result t call) (record m { memory = x }) o a b → Follows (model.does_close_device t call) m o a b
+      → Follows H (done_or_alerted result t call) (record m { memory = x }) o a b → Follows H (model.does_close_device t call) m o a b
   unfolding model.does_close_device
   close_tried x result says changed kept follows =
       heap_changed t call (resting_alert (argument 0 call)) (on_heap (model.closed_device (argument 0 call))) (λ y. refl) x result says changed kept follows
 
   pub set_outside : 65536 ≤ argument 1 call → is_request_at (argument 0 call) m.memory.heap ≡ true
-      → Follows (alerted (codes "VALUE") t call) m o a b → Follows (model.does_set_io t call) m o a b
+      → Follows H (alerted (codes "VALUE") t call) m o a b → Follows H (model.does_set_io t call) m o a b
   unfolding model.does_set_io set_io_alert
   set_outside outside there follows = follows_as
       (λ s e.
@@ -173,7 +174,7 @@ module _ {m o : Seen} {a b : Tape} (t : ℕ) (call : Call) where
       rw (same, past) refl) follows
 
   pub set_unknown : is_request_at (argument 0 call) m.memory.heap ≡ false
-      → Follows (alerted (codes "HANDLE") t call) m o a b → Follows (model.does_set_io t call) m o a b
+      → Follows H (alerted (codes "HANDLE") t call) m o a b → Follows H (model.does_set_io t call) m o a b
   unfolding model.does_set_io set_io_alert
   set_unknown unknown follows = follows_as
       (λ s e.
@@ -184,8 +185,8 @@ module _ {m o : Seen} {a b : Tape} (t : ℕ) (call : Call) where
   pub set_tried : (x : Memory) (result : Result (Unit {0}) Refusal) → argument 1 call < 65536
       → alert_of result ≡ resting_alert (argument 0 call) m.memory.heap
       → OnOk result (x ≡ on_heap (model.with_command (argument 1 call) (argument 2 call) (argument 3 call) (argument 0 call)) m.memory)
-      → OnErr result (x ≡ m.memory) → Follows (done_or_alerted result t call) (record m { memory = x }) o a b
-      → Follows (model.does_set_io t call) m o a b
+      → OnErr result (x ≡ m.memory) → Follows H (done_or_alerted result t call) (record m { memory = x }) o a b
+      → Follows H (model.does_set_io t call) m o a b
   unfolding model.does_set_io
   set_tried x result inside says changed kept follows =
       heap_changed t call (set_io_alert (argument 1 call) (argument 0 call))
@@ -194,11 +195,11 @@ module _ {m o : Seen} {a b : Tape} (t : ℕ) (call : Call) where
 
 -- ---- beginning
 
-module _ {m o : Seen} {a b : Tape} (t : ℕ) (call : Call) where
+module _ {H : Hearing} {m o : Seen} {a b : H.Told} (t : ℕ) (call : Call) where
   pub send_tried : (x : Memory) (result : Result Action Refusal) → alert_of result ≡ model.send_alert (argument 0 call) m.memory.heap
       → IfOk result (λ act. act ≡ acting_begun false (argument 0 call) m.memory)
       → OnOk result (x ≡ begun_at false (argument 0 call) m.memory) → OnErr result (x ≡ m.memory)
-      → Follows (performed_or_alerted result t call) (record m { memory = x }) o a b → Follows (model.does_send_io t call) m o a b
+      → Follows H (performed_or_alerted result t call) (record m { memory = x }) o a b → Follows H (model.does_send_io t call) m o a b
   unfolding model.does_send_io acting_begun replying_port
   send_tried x (Ok act) says acts changed kept follows =
       let request = argument 0 call in
@@ -230,21 +231,21 @@ awaited-under_way request heap is =
     ap (λ (b : Bool). if b then awaited.UnderWay (port_of (request_of request heap).port heap).bit else awaited.Done (request_of request heap).error)
     (ap is_way is)
 
-module _ {m o : Seen} {a b : Tape} (t : ℕ) (call : Call) (request : ℕ) where
+module _ {H : Hearing} {m o : Seen} {a b : H.Told} (t : ℕ) (call : Call) (request : ℕ) where
   -- a task looks for a request in that state
-  state_looked : (state : ReqState) → (request_of request m.memory.heap).state ≡ state → Follows (looks_for state request t call) m o a b
-      → Follows (λ s. looks_for (request_of request s.memory.heap).state request t call s) m o a b
+  state_looked : (state : ReqState) → (request_of request m.memory.heap).state ≡ state → Follows H (looks_for state request t call) m o a b
+      → Follows H (λ s. looks_for (request_of request s.memory.heap).state request t call s) m o a b
   state_looked state is follows = follows_as {g = looks_for state request t call}
       (λ s e. ap (λ (x : ReqState). looks_for x request t call s) (ap (λ (q : TimerRequest). q.state) (request_same request s e) ∙ is)) follows
 
-  error_told : Follows (answered t call (error_word request m.memory.heap)) m o a b → Follows (λ s. answered t call (error_word request s.memory.heap) s) m o a b
+  error_told : Follows H (answered t call (error_word request m.memory.heap)) m o a b → Follows H (λ s. answered t call (error_word request s.memory.heap) s) m o a b
   error_told follows = follows_as {g = answered t call (error_word request m.memory.heap)}
       (λ s e. ap (λ (q : TimerRequest). answered t call (cast_unsigned w32 q.error) s) (request_same request s e)) follows
 
   pub looks : (x : Memory) (found : Awaited) (state : ReqState) → (request_of request m.memory.heap).state ≡ state
       → found ≡ awaited_for request m.memory.heap → x ≡ on_heap (taken_by_state state request) m.memory
-      → Follows (tells_or_waits found t call) (record m { memory = x }) o a b
-      → Follows (λ s. looks_for (request_of request s.memory.heap).state request t call s) m o a b
+      → Follows H (tells_or_waits found t call) (record m { memory = x }) o a b
+      → Follows H (λ s. looks_for (request_of request s.memory.heap).state request t call s) m o a b
   looks x found Idle is awaits changed follows =
       let told : found ≡ awaited.Done (request_of request m.memory.heap).error = awaits ∙ awaited-done request m.memory.heap Idle is refl in
       state_looked Idle is (error_told (rw (told, changed) at follows))
@@ -269,11 +270,11 @@ module _ {m o : Seen} {a b : Tape} (t : ℕ) (call : Call) (request : ℕ) where
       (follows_change (moves_memory (on_heap (reply_taken request)) (on_heap (reply_taken request)) (λ y. refl)
       (ap (λ y. record m { memory = y }) changed)) (rw told at follows))))
 
-module _ {m n o : Seen} {a b : Tape} (t : ℕ) (call : Call) where
+module _ {H : Hearing} {m n o : Seen} {a b : H.Told} (t : ℕ) (call : Call) where
   pub wait_found : (x : Memory) (found : Awaited) → None ≡ model.wait_io_alert t (argument 0 call) m.memory.heap
       → found ≡ awaited_for (argument 0 call) m.memory.heap → x ≡ on_heap (taken_if_replied (argument 0 call)) m.memory
       → n ≡ record m { memory = x; schedule = loses t call.awaited m.schedule }
-      → Follows (tells_or_waits found t call) n o a b → Follows (model.does_wait_io t call) m o a b
+      → Follows H (tells_or_waits found t call) n o a b → Follows H (model.does_wait_io t call) m o a b
   unfolding model.does_wait_io taken_if_replied
   wait_found x found says awaits changed is follows =
       let request = argument 0 call in
@@ -283,9 +284,9 @@ module _ {m n o : Seen} {a b : Tape} (t : ℕ) (call : Call) where
       (moves_schedule {n = lost} (sets_signals t 0 call.awaited) (sets_signals t 0 call.awaited) (sets_signals-in_order t 0 call.awaited) refl)
       (looks {m = lost} t call request x found (request_of request m.memory.heap).state refl awaits changed (rw is at follows)))
 
-pub wait_refused : {m o : Seen} {a b : Tape} (t : ℕ) (call : Call) (x : Memory) (why : Refusal)
+pub wait_refused : {H : Hearing} {m o : Seen} {a b : H.Told} (t : ℕ) (call : Call) (x : Memory) (why : Refusal)
     → Some (code_of why) ≡ model.wait_io_alert t (argument 0 call) m.memory.heap → x ≡ m.memory
-    → Follows (alerted (code_of why) t call) (record m { memory = x }) o a b → Follows (model.does_wait_io t call) m o a b
+    → Follows H (alerted (code_of why) t call) (record m { memory = x }) o a b → Follows H (model.does_wait_io t call) m o a b
 unfolding model.does_wait_io
 wait_refused t call x why says kept follows =
     follows_refused t call (λ memory. model.wait_io_alert t (argument 0 call) memory.heap) (λ y. refl) _ why says (rw kept at follows)
@@ -363,15 +364,15 @@ there_to_begin : {A : Type 0} (there : Bool) (code : A) (others : Option A) → 
 there_to_begin true code others says = refl
 there_to_begin false code others says = absurd cc
 
-module _ {m o : Seen} {a b : Tape} (t : ℕ) (call : Call) where
-  pub do_again : is_tried_again t m.scripts ≡ true → Follows (model.does_wait_io t call) m o a b → Follows (model.does_do_io t call) m o a b
+module _ {H : Hearing} {m o : Seen} {a b : H.Told} (t : ℕ) (call : Call) where
+  pub do_again : is_tried_again t m.scripts ≡ true → Follows H (model.does_wait_io t call) m o a b → Follows H (model.does_do_io t call) m o a b
   unfolding model.does_do_io
   do_again again follows = follows_as
       (λ s e. let same : is_tried_again t s.scripts ≡ true = reads_scripts (is_tried_again t) again s e in rw same refl) follows
 
   do_first : is_tried_again t m.scripts ≡ false
-      → Follows (λ s. unless (model.do_alert t (argument 0 call) s.memory.heap) t call (model.begins_and_looks (argument 0 call) t call) s) m o a b
-      → Follows (model.does_do_io t call) m o a b
+      → Follows H (λ s. unless (model.do_alert t (argument 0 call) s.memory.heap) t call (model.begins_and_looks (argument 0 call) t call) s) m o a b
+      → Follows H (model.does_do_io t call) m o a b
   unfolding model.does_do_io
   do_first first follows = follows_as
       {g = λ s. unless (model.do_alert t (argument 0 call) s.memory.heap) t call (model.begins_and_looks (argument 0 call) t call) s}
@@ -379,13 +380,13 @@ module _ {m o : Seen} {a b : Tape} (t : ℕ) (call : Call) where
 
   pub do_refused : (x : Memory) (why : Refusal) → is_tried_again t m.scripts ≡ false
       → Some (code_of why) ≡ model.do_alert t (argument 0 call) m.memory.heap → x ≡ m.memory
-      → Follows (alerted (code_of why) t call) (record m { memory = x }) o a b → Follows (model.does_do_io t call) m o a b
+      → Follows H (alerted (code_of why) t call) (record m { memory = x }) o a b → Follows H (model.does_do_io t call) m o a b
   do_refused x why first says kept follows = do_first first
       (follows_refused t call (λ memory. model.do_alert t (argument 0 call) memory.heap) (λ y. refl) _ why says (rw kept at follows))
 
   pub do_found : (x : Memory) (found : Awaited) → is_tried_again t m.scripts ≡ false → None ≡ model.do_alert t (argument 0 call) m.memory.heap
       → found ≡ awaited_for (argument 0 call) x.heap → x ≡ begun_at true (argument 0 call) m.memory
-      → Follows (tells_or_waits found t call) (record m { memory = x }) o a b → Follows (model.does_do_io t call) m o a b
+      → Follows H (tells_or_waits found t call) (record m { memory = x }) o a b → Follows H (model.does_do_io t call) m o a b
   unfolding model.do_alert begun_at
   do_found x found first says awaits changed follows =
       let request = argument 0 call in
@@ -400,21 +401,21 @@ module _ {m o : Seen} {a b : Tape} (t : ℕ) (call : Call) where
       (by_wait waits x (ap (λ (y : Memory). (request_of request y.heap).state) changed ∙ state) awaits follows)))
     where
       by_wait : (waits : Bool) (x : Memory) → (request_of (argument 0 call) x.heap).state ≡ (if waits then UnderWay else Quick)
-          → found ≡ awaited_for (argument 0 call) x.heap → Follows (tells_or_waits found t call) (record m { memory = x }) o a b
-          → Follows (λ s. looks_for (request_of (argument 0 call) s.memory.heap).state (argument 0 call) t call s) (record m { memory = x }) o a b
+          → found ≡ awaited_for (argument 0 call) x.heap → Follows H (tells_or_waits found t call) (record m { memory = x }) o a b
+          → Follows H (λ s. looks_for (request_of (argument 0 call) s.memory.heap).state (argument 0 call) t call s) (record m { memory = x }) o a b
       by_wait true x is awaits follows = looks {m = record m { memory = x }} t call (argument 0 call) x found UnderWay is awaits refl follows
       by_wait false x is awaits follows = looks {m = record m { memory = x }} t call (argument 0 call) x found Quick is awaits refl follows
 
 -- ---- aborting
 
-module _ {m o : Seen} {a b : Tape} (t : ℕ) (call : Call) where
+module _ {H : Hearing} {m o : Seen} {a b : H.Told} (t : ℕ) (call : Call) where
   -- by whether the request is under way
   aborts_by : (under_way : Bool) (x : Memory) (found : Option Action)
       → is_under_way (request_of (argument 0 call) m.memory.heap) ≡ under_way
       → found ≡ (if under_way then Some (acting_finished (argument 0 call) m.memory.heap) else None)
       → x ≡ (if under_way then ended (negsuc 1) (argument 0 call) m.memory else m.memory)
-      → Follows (aborts_or_alerted (Ok found) t call) (record m { memory = x }) o a b
-      → Follows (λ s. model.aborts (is_under_way (request_of (argument 0 call) s.memory.heap)) (argument 0 call) t call s) m o a b
+      → Follows H (aborts_or_alerted (Ok found) t call) (record m { memory = x }) o a b
+      → Follows H (λ s. model.aborts (is_under_way (request_of (argument 0 call) s.memory.heap)) (argument 0 call) t call s) m o a b
   unfolding acting_finished
   aborts_by true x found is acts changed follows =
       let request = argument 0 call in
@@ -435,7 +436,7 @@ module _ {m o : Seen} {a b : Tape} (t : ℕ) (call : Call) where
   pub abort_tried : (x : Memory) (result : Result (Option Action) Refusal) → alert_of result ≡ request_alert (argument 0 call) m.memory.heap
       → IfOk result (λ found. found ≡ aborting (argument 0 call) m.memory.heap)
       → OnOk result (x ≡ aborted (argument 0 call) m.memory) → OnErr result (x ≡ m.memory)
-      → Follows (aborts_or_alerted result t call) (record m { memory = x }) o a b → Follows (model.does_abort_io t call) m o a b
+      → Follows H (aborts_or_alerted result t call) (record m { memory = x }) o a b → Follows H (model.does_abort_io t call) m o a b
   unfolding model.does_abort_io aborting aborted
   abort_tried x (Ok found) says acts changed kept follows =
       follows_allowed t call (λ memory. request_alert (argument 0 call) memory.heap) (λ y. refl) _ says
@@ -444,15 +445,15 @@ module _ {m o : Seen} {a b : Tape} (t : ℕ) (call : Call) where
       follows_refused t call (λ memory. request_alert (argument 0 call) memory.heap) (λ y. refl) _ why says (rw kept at follows)
 
 -- what is to be done for the reply of an aborted request is done, and then the call answers
-pub aborted_answers : {m n o : Seen} {a b : Tape} (t : ℕ) (call : Call) (act : Action) → n ≡ performed_seen act m
-    → Follows (answered t call 0) n o a b → Follows (aborts_or_alerted (Ok (Some act)) t call) m o a b
+pub aborted_answers : {H : Hearing} {m n o : Seen} {a b : H.Told} (t : ℕ) (call : Call) (act : Action) → n ≡ performed_seen act m
+    → Follows H (answered t call 0) n o a b → Follows H (aborts_or_alerted (Ok (Some act)) t call) m o a b
 aborted_answers t call act is follows = follows_change (performed_moves act is) follows
 
 -- ---- requests that finish
 
 -- a request that finishes says so, and what is to be done for its reply is done
-pub announced_due : {m n : Seen} {a b : Tape} (request : ℕ) (act : Action) → Puts a b (printed_line (Timer request)) → n ≡ performed_seen act m
-    → Follows (finishes_with request act) m n a b
+pub announced_due : {H : Hearing} {m n : Seen} {a b : H.Told} (request : ℕ) (act : Action) → H.hears a b ((Timer request) ∷ []) → n ≡ performed_seen act m
+    → Follows H (finishes_with request act) m n a b
 announced_due request act puts is = follows_saying {f = performed act} (Timer request) (λ s e. refl) puts (performed_moves act is)
 
 -- the request that is found, and what is to be done for its reply
@@ -485,9 +486,9 @@ module _ (next : Clock → Option ℕ) where
   suc_finishes left s found is = ap (λ (x : Option ℕ). finishes_from next left x s) is
 
   module _ {m n : Seen} (is : n ≡ record m { memory = ended_if (next m.memory.timer) m.memory }) where
-    one_finishes : {o : Seen} {a b : Tape} (request : ℕ) (act : Action)
+    one_finishes : {H : Hearing} {o : Seen} {a b : H.Told} (request : ℕ) (act : Action)
         → Some (request, act) ≡ finishing m.memory.heap (next m.memory.timer)
-        → Follows (finishes_with request act) n o a b → Follows (finishes request) m o a b
+        → Follows H (finishes_with request act) n o a b → Follows H (finishes request) m o a b
     unfolding finishes acting_finished
     one_finishes request act found follows =
         let known = found_due m.memory.heap request act (next m.memory.timer) found in
@@ -499,10 +500,10 @@ module _ (next : Clock → Option ℕ) where
         (is ∙ ap (λ (d : Option ℕ). record m { memory = ended_if d m.memory }) known.0)) follows))
 
     -- a request finishes, and then others
-    finishes_next : {o p : Seen} {a b c : Tape} (left request : ℕ) (act : Action)
+    finishes_next : {H : Hearing} {o p : Seen} {a b c : H.Told} (left request : ℕ) (act : Action)
         → Some (request, act) ≡ finishing m.memory.heap (next m.memory.timer)
-        → Follows (finishes_with request act) n o a b → Follows (finishes_each next left) o p b c
-        → Follows (finishes_each next (suc left)) m p a c
+        → Follows H (finishes_with request act) n o a b → Follows H (finishes_each next left) o p b c
+        → Follows H (finishes_each next (suc left)) m p a c
     finishes_next left request act found first others =
         let known = found_due m.memory.heap request act (next m.memory.timer) found in
         follows_as {g = andthen (finishes request) (finishes_each next left)}
@@ -510,15 +511,15 @@ module _ (next : Clock → Option ℕ) where
         (follows_then (one_finishes request act found first) others)
 
     -- none finishes any more
-    finishes_no_more : (left : ℕ) (t : Tape) → None ≡ finishing m.memory.heap (next m.memory.timer)
-        → Follows (finishes_each next left) m n t t
+    finishes_no_more : {H : Hearing} (left : ℕ) (t : H.Told) → None ≡ finishing m.memory.heap (next m.memory.timer)
+        → Follows H (finishes_each next left) m n t t
     unfolding finishes_each
-    finishes_no_more left t none =
+    finishes_no_more {H} left t none =
         let known = none_due m.memory.heap (next m.memory.timer) none in
         let same : n ≡ m = is ∙ ap (λ (d : Option ℕ). record m { memory = ended_if d m.memory }) known in
-        by_left left known (subst (λ (x : Seen). Follows quiet m x t t) (sym same) (follows_nothing m t))
+        by_left left known (subst (λ (x : Seen). Follows H quiet m x t t) (sym same) (follows_nothing m t))
       where
-        by_left : (left : ℕ) → next m.memory.timer ≡ None → Follows quiet m n t t → Follows (finishes_each next left) m n t t
+        by_left : (left : ℕ) → next m.memory.timer ≡ None → Follows H quiet m n t t → Follows H (finishes_each next left) m n t t
         by_left zero known stays = stays
         by_left (suc less) known stays = follows_as {g = quiet}
             (λ s e. ap (λ (x : Option ℕ). finishes_from next less x s) (next_same s e ∙ known)) stays
@@ -594,13 +595,13 @@ abbrev pub finishes_all : (Clock → Option ℕ) → State → Outcome
 finishes_all next s = finishes_each next (length s.memory.timer.waiting) s
 
 -- The requests that finish from now on end what all of them began: that many may, at least as many as wait.
-pub record EndsAll (next : Clock → Option ℕ) (m : Seen) (a : Tape) (now : Seen) (b : Tape) : Type 0 where
+pub record EndsAll (H : Hearing) (next : Clock → Option ℕ) (m : Seen) (a : H.Told) (now : Seen) (b : H.Told) : Type 0 where
   pub left : ℕ
   pub enough : length now.memory.timer.waiting ≤ left
-  pub rest : (n : Seen) (c : Tape) → Follows (finishes_each next left) now n b c → Follows (finishes_all next) m n a c
+  pub rest : (n : Seen) (c : H.Told) → Follows H (finishes_each next left) now n b c → Follows H (finishes_all next) m n a c
 
 module _ (next : Clock → Option ℕ) (takes : TakesOne next) where
-  pub all_begin : (m : Seen) (a : Tape) → EndsAll next m a m a
+  pub all_begin : {H : Hearing} (m : Seen) (a : H.Told) → EndsAll H next m a m a
   all_begin m a = record {
     left = length m.memory.timer.waiting;
     enough = omega arith;
@@ -619,16 +620,16 @@ module _ (next : Clock → Option ℕ) (takes : TakesOne next) where
       ∙ ap (λ (x : Seen). x.memory.timer.waiting) (is ∙ ap (λ (d : Option ℕ). record m { memory = ended_if d m.memory }) known.0) in
       rw waits (takes m.memory.timer request known.0)
 
-  pub one_less : {m now n o : Seen} {a b c : Tape} (request : ℕ) (act : Action) → EndsAll next m a now b
+  pub one_less : {H : Hearing} {m now n o : Seen} {a b c : H.Told} (request : ℕ) (act : Action) → EndsAll H next m a now b
       → Some (request, act) ≡ finishing now.memory.heap (next now.memory.timer)
       → n ≡ record now { memory = ended_if (next now.memory.timer) now.memory }
-      → Follows (finishes_with request act) n o b c → o.memory ≡ n.memory → EndsAll next m a o c
-  one_less {m} {now} {n} {o} {a} {b} {c} request act before found is follows kept =
+      → Follows H (finishes_with request act) n o b c → o.memory ≡ n.memory → EndsAll H next m a o c
+  one_less {H} {m} {now} {n} {o} {a} {b} {c} request act before found is follows kept =
       by_left before.left before.enough before.rest
     where
       by_left : (left : ℕ) → length now.memory.timer.waiting ≤ left
-          → ((n : Seen) (c : Tape) → Follows (finishes_each next left) now n b c → Follows (finishes_all next) m n a c)
-          → EndsAll next m a o c
+          → ((n : Seen) (c : H.Told) → Follows H (finishes_each next left) now n b c → Follows H (finishes_all next) m n a c)
+          → EndsAll H next m a o c
       by_left zero enough rest = let less = shorter now n o request act found is kept in absurd (omega (arith, less, enough))
       by_left (suc left) enough rest = record {
         left = left;
@@ -636,13 +637,13 @@ module _ (next : Clock → Option ℕ) (takes : TakesOne next) where
         rest = λ p d others. rest p d (finishes_next next is left request act found follows others);
       }
 
-  pub all_ended : {m now n : Seen} {a b : Tape} → EndsAll next m a now b → None ≡ finishing now.memory.heap (next now.memory.timer)
-      → n ≡ record now { memory = ended_if (next now.memory.timer) now.memory } → Follows (finishes_all next) m n a b
+  pub all_ended : {H : Hearing} {m now n : Seen} {a b : H.Told} → EndsAll H next m a now b → None ≡ finishing now.memory.heap (next now.memory.timer)
+      → n ≡ record now { memory = ended_if (next now.memory.timer) now.memory } → Follows H (finishes_all next) m n a b
   all_ended {n = n} {b = b} before none is = before.rest n b (finishes_no_more next is before.left b none)
 
-pub all_due_ended : {m now n : Seen} {a b : Tape} → EndsAll due_next m a now b
+pub all_due_ended : {H : Hearing} {m now n : Seen} {a b : H.Told} → EndsAll H due_next m a now b
     → None ≡ finishing now.memory.heap (due_next now.memory.timer)
-    → n ≡ record now { memory = ended_if (due_next now.memory.timer) now.memory } → Follows finishes_all_due m n a b
+    → n ≡ record now { memory = ended_if (due_next now.memory.timer) now.memory } → Follows H finishes_all_due m n a b
 unfolding finishes_all_due
 all_due_ended before none is = all_ended due_next due_takes_one before none is
 
@@ -652,22 +653,22 @@ all_due_ended before none is = all_ended due_next due_takes_one before none is
 abbrev finishes_where : Bool → State → Outcome
 finishes_where set s = if set then finishes_all_until (on_memory (on_timer looked_at) s) else quiet s
 
-where_set : {m n : Seen} {a b : Tape} (set : Bool) → m.memory.timer.is_set ≡ set
-    → Follows (finishes_where set) m n a b → Follows finishes_set m n a b
+where_set : {H : Hearing} {m n : Seen} {a b : H.Told} (set : Bool) → m.memory.timer.is_set ≡ set
+    → Follows H (finishes_where set) m n a b → Follows H finishes_set m n a b
 unfolding finishes_set
 where_set set is follows = follows_as {g = finishes_where set}
     (λ s e. ap (λ (b : Bool). finishes_where b s) (reads_memory (λ memory. memory.timer.is_set) (λ y. refl) is s e)) follows
 
 module _ {m n : Seen} (is : n ≡ record m { memory = on_timer looked_at m.memory }) where
   -- those that wait for system time finish
-  pub set_finishes : {o : Seen} {a b : Tape} → m.memory.timer.is_set ≡ true → Follows finishes_all_until n o a b
-      → Follows finishes_set m o a b
+  pub set_finishes : {H : Hearing} {o : Seen} {a b : H.Told} → m.memory.timer.is_set ≡ true → Follows H finishes_all_until n o a b
+      → Follows H finishes_set m o a b
   set_finishes set follows =
       where_set true set (follows_change (moves_memory (on_timer looked_at) (on_timer looked_at) (λ y. refl) is) follows)
 
   -- there is nothing to look at
-  pub not_set : (t : Tape) → m.memory.timer.is_set ≡ false → Follows finishes_set m n t t
-  not_set t unset = where_set false unset (subst (λ (x : Seen). Follows quiet m x t t) (sym same) (follows_nothing m t))
+  pub not_set : {H : Hearing} (t : H.Told) → m.memory.timer.is_set ≡ false → Follows H finishes_set m n t t
+  not_set {H} t unset = where_set false unset (subst (λ (x : Seen). Follows H quiet m x t t) (sym same) (follows_nothing m t))
     where
       same : n ≡ m
       same = is ∙ ap (λ (b : Bool). record m { memory = on_timer (λ (timer : Clock). record timer { is_set = b }) m.memory }) (sym unset)

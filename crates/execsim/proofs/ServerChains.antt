@@ -4,7 +4,7 @@ use Rattle.std.proofs.lemmas.List.{length-map}
 use Rattle.std.proofs.Math.ListN.{get_or-map as default_map}
 use Rattle.std.specs.List.{range_with_len}
 use Rattle.execlist.specs.{Order.order, Disciplines.pri_at}
-use Rattle.taskscript.specs.File.{ServerData}
+use Rattle.script.specs.File.{ServerData}
 use Rattle.softint.specs.{declared.interrupt.Server.Server, declared.source.Source.Source, declared.source.Source.TheVariants.Ports, Interrupts.Interrupts, Interrupts.chain, Interrupts.serves, Sources.is_source}
 use Rattle.execmodel.specs.{State.Bodies, Interrupts.chain_of, Interrupts.no_server, Interrupts.server_pri, Interrupts.servers_of, Pending.source_named}
 use Rattle.execsim.specs.Views.{IsFor, interrupting}

@@ -1,18 +1,20 @@
 -- How the machine follows the causing, the requests and the serving of interrupts.
 use Rattle.std.proofs.Common.{◌≡◌, ℕ, zero, suc, ◌+◌, ◌≤◌, Bool, true, false, cond, not, ◌&&◌, ◌||◌, ◌==◌, nat_lt, List, [], ◌∷◌, length, drop, Option, None, Some, refl, ap, sym, ◌∙◌, subst, arith, ℤ, if◌then◌else◌, is_some, slice_get, ne_eqb}
 use Rattle.std.specs.List.{list_any}
-use Rattle.exectrace.specs.{Sink.Tape, Sink.Puts, Trace.printed_line, Trace.Serve}
+use Rattle.exectrace.specs.{Trace.Serve}
 use Rattle.execlist.specs.{Lists.times, Order.chosen, Order.enqueue, Order.first, Order.without, Disciplines.pri_at, Disciplines.by_priority}
 use Rattle.execlist.proofs.OrderLaws.{first_of_order}
-use Rattle.taskscript.specs.File.{ServerData}
+use Rattle.script.specs.File.{ServerData}
 use Rattle.scheduler.specs.Schedule.{Schedule}
 use Rattle.softint.specs.{declared.source.Source.Source, Sources.highest, Interrupts.Interrupts}
 use Rattle.softint.specs.Interrupts as ints
-use Rattle.execmodel.specs.Interrupts.{by_choice, chain_of, serving_counted, finishes_for, interrupts, runs_chain, runs_server, server_at, server_pri, servers_of, serves, servings, text_of_source}
+use Rattle.exectrace.specs.Heard.{text_of_source}
+use Rattle.execmodel.specs.Interrupts.{by_choice, chain_of, serving_counted, finishes_for, interrupts, runs_chain, runs_server, server_at, server_pri, servers_of, serves, servings}
 use Rattle.execmodel.specs.{State.Bodies, State.Pending, State.Timer as Clock, State.State, State.Outcome, State.quiet, State.says, State.andthen, State.unless_stopped, State.on_pending, State.on_schedule, Pending.allows_interrupts, Pending.is_caused, Pending.next_softint, Pending.next_source, Pending.softint_pri, Pending.with_caused, Pending.with_latch_of}
 use Rattle.execsim.specs.{Actions.served, Actions.softint_seen, Actions.source_seen, Agreement.Seen, Agreement.Agrees, Agreement.Follows, Agreement.Moves, Views.IsFor}
 use Rattle.execsim.proofs.Following.{follows_as, follows_change, follows_known, follows_nothing, follows_says, follows_then, guarded_going, guarded_stopped, moves_latch, moves_schedule}
 use Rattle.execsim.proofs.{Keeping.finishing_keeps, Keeping.server_keeps, Ordering.allowed-in_order, Ordering.counted-in_order}
+use Rattle.exectrace.specs.Hearing.{Hearing}
 
 -- ---- causing
 
@@ -105,24 +107,24 @@ chain_ends asks servers n all =
 abbrev pub rest_of_chain : Source → ℕ → Seen → State → Outcome
 rest_of_chain asks place m = runs_chain (drop place (chain_of asks m.bodies.servers))
 
-pub chain_over : {m : Seen} (asks : Source) (place : ℕ) (t : Tape) → None ≡ slice_get (chain_of asks m.bodies.servers) place
-    → Follows (rest_of_chain asks place m) m m t t
+pub chain_over : {H : Hearing} {m : Seen} (asks : Source) (place : ℕ) (t : H.Told) → None ≡ slice_get (chain_of asks m.bodies.servers) place
+    → Follows H (rest_of_chain asks place m) m m t t
 unfolding runs_chain
-chain_over {m} asks place t over = follows_as {g = quiet}
+chain_over {H} {m} asks place t over = follows_as {g = quiet}
     (λ s e. ap (λ (l : List ℕ). runs_chain l s) (drop_none (chain_of asks m.bodies.servers) place (sym over))) (follows_nothing m t)
 
-pub chain_at_end : {m : Seen} (asks : Source) (place : ℕ) (t : Tape) → length m.bodies.servers ≤ place → Follows (rest_of_chain asks place m) m m t t
+pub chain_at_end : {H : Hearing} {m : Seen} (asks : Source) (place : ℕ) (t : H.Told) → length m.bodies.servers ≤ place → Follows H (rest_of_chain asks place m) m m t t
 unfolding runs_chain
-chain_at_end {m} asks place t all = follows_as {g = quiet}
+chain_at_end {H} {m} asks place t all = follows_as {g = quiet}
     (λ s e. ap (λ (l : List ℕ). runs_chain l s) (chain_ends asks m.bodies.servers place all)) (follows_nothing m t)
 
 -- a server of the chain runs, and what follows
-chain_runs : {m n o : Seen} {a b c : Tape} (asks : Source) (place k : ℕ) → Some k ≡ slice_get (chain_of asks m.bodies.servers) place
-    → Follows (runs_server k) m n a b
-    → Follows (unless_stopped (unclaimed (server_at k m.bodies).claim (drop (suc place) (chain_of asks m.bodies.servers)))) n o b c
-    → Follows (rest_of_chain asks place m) m o a c
+chain_runs : {H : Hearing} {m n o : Seen} {a b c : H.Told} (asks : Source) (place k : ℕ) → Some k ≡ slice_get (chain_of asks m.bodies.servers) place
+    → Follows H (runs_server k) m n a b
+    → Follows H (unless_stopped (unclaimed (server_at k m.bodies).claim (drop (suc place) (chain_of asks m.bodies.servers)))) n o b c
+    → Follows H (rest_of_chain asks place m) m o a c
 unfolding runs_chain
-chain_runs {m} asks place k here runs rest =
+chain_runs {H} {m} asks place k here runs rest =
     let chain = chain_of asks m.bodies.servers in
     let next = drop (suc place) chain in
     follows_as {g = andthen (runs_server k) (unless_stopped (unclaimed (server_at k m.bodies).claim next))}
@@ -131,34 +133,34 @@ chain_runs {m} asks place k here runs rest =
     (follows_then runs rest)
 
 -- it was the last one: it claims the interrupt, or an alert has stopped the machine
-chain_stops : {m n : Seen} {a b : Tape} (asks : Source) (place k : ℕ) → Some k ≡ slice_get (chain_of asks m.bodies.servers) place
-    → Follows (runs_server k) m n a b → ((server_at k m.bodies).claim || n.stopped) ≡ true → Follows (rest_of_chain asks place m) m n a b
-chain_stops {m} {n} {a} {b} asks place k here runs last =
+chain_stops : {H : Hearing} {m n : Seen} {a b : H.Told} (asks : Source) (place k : ℕ) → Some k ≡ slice_get (chain_of asks m.bodies.servers) place
+    → Follows H (runs_server k) m n a b → ((server_at k m.bodies).claim || n.stopped) ≡ true → Follows H (rest_of_chain asks place m) m n a b
+chain_stops {H} {m} {n} {a} {b} asks place k here runs last =
     chain_runs asks place k here runs (by_stopped n.stopped refl (server_at k m.bodies).claim last)
   where
     next : List ℕ
     next = drop (suc place) (chain_of asks m.bodies.servers)
 
-    by_stopped : (stopped : Bool) → n.stopped ≡ stopped → (claim : Bool) → (claim || stopped) ≡ true → Follows (unless_stopped (unclaimed claim next)) n n b b
+    by_stopped : (stopped : Bool) → n.stopped ≡ stopped → (claim : Bool) → (claim || stopped) ≡ true → Follows H (unless_stopped (unclaimed claim next)) n n b b
     by_stopped true is claim last = guarded_stopped b is
     by_stopped false is true last = guarded_going is (follows_nothing n b)
     by_stopped false is false last = absurd cc
 
-module _ {m n : Seen} {a b : Tape} (asks : Source) (place k : ℕ) (here : Some k ≡ slice_get (chain_of asks m.bodies.servers) place) (runs : Follows (runs_server k) m n a b) where
-  pub chain_claimed : (server_at k m.bodies).claim ≡ true → Follows (rest_of_chain asks place m) m n a b
+module _ {H : Hearing} {m n : Seen} {a b : H.Told} (asks : Source) (place k : ℕ) (here : Some k ≡ slice_get (chain_of asks m.bodies.servers) place) (runs : Follows H (runs_server k) m n a b) where
+  pub chain_claimed : (server_at k m.bodies).claim ≡ true → Follows H (rest_of_chain asks place m) m n a b
   chain_claimed claims = chain_stops asks place k here runs (ap (λ (claim : Bool). claim || n.stopped) claims)
 
-  pub chain_alerted : n.stopped ≡ true → Follows (rest_of_chain asks place m) m n a b
+  pub chain_alerted : n.stopped ≡ true → Follows H (rest_of_chain asks place m) m n a b
   chain_alerted stopped = chain_stops asks place k here runs (ap (λ (last : Bool). (server_at k m.bodies).claim || last) stopped ∙ or_true (server_at k m.bodies).claim) where
     or_true : (claim : Bool) → (claim || true) ≡ true
     or_true true = refl
     or_true false = refl
 
 -- it was not the last one
-pub chain_goes_on : {m n o : Seen} {a b c : Tape} (asks : Source) (place k : ℕ) → Some k ≡ slice_get (chain_of asks m.bodies.servers) place
-    → Follows (runs_server k) m n a b → (server_at k m.bodies).claim ≡ false → n.stopped ≡ false
-    → Follows (rest_of_chain asks (place + 1) n) n o b c → Follows (rest_of_chain asks place m) m o a c
-chain_goes_on {m} {n} {o} {b = b} {c = c} asks place k here runs unclaims going rest =
+pub chain_goes_on : {H : Hearing} {m n o : Seen} {a b c : H.Told} (asks : Source) (place k : ℕ) → Some k ≡ slice_get (chain_of asks m.bodies.servers) place
+    → Follows H (runs_server k) m n a b → (server_at k m.bodies).claim ≡ false → n.stopped ≡ false
+    → Follows H (rest_of_chain asks (place + 1) n) n o b c → Follows H (rest_of_chain asks place m) m o a c
+chain_goes_on {H} {m} {n} {o} {b = b} {c = c} asks place k here runs unclaims going rest =
     follows_known (λ s e. chain_runs asks place k here runs (by_claim (server_at k m.bodies).claim unclaims (same_bodies s e)))
   where
     -- no server changes the bodies
@@ -166,7 +168,7 @@ chain_goes_on {m} {n} {o} {b = b} {c = c} asks place k here runs unclaims going 
     same_bodies s e = (runs.agrees s e).bodies ∙ ap (λ (x : Bodies × Clock). x.0) (server_keeps k s) ∙ sym e.bodies
 
     by_claim : (claim : Bool) → claim ≡ false → n.bodies ≡ m.bodies
-        → Follows (unless_stopped (unclaimed claim (drop (suc place) (chain_of asks m.bodies.servers)))) n o b c
+        → Follows H (unless_stopped (unclaimed claim (drop (suc place) (chain_of asks m.bodies.servers)))) n o b c
     by_claim true none same = absurd cc
     by_claim false none same =
         let next_place : suc place ≡ place + 1 = omega arith in
@@ -181,26 +183,26 @@ IsKnownFrom m n = (s : State) → Agrees m s → (t : State) × (Agrees n t × (
 pub known_here : (m : Seen) → IsKnownFrom m m
 known_here m s e = (s, (e, refl))
 
-pub known_after : {m n o : Seen} {a b : Tape} (k : ℕ) → IsKnownFrom m n → Follows (runs_server k) n o a b → IsKnownFrom m o
-known_after {m} {n} {o} k known runs s e =
+pub known_after : {H : Hearing} {m n o : Seen} {a b : H.Told} (k : ℕ) → IsKnownFrom m n → Follows H (runs_server k) n o a b → IsKnownFrom m o
+known_after {H} {m} {n} {o} k known runs s e =
     let before = known s e in
     let t = before.0 in
     let agrees = runs.agrees t before.1.0 in
     ((runs_server k t).state, (agrees, agrees.bodies ∙ ap (λ (x : Bodies × Clock). x.0) (server_keeps k t) ∙ sym before.1.0.bodies ∙ before.1.1))
 
 -- all places were looked at
-pub chain_done : {next : State → Outcome} {m n : Seen} {a b : Tape} (asks : Source) (place : ℕ) → length m.bodies.servers ≤ place → IsKnownFrom m n
-    → ((o : Seen) (c : Tape) → Follows (rest_of_chain asks place n) n o b c → Follows next m o a c) → Follows next m n a b
+pub chain_done : {H : Hearing} {next : State → Outcome} {m n : Seen} {a b : H.Told} (asks : Source) (place : ℕ) → length m.bodies.servers ≤ place → IsKnownFrom m n
+    → ((o : Seen) (c : H.Told) → Follows H (rest_of_chain asks place n) n o b c → Follows H next m o a c) → Follows H next m n a b
 chain_done {m = m} {n = n} {b = b} asks place all known rest = follows_known (λ s e.
     let same : m.bodies ≡ n.bodies = sym (known s e).1.1 in
     rest n b (chain_at_end asks place b (subst (λ (x : Bodies). length x.servers ≤ place) same all)))
 
 -- ---- serving
 
-pub serves_with : {m n o p : Seen} {a b c d : Tape} (asks : Source) → n ≡ record m { schedule = serving_counted asks m.schedule }
-    → Puts a b (printed_line (Serve (text_of_source asks))) → Follows (finishes_for asks) n o b c
-    → Follows (runs_chain (chain_of asks o.bodies.servers)) o p c d → Follows (served asks) m p a d
-serves_with {m} {n} {o} {p} {a} {b} {c} {d} asks is puts finishes follows =
+pub serves_with : {H : Hearing} {m n o p : Seen} {a b c d : H.Told} (asks : Source) → n ≡ record m { schedule = serving_counted asks m.schedule }
+    → H.hears a b ((Serve (text_of_source asks)) ∷ []) → Follows H (finishes_for asks) n o b c
+    → Follows H (runs_chain (chain_of asks o.bodies.servers)) o p c d → Follows H (served asks) m p a d
+serves_with {H} {m} {n} {o} {p} {a} {b} {c} {d} asks is puts finishes follows =
     follows_known (λ s e. follows_as
     {g = λ s. andthen (says (Serve (text_of_source asks))) (andthen (finishes_for asks) (runs_chain (chain_of asks o.bodies.servers)))
     (on_schedule (serving_counted asks) s)}
@@ -225,23 +227,23 @@ suc_servings : (left : ℕ) (s : State) (next : Option Source) → next_source s
 unfolding servings
 suc_servings left s next is = ap (λ (x : Option Source). serving_of left x s) is
 
-pub all_served : {m n : Seen} {a b : Tape} → Follows (servings 3) m n a b → Follows interrupts m n a b
+pub all_served : {H : Hearing} {m n : Seen} {a b : H.Told} → Follows H (servings 3) m n a b → Follows H interrupts m n a b
 unfolding interrupts
 all_served follows = follows
 
-pub no_serving_left : (m : Seen) (t : Tape) → Follows (servings 0) m m t t
+pub no_serving_left : {H : Hearing} (m : Seen) (t : H.Told) → Follows H (servings 0) m m t t
 unfolding servings
 no_serving_left m t = follows_nothing m t
 
 module _ {m n : Seen} (left : ℕ) where
   -- nothing may be served
-  pub nothing_served : (t : Tape) → None ≡ source_seen m → n ≡ record m { pending = m.pending } → Follows (servings (suc left)) m n t t
+  pub nothing_served : {H : Hearing} (t : H.Told) → None ≡ source_seen m → n ≡ record m { pending = m.pending } → Follows H (servings (suc left)) m n t t
   nothing_served t none is = rw is (follows_as {g = quiet}
       (λ s e. suc_servings left s None (source_same s e ∙ sym none)) (follows_nothing m t))
 
   -- a source is served, and then others
-  pub source_served : {o p : Seen} {a b c : Tape} (asks : Source) → Some asks ≡ source_seen m → n ≡ record m { pending = with_latch_of asks false m.pending }
-      → Follows (served asks) n o a b → Follows (unless_stopped (servings left)) o p b c → Follows (servings (suc left)) m p a c
+  pub source_served : {H : Hearing} {o p : Seen} {a b c : H.Told} (asks : Source) → Some asks ≡ source_seen m → n ≡ record m { pending = with_latch_of asks false m.pending }
+      → Follows H (served asks) n o a b → Follows H (unless_stopped (servings left)) o p b c → Follows H (servings (suc left)) m p a c
   unfolding serves
   source_served asks is next serves others = follows_as {g = andthen (λ s. served asks (on_pending (with_latch_of asks false) s)) (unless_stopped (servings left))}
       (λ s e. suc_servings left s (Some asks) (source_same s e ∙ sym is))
@@ -253,5 +255,5 @@ unasked true None e = refl
 unasked true (Some a) e = absurd cc
 unasked false asks e = refl
 
-pub nothing_asks : (m : Seen) (t : Tape) → is_some (highest m.pending.latches) ≡ false → Follows interrupts m m t t
+pub nothing_asks : {H : Hearing} (m : Seen) (t : H.Told) → is_some (highest m.pending.latches) ≡ false → Follows H interrupts m m t t
 nothing_asks m t none = all_served (nothing_served 2 t (unasked (allows_interrupts m.schedule) (highest m.pending.latches) none) refl)

@@ -1,6 +1,5 @@
 -- What a settled machine does, and what leaves a machine settled.
 use Rattle.std.proofs.Common.{◌≡◌, ℕ, zero, suc, ◌+◌, Bool, true, false, cond, ◌&&◌, ◌||◌, Option, None, Some, refl, ap, sym, ◌∙◌, subst, add-one, arith, if◌then◌else◌, is_some, nat_eq, int_lt, int_le, List, ◌++◌}
-use Rattle.exectrace.specs.Sink.{Tape}
 use Rattle.execlist.specs.{Order.first, Disciplines.by_priority, Disciplines.pri_at}
 use Rattle.scheduler.specs.{Schedule.Schedule, Schedule.is_quantum_over, Schedule.is_switching_allowed, Schedule.priority_of, Schedule.renewed, Schedule.switch_for, declared.Switch.Switch, declared.Switch.TheVariants.To, Dispatch.after_switch, Dispatch.rescheduled, Dispatch.switch_of}
 use Rattle.softint.specs.Sources.{highest}
@@ -9,6 +8,7 @@ use Rattle.execsim.specs.{Actions.softint_seen, Agreement.Seen, Agreement.Follow
 use Rattle.execsim.proofs.Following.{andthen-assoc, andthen-quiet, follows_as, follows_nothing, follows_then, guarded_going, while_good_as, while_good_then}
 use Rattle.execsim.proofs.Stepping.{acting_task, acts_going, announces_none, running_as, running_none, settle_going, step_as, switches_as}
 use Rattle.execsim.proofs.Serving.{nothing_asks}
+use Rattle.exectrace.specs.Hearing.{Hearing}
 
 -- ---- settling once more
 
@@ -76,16 +76,16 @@ settled_after m going unasked none is =
     subst IsSettled (sym is) (record { going = going; unasked = unasked; unswitched = still.0; stays = still.1 })
 
 -- a settle in which no source asks makes the switch that is due, if any
-pub settles_by_switch : {m n o : Seen} {a b : Tape} (choice : Option Switch) → m.stopped ≡ false → is_some (highest m.pending.latches) ≡ false
+pub settles_by_switch : {H : Hearing} {m n o : Seen} {a b : H.Told} (choice : Option Switch) → m.stopped ≡ false → is_some (highest m.pending.latches) ≡ false
     → choice ≡ switch_of by_priority m.schedule → n ≡ record m { schedule = rescheduled by_priority m.schedule }
-    → Follows (announced choice) n o a b → Follows settle m o a b
-settles_by_switch {m} {a = a} choice going unasked due is follows =
+    → Follows H (announced choice) n o a b → Follows H settle m o a b
+settles_by_switch {H} {m} {a = a} choice going unasked due is follows =
     settle_going going (follows_then (nothing_asks m a unasked) (guarded_going going (switches_as choice due is follows)))
 
 -- ---- steps of a settled machine
 
 module _ {m : Seen} (settled : IsSettled m) where
-  pub settle_settled : (tape : Tape) → Follows settle m m tape tape
+  pub settle_settled : {H : Hearing} (tape : H.Told) → Follows H settle m m tape tape
   settle_settled tape =
       settles_by_switch None settled.going settled.unasked (sym settled.unswitched) (ap (λ (y : Schedule). record m { schedule = y }) (sym settled.stays))
       (announces_none m tape)
@@ -95,13 +95,13 @@ module _ {m : Seen} (settled : IsSettled m) where
       (record { going = settled.going; unasked = settled.unasked; unswitched = settled.unswitched; stays = settled.stays })
 
   -- the machine is idle
-  pub idle_step : (tape : Tape) → softint_seen m ≡ None → m.schedule.running ≡ None → Follows step m m tape tape
+  pub idle_step : {H : Hearing} (tape : H.Told) → softint_seen m ≡ None → m.schedule.running ≡ None → Follows H step m m tape tape
   idle_step tape uncaused none =
       step_as (acts_going settled.going (acting_task (sym uncaused) refl (running_none tape none))) (settle_settled tape)
 
 -- the running task does a plain word
-pub word_step : {m n : Seen} {a b : Tape} (t : ℕ) → IsSettled m → softint_seen m ≡ None → m.schedule.running ≡ Some t
-    → Follows (task_step (Some t)) m n a b → IsSettled n → Follows step m n a b
+pub word_step : {H : Hearing} {m n : Seen} {a b : H.Told} (t : ℕ) → IsSettled m → softint_seen m ≡ None → m.schedule.running ≡ Some t
+    → Follows H (task_step (Some t)) m n a b → IsSettled n → Follows H step m n a b
 word_step {b = b} t settled uncaused runs follows after =
     step_as (acts_going settled.going (acting_task (sym uncaused) refl (running_as (Some t) runs follows))) (settle_settled after b)
 
@@ -139,12 +139,12 @@ unfolding steps andthen
 one_step s = refl
 
 -- a step, and then some more
-pub step_then : {m n o : Seen} {a b c : Tape} (k : ℕ) → Follows step m n a b → Follows (steps k) n o b c → Follows (steps (k + 1)) m o a c
+pub step_then : {H : Hearing} {m n o : Seen} {a b c : H.Told} (k : ℕ) → Follows H step m n a b → Follows H (steps k) n o b c → Follows H (steps (k + 1)) m o a c
 step_then k one more = follows_as {g = andthen step (steps k)}
     (λ s e. let same : k + 1 ≡ 1 + k = omega arith in ap (λ n. steps n s) same ∙ steps_then 1 k s ∙ first_same (steps 1) step (steps k) s (one_step s))
     (follows_then one more)
 
-pub just_one : {m n : Seen} {a b : Tape} → Follows step m n a b → Follows (steps 1) m n a b
+pub just_one : {H : Hearing} {m n : Seen} {a b : H.Told} → Follows H step m n a b → Follows H (steps 1) m n a b
 just_one one = follows_as {g = step} (λ s e. one_step s) one
 
 same_end : (f : State → Outcome) (s : State) → andthen f (steps 1) s ≡ andthen f step s
@@ -152,21 +152,21 @@ unfolding andthen
 same_end f s = ap (λ (o : Outcome). record { state = o.state; lines = (f s).lines ++ o.lines; marks = (f s).marks ++ o.marks }) (one_step (f s).state)
 
 -- a step after some
-pub then_step : {m n o : Seen} {a b c : Tape} (k : ℕ) → Follows (steps k) m n a b → Follows step n o b c → Follows (steps (k + 1)) m o a c
+pub then_step : {H : Hearing} {m n o : Seen} {a b c : H.Told} (k : ℕ) → Follows H (steps k) m n a b → Follows H step n o b c → Follows H (steps (k + 1)) m o a c
 then_step k before last = follows_as {g = andthen (steps k) step}
     (λ s e. steps_then k 1 s ∙ same_end (steps k) s) (follows_then before last)
 
-pub no_step : (m : Seen) (tape : Tape) → Follows (steps 0) m m tape tape
+pub no_step : {H : Hearing} (m : Seen) (tape : H.Told) → Follows H (steps 0) m m tape tape
 unfolding steps
 no_step m tape = follows_nothing m tape
 
-pub idle_steps : {m : Seen} (k : ℕ) (tape : Tape) → IsSettled m → softint_seen m ≡ None → m.schedule.running ≡ None → Follows (steps k) m m tape tape
-idle_steps {m} zero tape settled uncaused none = no_step m tape
-idle_steps {m} (suc k) tape settled uncaused none =
+pub idle_steps : {H : Hearing} {m : Seen} (k : ℕ) (tape : H.Told) → IsSettled m → softint_seen m ≡ None → m.schedule.running ≡ None → Follows H (steps k) m m tape tape
+idle_steps {H} {m} zero tape settled uncaused none = no_step m tape
+idle_steps {H} {m} (suc k) tape settled uncaused none =
     let same : k + 1 ≡ suc k = omega arith in
-    subst (λ (n : ℕ). Follows (steps n) m m tape tape) same (then_step k (idle_steps k tape settled uncaused none) (idle_step settled tape uncaused none))
+    subst (λ (n : ℕ). Follows H (steps n) m m tape tape) same (then_step k (idle_steps k tape settled uncaused none) (idle_step settled tape uncaused none))
 
 -- some steps after some, as long as the sink is good
-pub then_steps : {m n o : Seen} {a b c : Tape} (i k : ℕ) → FollowsWhileGood (steps i) m n a b → FollowsWhileGood (steps k) n o b c
-    → FollowsWhileGood (steps (i + k)) m o a c
+pub then_steps : {H : Hearing} {m n o : Seen} {a b c : H.Told} (i k : ℕ) → FollowsWhileGood H (steps i) m n a b → FollowsWhileGood H (steps k) n o b c
+    → FollowsWhileGood H (steps (i + k)) m o a c
 then_steps i k before last = while_good_as {g = andthen (steps i) (steps k)} (λ s e. steps_then i k s) (while_good_then before last)

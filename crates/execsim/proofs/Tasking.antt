@@ -1,7 +1,6 @@
 -- How the machine follows the words that begin and end tasks, and the one of priorities.
 use Rattle.std.proofs.Common.{◌≡◌, ℕ, ◌-◌, true, false, List, Option, None, Some, refl, ap, sym, ◌∙◌, subst, codes, if◌then◌else◌, w32}
 use Rattle.std.specs.Int.{cast_signed, cast_unsigned}
-use Rattle.exectrace.specs.{Sink.Tape, Sink.Puts, Trace.printed}
 use Rattle.execlist.specs.{Lists.times, Disciplines.by_arrival, Disciplines.by_priority}
 use Rattle.taskq.specs.Tasks.{is_ready}
 use Rattle.scheduler.specs.{Schedule.Schedule, Schedule.status_of, Schedule.priority_of, Schedule.is_absent, Schedule.leaves, Schedule.removed, Schedule.found, Dispatch.added, Dispatch.reprioritized}
@@ -9,6 +8,7 @@ use Rattle.execmodel.specs.{State.Call, State.State, State.Outcome, State.on_sch
 use Rattle.execsim.specs.Agreement.{Seen, Agrees, Follows, in_order}
 use Rattle.execsim.proofs.Following.{reads_schedule, reads_scripts, moves_memory, moves_schedule, moves_schedule_seen, follows_as, follows_change}
 use Rattle.execsim.proofs.Ordering.{added-in_order, leaves-in_order, removed-in_order, reprioritized-in_order}
+use Rattle.exectrace.specs.Hearing.{Hearing}
 
 -- the same numbers are those of live tasks
 live_same : {m : Seen} (number : ℕ) (s : State) → Agrees m s → is_live_task number s.scripts s.schedule ≡ is_live_task number m.scripts m.schedule
@@ -27,11 +27,11 @@ module _ (t : ℕ) (o : Outcome) where
   queue_lines (Some semaphore) = refl
 
 -- an action that leaves the mark of a task that is removed, too
-follows_queue : {f : State → Outcome} {m n : Seen} {a b : Tape} (semaphore : State → Option ℕ) (t : ℕ) → Follows f m n a b
-    → Follows (λ s. leaving_queue (semaphore s) t (f s)) m n a b
-follows_queue {f} {m} {n} {a} {b} semaphore t follows = record {
+follows_queue : {H : Hearing} {f : State → Outcome} {m n : Seen} {a b : H.Told} (semaphore : State → Option ℕ) (t : ℕ) → Follows H f m n a b
+    → Follows H (λ s. leaving_queue (semaphore s) t (f s)) m n a b
+follows_queue {H} {f} {m} {n} {a} {b} semaphore t follows = record {
   agrees = λ s e. subst (Agrees n) (sym (queue_state t (f s) (semaphore s))) (follows.agrees s e);
-  prints = λ s e. subst (λ lines. Puts a b (printed lines)) (sym (queue_lines t (f s) (semaphore s))) (follows.prints s e);
+  prints = λ s e. subst (λ lines. H.hears a b (lines)) (sym (queue_lines t (f s) (semaphore s))) (follows.prints s e);
 }
 
 found_number-in_order : (t : ℕ) (name : Option (List ℕ)) (y : Schedule) → found_number t name (in_order y) ≡ found_number t name y
@@ -39,15 +39,15 @@ unfolding found
 found_number-in_order t None y = refl
 found_number-in_order t (Some name) y = refl
 
-module _ {m n : Seen} {a b : Tape} (t : ℕ) (call : Call) where
-  pub pri_unknown : is_live_task (argument 0 call) m.scripts m.schedule ≡ false → Follows (alerted (codes "HANDLE") t call) m n a b
-      → Follows (does_set_task_pri t call) m n a b
+module _ {H : Hearing} {m n : Seen} {a b : H.Told} (t : ℕ) (call : Call) where
+  pub pri_unknown : is_live_task (argument 0 call) m.scripts m.schedule ≡ false → Follows H (alerted (codes "HANDLE") t call) m n a b
+      → Follows H (does_set_task_pri t call) m n a b
   unfolding does_set_task_pri
   pri_unknown unknown follows = follows_as
       (λ s e. let same : is_live_task (argument 0 call) s.scripts s.schedule ≡ false = live_same (argument 0 call) s e ∙ unknown in rw same refl) follows
 
   pub pri_outside : is_live_task (argument 0 call) m.scripts m.schedule ≡ true → is_priority (cast_signed w32 (argument 1 call)) ≡ false
-      → Follows (alerted (codes "VALUE") t call) m n a b → Follows (does_set_task_pri t call) m n a b
+      → Follows H (alerted (codes "VALUE") t call) m n a b → Follows H (does_set_task_pri t call) m n a b
   unfolding does_set_task_pri
   pri_outside live outside follows = follows_as
       (λ s e. let same : is_live_task (argument 0 call) s.scripts s.schedule ≡ true = live_same (argument 0 call) s e ∙ live in rw (same, outside) refl) follows
@@ -56,7 +56,7 @@ module _ {m n : Seen} {a b : Tape} (t : ℕ) (call : Call) where
       → old ≡ cast_unsigned w32 (priority_of m.schedule (argument 0 call - 1))
       → n ≡ record m { schedule = reprioritized by_priority (argument 0 call - 1) (cast_signed w32 (argument 1 call)) m.schedule }
       → ((x : ℕ) → times x m.schedule.queue.ready ≡ (if is_ready (status_of m.schedule x) then 1 else 0))
-      → Follows (answered t call old) n o a b → Follows (does_set_task_pri t call) m o a b
+      → Follows H (answered t call old) n o a b → Follows H (does_set_task_pri t call) m o a b
   unfolding does_set_task_pri
   pri_set old live inside was is stand follows = follows_as
       {g = λ s. answered t call old (on_schedule (reprioritized by_arrival (argument 0 call - 1) (cast_signed w32 (argument 1 call))) s)}
@@ -70,7 +70,7 @@ module _ {m n : Seen} {a b : Tape} (t : ℕ) (call : Call) where
       (λ y e. reprioritized-in_order (argument 0 call - 1) (cast_signed w32 (argument 1 call)) y
       (subst (λ (z : Schedule). (x : ℕ) → times x z.queue.ready ≡ (if is_ready (status_of z x) then 1 else 0)) e stand)) is) follows)
 
-  pub add_unknown : is_task (argument 0 call) m.scripts ≡ false → Follows (alerted (codes "HANDLE") t call) m n a b → Follows (does_add_task t call) m n a b
+  pub add_unknown : is_task (argument 0 call) m.scripts ≡ false → Follows H (alerted (codes "HANDLE") t call) m n a b → Follows H (does_add_task t call) m n a b
   unfolding does_add_task
   add_unknown unknown follows = follows_as
       (λ s e. let same : is_task (argument 0 call) s.scripts ≡ false = reads_scripts (is_task (argument 0 call)) unknown s e in rw same refl) follows
@@ -78,7 +78,7 @@ module _ {m n : Seen} {a b : Tape} (t : ℕ) (call : Call) where
   pub add_tried : {o : Seen} (answer : ℕ) → is_task (argument 0 call) m.scripts ≡ true
       → answer ≡ (if is_absent (status_of m.schedule (argument 0 call - 1)) then argument 0 call else 0)
       → n ≡ record m { schedule = added by_priority (argument 0 call - 1) m.schedule }
-      → Follows (answered t call answer) n o a b → Follows (does_add_task t call) m o a b
+      → Follows H (answered t call answer) n o a b → Follows H (does_add_task t call) m o a b
   unfolding does_add_task
   add_tried answer known begun is follows = follows_as
       {g = λ s. answered t call answer (on_schedule (added by_arrival (argument 0 call - 1)) s)}
@@ -90,13 +90,13 @@ module _ {m n : Seen} {a b : Tape} (t : ℕ) (call : Call) where
       (follows_change (moves_schedule (added by_arrival (argument 0 call - 1)) (added by_priority (argument 0 call - 1)) (added-in_order (argument 0 call - 1)) is) follows)
 
   pub rem_caller : {o : Seen} → is_caller t (argument 0 call) ≡ true → n ≡ record m { schedule = leaves t m.schedule }
-      → Follows (done t call) n o a b → Follows (does_rem_task t call) m o a b
+      → Follows H (done t call) n o a b → Follows H (does_rem_task t call) m o a b
   unfolding does_rem_task
   rem_caller own is follows = follows_as {g = λ s. done t call (on_schedule (leaves t) s)} (λ s e. rw own refl)
       (follows_change (moves_schedule (leaves t) (leaves t) (leaves-in_order t) is) follows)
 
   pub rem_unknown : is_caller t (argument 0 call) ≡ false → is_live_task (argument 0 call) m.scripts m.schedule ≡ false
-      → Follows (alerted (codes "HANDLE") t call) m n a b → Follows (does_rem_task t call) m n a b
+      → Follows H (alerted (codes "HANDLE") t call) m n a b → Follows H (does_rem_task t call) m n a b
   unfolding does_rem_task
   rem_unknown other unknown follows = follows_as
       (λ s e. let same : is_live_task (argument 0 call) s.scripts s.schedule ≡ false = live_same (argument 0 call) s e ∙ unknown in rw (other, same) refl) follows
@@ -106,7 +106,7 @@ module _ {m n : Seen} {a b : Tape} (t : ℕ) (call : Call) where
         schedule = removed (argument 0 call - 1) m.schedule;
         memory = on_heap (dropped (argument 0 call - 1)) m.memory;
       }
-      → Follows (done t call) n o a b → Follows (does_rem_task t call) m o a b
+      → Follows H (done t call) n o a b → Follows H (does_rem_task t call) m o a b
   unfolding does_rem_task
   rem_other other live is follows =
       let number = argument 0 call - 1 in
@@ -117,8 +117,8 @@ module _ {m n : Seen} {a b : Tape} (t : ℕ) (call : Call) where
       (moves_memory (on_heap (dropped number)) (on_heap (dropped number)) (λ y. refl) refl)
       (follows_change (moves_schedule (removed number) (removed number) (removed-in_order number) is) follows)))
 
-  pub task_found : (answer : ℕ) → answer ≡ found_number t (name_argument 0 call) m.schedule → Follows (answered t call answer) m n a b
-      → Follows (does_find_task t call) m n a b
+  pub task_found : (answer : ℕ) → answer ≡ found_number t (name_argument 0 call) m.schedule → Follows H (answered t call answer) m n a b
+      → Follows H (does_find_task t call) m n a b
   unfolding does_find_task
   task_found answer is follows = follows_as {g = answered t call answer}
       (λ s e.

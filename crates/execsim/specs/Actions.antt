@@ -9,8 +9,9 @@ use Rattle.scheduler.specs.{Schedule.frees, Dispatch.signalled}
 use Rattle.msgport.specs.declared.action.Action.{Action}
 use Rattle.msgport.specs.declared.action.Action.TheVariants as action
 use Rattle.softint.specs.{Sources.highest, declared.source.Source.Source}
-use Rattle.taskscript.specs.Commands.{CommandData}
-use Rattle.execmodel.specs.{State.Call, State.Pending, State.State, State.Outcome, State.quiet, State.says, State.andthen, State.unless_stopped, State.on_schedule, Bodies.body_step, Bodies.runs_body, Calls.Caller, Calls.ByTask, Calls.done, Calls.done_by, Calls.answered, Calls.alerted, Calls.alerted_by, Requests.finishes_until, Interrupts.chain_of, Interrupts.serving_counted, Interrupts.finishes_for, Interrupts.runs_chain, Interrupts.softint_at, Interrupts.text_of_source, Pending.allows_interrupts, Pending.softint_next, Pending.caused_no_more, Pending.with_caused, Pending.with_latch_of, Semaphores.obtains, Semaphores.passes, Step.task_step}
+use Rattle.script.specs.Commands.{CommandData}
+use Rattle.exectrace.specs.Heard.{text_of_source}
+use Rattle.execmodel.specs.{State.Call, State.Pending, State.State, State.Outcome, State.quiet, State.says, State.andthen, State.unless_stopped, State.on_schedule, Bodies.body_step, Bodies.runs_body, Calls.Caller, Calls.ByTask, Calls.done, Calls.done_by, Calls.answered, Calls.alerted, Calls.alerted_by, Requests.finishes_until, Interrupts.chain_of, Interrupts.serving_counted, Interrupts.finishes_for, Interrupts.runs_chain, Interrupts.softint_at, Pending.allows_interrupts, Pending.softint_next, Pending.caused_no_more, Pending.with_caused, Pending.with_latch_of, Semaphores.obtains, Semaphores.passes, Step.task_step}
 use Rattle.execmodel.specs.Ports as model
 use Rattle.sigsem.specs.declared.semaphore.Obtained.{Obtained}
 use Rattle.execsim.specs.Agreement.{Seen}

@@ -1,9 +1,10 @@
 -- Steps of which only the first may print.
 use Rattle.std.specs.Prelude.{◌≡◌, ◌+◌, ◌≤◌, ◌↔◌, ⊤, Bool, false, true, ℕ, zero, suc, [], Result, IfOk, IsOk, MatchResult}
 use Rattle.exectrace.specs.{Sink.Tape, Sink.Writes, Trace.printed, declared.sinks.SinkState.TheVariants.Good, declared.sinks.WriteFault.WriteFault}
-use Rattle.taskscript.specs.declared.event.Event.TheVariants.{Run}
+use Rattle.exectrace.specs.Hearing.{Hearing}
+use Rattle.script.specs.declared.event.Event.TheVariants.{Run}
 use Rattle.execmodel.specs.{State.State, Step.event, Step.step, Step.steps}
-use Rattle.execsim.specs.{Agreement.Seen, Agreement.Agrees, Agreement.Follows, Changes.ChangesScripts, Headline.Shown}
+use Rattle.execsim.specs.{Agreement.Seen, Agreement.Agrees, Agreement.Follows, Agreement.Quietly, Changes.ChangesScripts, Headline.Shown}
 
 -- that many steps, each of which prints nothing
 abbrev pub IsSilent : ℕ → State → Type 0
@@ -12,14 +13,14 @@ IsSilent (suc n) s = (printed (event (Run 1) s).lines ≡ []) × IsSilent n (eve
 
 -- The machine goes on by that many steps, which print nothing.
 pub record GoesSilently (n : ℕ) (old new : Seen) : Type 0 where
-  pub follows : (tape : Tape) → Follows (steps n) old new tape tape
+  pub follows : Quietly (steps n) old new
   pub silent : (s : State) → Agrees old s → IsSilent n s
   pub changes : ChangesScripts old new
 
 -- The machine goes on by a step, and by that many more, which print nothing.
-pub record StepsSilently (n : ℕ) (old new : Seen) (before after : Tape) : Type 0 where
+pub record StepsSilently (H : Hearing) (n : ℕ) (old new : Seen) (before after : H.Told) : Type 0 where
   pub between : Seen
-  pub first : Follows step old between before after
+  pub first : Follows H step old between before after
   pub others : GoesSilently n between new
 
 -- After some steps the answer is how many they were, or that the sink has failed, which fails the machine.

@@ -1,10 +1,10 @@
 -- How the machine agrees with the abstract machine, and how a part of it follows an action. The abstract state keeps its ready
 -- tasks, its public ports and its caused software interrupts in order of arrival; the machine keeps each in order of priority. All else is
 -- equal.
-use Rattle.std.specs.Prelude.{◌≡◌, ◌≢◌, ℕ, Bool, List}
-use Rattle.exectrace.specs.{Sink.Tape, Sink.Puts, declared.sinks.SinkState.TheVariants.Good, Trace.printed}
+use Rattle.std.specs.Prelude.{◌≡◌, ℕ, Bool, true, false, List, []}
+use Rattle.exectrace.specs.Hearing.{Hearing}
 use Rattle.exectrace.specs.Trace as trace
-use Rattle.taskscript.specs.{Words.word_text, File.SoftintData}
+use Rattle.script.specs.{Words.word_text, File.SoftintData}
 use Rattle.execlist.specs.{Order.order, Disciplines.pri_at}
 use Rattle.scheduler.specs.Schedule.{Schedule, name_of}
 use Rattle.execmodel.specs.{State.Bodies, State.Call, State.Memory, State.Pending, State.State, State.Scripts, State.Outcome, Pending.softint_pri, Ports.priority_of_public}
@@ -43,16 +43,21 @@ pub record Agrees (seen : Seen) (s : State) : Type 0 where
 abbrev pub line_seen : ℕ → Call → trace.Outcome → Seen → trace.TraceLine
 line_seen t call outcome seen = trace.Call (name_of seen.schedule t) (word_text call.word) call.arguments outcome
 
--- From any state that it agrees with, the machine goes on as the action says, and prints its lines.
-pub record Follows (next : State → Outcome) (old new : Seen) (before after : Tape) : Type 0 where
+-- From any state that it agrees with, the machine goes on as the action says, and who listens hears what happens.
+pub record Follows (H : Hearing) (next : State → Outcome) (old new : Seen) (before after : H.Told) : Type 0 where
   pub agrees : (s : State) → Agrees old s → Agrees new (next s).state
-  pub prints : (s : State) → Agrees old s → Puts before after (printed (next s).lines)
+  pub prints : (s : State) → Agrees old s → H.hears before after (next s).lines
 
--- The same as long as the sink is good. Once it is not, its lines are lost and the machine stays after the action.
-pub record FollowsWhileGood (next : State → Outcome) (old new : Seen) (before after : Tape) : Type 0 where
-  pub agrees : (s : State) → Agrees old s → after.state ≡ Good → Agrees new (next s).state
-  pub prints : (s : State) → Agrees old s → Puts before after (printed (next s).lines)
-  pub afterwards : before.state ≢ Good → after ≡ before
+-- The same as long as one listens. Once it does not, nothing is said and the machine stays after the action.
+pub record FollowsWhileGood (H : Hearing) (next : State → Outcome) (old new : Seen) (before after : H.Told) : Type 0 where
+  pub agrees : (s : State) → Agrees old s → H.good after ≡ true → Agrees new (next s).state
+  pub prints : (s : State) → Agrees old s → H.hears before after (next s).lines
+  pub afterwards : H.good before ≡ false → after ≡ before
+
+-- From any state that it agrees with, the machine goes on as the action says, which says nothing.
+pub record Quietly (next : State → Outcome) (old new : Seen) : Type 0 where
+  pub agrees : (s : State) → Agrees old s → Agrees new (next s).state
+  pub quiet : (s : State) → Agrees old s → (next s).lines ≡ []
 
 -- The same of a change of the state alone.
 pub record Moves (next : State → State) (old new : Seen) : Type 0 where

@@ -2,7 +2,8 @@
 -- trace of its whole run.
 use Rattle.std.specs.Prelude.{◌≡◌, Bool, true, false, List, Result, Ok, Err, IfOk, IsOk, ◌↔◌, MatchResult}
 use Rattle.exectrace.specs.{Sink.Tape, Sink.TakesAll, Sink.Breaks, Sink.Writes, Trace.printed, declared.sinks.SinkState.TheVariants.Good, declared.sinks.WriteFault.WriteFault}
-use Rattle.taskscript.specs.{File.MachineData, declared.event.Event.Event, declared.fault.FileFault.FileFault, declared.fault.EventFault.EventFault}
+use Rattle.script.specs.{File.MachineData, declared.event.Event.Event}
+use Rattle.taskscript.specs.{declared.fault.FileFault.FileFault, declared.fault.EventFault.EventFault}
 use Rattle.taskscript.specs.declared.fault.FileFault.TheVariants as file_fault
 use Rattle.taskscript.specs.declared.fault.EventFault.TheVariants as event_fault
 use Rattle.execmodel.specs.{State.State, State.Outcome, Step.run}

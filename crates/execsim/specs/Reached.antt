@@ -1,6 +1,6 @@
 -- The states that a machine comes to, and that what the machine shows of its semaphores agrees with what it shows of its tasks.
 use Rattle.std.specs.Prelude.{ℕ, ◌≤◌, length}
-use Rattle.taskscript.specs.{File.MachineData, Machines.IsMachine, declared.event.Event.Event}
+use Rattle.script.specs.{File.MachineData, Machines.IsMachine, declared.event.Event.Event}
 use Rattle.execmodel.specs.{State.State, State.booted, Step.starts, Step.event, Semaphores.waiters_of}
 use Rattle.execmodel.specs.Agreement as model
 use Rattle.execsim.specs.Agreement.{Seen}

@@ -2,7 +2,7 @@
 use Rattle.std.specs.Prelude.{ℕ, zero, suc, ◌++◌, List, [], Option, None, Some, codes}
 use Rattle.std.specs.Option.{option_map_or}
 use Rattle.exectrace.specs.Trace.{Call as call_line, Waits, printed_line}
-use Rattle.taskscript.specs.Words.{word_text}
+use Rattle.script.specs.Words.{word_text}
 use Rattle.taskq.specs.declared.TaskState.TheVariants.{Absent, Ready, Running, Waiting, Removed}
 use Rattle.taskq.specs.declared.TaskState.{TaskState}
 use Rattle.scheduler.specs.Schedule.{Schedule, name_of, status_of, task_count}

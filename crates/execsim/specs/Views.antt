@@ -1,7 +1,7 @@
 -- What the calls and the bodies of the machine show.
 use Rattle.std.specs.Prelude.{◌≡◌, ◌<◌, ℕ, List, map, take}
 use Rattle.exectrace.specs.Short.{short_argument}
-use Rattle.taskscript.specs.{Commands.CommandData, Commands.command_view, File.SoftintData, File.ServerData}
+use Rattle.script.specs.{Commands.CommandData, Commands.command_view, File.SoftintData, File.ServerData}
 use Rattle.softint.specs.{declared.interrupt.Server.Server as Interrupting, Interrupts.Interrupts}
 use Rattle.execmodel.specs.State as model
 use Rattle.execmodel.specs.{Calls.ByTask, Calls.ByBody, Interrupts.softint_at, Interrupts.server_at, Pending.source_named}

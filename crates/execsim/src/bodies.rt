@@ -1,16 +1,16 @@
 //! What the software interrupts and the servers execute. Nothing changes it once the machine is made, until it is reset.
 ghost use Rattle.std.specs.Prelude.{◌≡◌, ◌≢◌, ◌<◌, All, IfOk, length, map, slice_index_or, true, AllPairs};
-ghost use Rattle.taskscript.specs.{Commands.command_view, Machines.softint_names, Numbering.texts};
-ghost use Rattle.taskscript.specs.Records as records;
+ghost use Rattle.script.specs.{Commands.command_view, Machines.softint_names, Names.texts};
+ghost use Rattle.script.specs.Records as records;
 ghost use Rattle.execmodel.specs.{Interrupts.no_server, Interrupts.no_softint, Interrupts.server_at, Pending.softint_named};
 ghost use Rattle.execsim.specs.Views.{code_of_body, interrupting, name_of_body, server_view, softint_view};
 
 use crate::code::{copied_code, copy_code};
 use exectrace::Name;
 use indexmap::IndexSet;
+use script::{Command, ServerRecord, SoftintRecord, Source};
 use std::alloc::{AllocError, Global};
 use std::marker::Model;
-use taskscript::{Command, ServerRecord, SoftintRecord, Source};
 
 /// How many marks of names there are.
 const HINTS: usize = 256;
@@ -55,7 +55,7 @@ pub struct Bodies {
 
 impl Model for Bodies {
     ghost use Rattle.std.specs.Prelude.{◌≡◌, ◌≢◌, map, AllPairs};
-    ghost use Rattle.taskscript.specs.{Machines.softint_names, Numbering.texts};
+    ghost use Rattle.script.specs.{Machines.softint_names, Names.texts};
     ghost use Rattle.execmodel.specs.State as model;
     ghost use Rattle.execsim.specs.Views.{server_view, softint_view};
 

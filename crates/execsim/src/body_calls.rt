@@ -2,14 +2,15 @@
 //! its end at once, or to an alert.
 ghost use Rattle.std.specs.Prelude.{◌≡◌, ◌≤◌, ℕ, List, [], ◌∷◌, IfSome, None, Some, true, map, slice_get, take};
 ghost use Rattle.execlist.specs.Disciplines.{by_priority};
-ghost use Rattle.exectrace.specs.{Short.short_argument, Sink.Puts, Sink.Tape, Shown.shown_outcome, Trace.Quoted, Trace.Value, Trace.printed_line};
+ghost use Rattle.exectrace.specs.{Short.short_argument, Shown.shown_outcome, Trace.Quoted, Trace.Value};
 ghost use Rattle.exectrace.specs.Trace as trace;
-ghost use Rattle.taskscript.specs.{Words.word_text, Commands.argument_view, Commands.command_view};
+ghost use Rattle.script.specs.Alerts.{alert_text};
+ghost use Rattle.script.specs.{Words.word_text, Commands.argument_view, Commands.command_view};
 ghost use Rattle.scheduler.specs.Dispatch.{signalled};
 ghost use Rattle.execmodel.specs.{Bodies.does_in_body, Bodies.does_interrupts_by, Bodies.does_plain_by, Bodies.does_ports_by, Bodies.does_signals_by, Bodies.runs_body, State.Scripts, State.State, Calls.ByBody, Calls.alerted_by, Calls.answered_by, Calls.argument, Calls.call_in_body, Calls.done_by, Calls.evaluated_in_body, Calls.number_in, Calls.silent_by, Calls.stored_shared};
 ghost use Rattle.execmodel.specs.State as model;
 ghost use Rattle.execmodel.specs.Calls as calls;
-ghost use Rattle.execsim.specs.{Actions.caused, Actions.does_at_place, Agreement.Follows, Agreement.Seen, Callers.HasTask, Views.call_view, Views.code_of_body};
+ghost use Rattle.execsim.specs.{Agreement.Quietly, Actions.caused, Actions.does_at_place, Agreement.Follows, Agreement.Seen, Callers.HasTask, Views.call_view, Views.code_of_body};
 
 use crate::bodies::Body;
 use crate::call::{Call, Caller};
@@ -20,13 +21,12 @@ use crate::program::command_at;
 use crate::task_signals::is_mask;
 use execlist::space::ListSpace;
 use exectrace::lines::CallOutcome;
-use exectrace::printing::{put_alert, put_short_call};
-use exectrace::{Name, ShortArg, Sink};
+use exectrace::{Name, Said, ShortArg, Witness};
+use script::{
+    Alert, Argument, Command, InterruptWord, PlainWord, PortWord, SignalWord, Variable, Word,
+};
 use softint::caused::IntId;
 use taskq::TaskId;
-use taskscript::{
-    Argument, Command, InterruptWord, PlainWord, PortWord, SignalWord, Variable, Word,
-};
 
 /// A signalling that a body makes: the task receives the signals of the mask.
 #[derive(Clone, Copy)]
@@ -191,12 +191,17 @@ impl<S: ListSpace> Kernel<S> {
     // ---- how it ends
 
     /// Prints the line of a call of the body of that name.
-    fn say_in_body<W: Sink>(&self, name: &Name, call: &Call, outcome: CallOutcome, out: &mut W)
-        ensures { Puts (W.tape out.old) (W.tape out.new)
-            (printed_line (trace.Call name.now.bytes (word_text call.now.word) (call_view call.now).arguments (shown_outcome outcome))) }
+    fn say_in_body<W: Witness>(&self, name: &Name, call: &Call, outcome: CallOutcome, out: &mut W)
+        ensures { W.hearing.hears (W.told out.old) (W.told out.new)
+            ((trace.Call name.now.bytes (word_text call.now.word) (call_view call.now).arguments (shown_outcome outcome)) ∷ []) }
     {
-        let word = call.word.text();
-        put_short_call(name, word, call.shown(), &call.quoted, outcome, out);
+        out.hear(&Said::Call {
+            by: name,
+            word: call.word,
+            arguments: call.shown(),
+            quoted: &call.quoted,
+            ends: outcome,
+        });
     }
 
     /// A shared variable, or none, is given a value; a body has no variables of its own.
@@ -212,21 +217,21 @@ impl<S: ListSpace> Kernel<S> {
     }
 
     /// The call answers nothing, and the body goes on.
-    pub(crate) fn done_in_body<W: Sink>(&mut self, name: &Name, call: &Call, out: &mut W)
-        ensures { Follows (done_by (ByBody name.now.bytes) (call_view call.now)) self.old self.new (W.tape out.old) (W.tape out.new) }
+    pub(crate) fn done_in_body<W: Witness>(&mut self, name: &Name, call: &Call, out: &mut W)
+        ensures { Follows W.hearing (done_by (ByBody name.now.bytes) (call_view call.now)) self.old self.new (W.told out.old) (W.told out.new) }
     {
         self.say_in_body(name, call, CallOutcome::Done, out);
     }
 
     /// The call answers, into its target if it has one, and the body goes on.
-    pub(crate) fn answered_in_body<W: Sink>(
+    pub(crate) fn answered_in_body<W: Witness>(
         &mut self,
         name: &Name,
         call: &Call,
         value: u32,
         out: &mut W,
     )
-        ensures { Follows (answered_by (ByBody name.now.bytes) (call_view call.now) value) self.old self.new (W.tape out.old) (W.tape out.new) }
+        ensures { Follows W.hearing (answered_by (ByBody name.now.bytes) (call_view call.now) value) self.old self.new (W.told out.old) (W.told out.new) }
     {
         self.say_in_body(name, call, CallOutcome::Answers(value), out);
         self.store_in_body(call.target, value);
@@ -235,36 +240,40 @@ impl<S: ListSpace> Kernel<S> {
     /// A word that is no call of Exec answers, into its target if it has one, and prints nothing, in the body of any name.
     #[inline(always)]
     pub(crate) fn silent_in_body(&mut self, target: Option<Variable>, value: u32)
-        ensures { (name : List ℕ) (call : model.Call) (tape : Tape) → call.target ≡ target
-            → Follows (silent_by (ByBody name) call value) self.old self.new tape tape }
+        ensures { (name : List ℕ) (call : model.Call) → call.target ≡ target
+            → Quietly (silent_by (ByBody name) call value) self.old self.new }
     {
         self.store_in_body(target, value);
     }
 
     /// The call is refused: it changes nothing, and the machine stops for good.
-    pub(crate) fn alerted_in_body<W: Sink>(
+    pub(crate) fn alerted_in_body<W: Witness>(
         &mut self,
-        code: &str,
+        code: Alert,
         name: &Name,
         call: &Call,
         out: &mut W,
     )
-        ensures { Follows (alerted_by code.now (ByBody name.now.bytes) (call_view call.now)) self.old self.new (W.tape out.old) (W.tape out.new) }
+        ensures { Follows W.hearing (alerted_by (alert_text code) (ByBody name.now.bytes) (call_view call.now)) self.old self.new (W.told out.old) (W.told out.new) }
     {
-        put_alert(code, name, call.word.text(), out);
+        out.hear(&Said::Alert {
+            code,
+            by: name,
+            word: call.word,
+        });
         self.stop();
     }
 
     // ---- the words that a body may have
 
-    fn does_plain_in_body<W: Sink>(
+    fn does_plain_in_body<W: Witness>(
         &mut self,
         word: PlainWord,
         name: &Name,
         call: &Call,
         out: &mut W,
     )
-        ensures { Follows (does_plain_by word (ByBody name.now.bytes) (call_view call.now)) self.old self.new (W.tape out.old) (W.tape out.new) }
+        ensures { Follows W.hearing (does_plain_by word (ByBody name.now.bytes) (call_view call.now)) self.old self.new (W.told out.old) (W.told out.new) }
     {
         match word {
             PlainWord::Set => self.set(&Caller::Body(*name), call),
@@ -278,14 +287,14 @@ impl<S: ListSpace> Kernel<S> {
     }
 
     #[inline(always)]
-    fn does_signals_in_body<W: Sink>(
+    fn does_signals_in_body<W: Witness>(
         &mut self,
         word: SignalWord,
         name: &Name,
         call: &Call,
         out: &mut W,
     )
-        ensures { Follows (does_signals_by word (ByBody name.now.bytes) (call_view call.now)) self.old self.new (W.tape out.old) (W.tape out.new) }
+        ensures { Follows W.hearing (does_signals_by word (ByBody name.now.bytes) (call_view call.now)) self.old self.new (W.told out.old) (W.told out.new) }
     {
         match word {
             SignalWord::Signal => self.signal(&Caller::Body(*name), call, out),
@@ -293,8 +302,14 @@ impl<S: ListSpace> Kernel<S> {
         }
     }
 
-    fn does_ports_in_body<W: Sink>(&mut self, word: PortWord, name: &Name, call: &Call, out: &mut W)
-        ensures { Follows (does_ports_by word (ByBody name.now.bytes) (call_view call.now)) self.old self.new (W.tape out.old) (W.tape out.new) }
+    fn does_ports_in_body<W: Witness>(
+        &mut self,
+        word: PortWord,
+        name: &Name,
+        call: &Call,
+        out: &mut W,
+    )
+        ensures { Follows W.hearing (does_ports_by word (ByBody name.now.bytes) (call_view call.now)) self.old self.new (W.told out.old) (W.told out.new) }
     {
         match word {
             PortWord::PutMsg => self.put_msg(&Caller::Body(*name), call, out),
@@ -304,14 +319,14 @@ impl<S: ListSpace> Kernel<S> {
         }
     }
 
-    fn does_interrupts_in_body<W: Sink>(
+    fn does_interrupts_in_body<W: Witness>(
         &mut self,
         word: InterruptWord,
         name: &Name,
         call: &Call,
         out: &mut W,
     )
-        ensures { Follows (does_interrupts_by word (ByBody name.now.bytes) (call_view call.now)) self.old self.new (W.tape out.old) (W.tape out.new) }
+        ensures { Follows W.hearing (does_interrupts_by word (ByBody name.now.bytes) (call_view call.now)) self.old self.new (W.told out.old) (W.told out.new) }
     {
         match word {
             InterruptWord::Cause => self.cause_named(&Caller::Body(*name), call, out),
@@ -321,8 +336,8 @@ impl<S: ListSpace> Kernel<S> {
     /// A call of the body of that name, by the group of its word.
     #[tactic(auto, unfolding(execmodel::specs::Bodies::does_in_body))]
     #[inline(always)]
-    fn does_in_body<W: Sink>(&mut self, name: &Name, call: &Call, out: &mut W)
-        ensures { Follows (does_in_body name.now.bytes (call_view call.now)) self.old self.new (W.tape out.old) (W.tape out.new) }
+    fn does_in_body<W: Witness>(&mut self, name: &Name, call: &Call, out: &mut W)
+        ensures { Follows W.hearing (does_in_body name.now.bytes (call_view call.now)) self.old self.new (W.told out.old) (W.told out.new) }
     {
         match call.word {
             Word::Plain(word) => self.does_plain_in_body(word, name, call, out),
@@ -336,32 +351,50 @@ impl<S: ListSpace> Kernel<S> {
     /// Prints the line of a call that answers nothing, of the body of that name, from its command, whose word has this text: no call is made of it.
     #[cold]
     #[inline(never)]
-    fn line_in_body<W: Sink>(&self, text: &str, command: &Command, name: &Name, out: &mut W)
-        ensures { Puts (W.tape out.old) (W.tape out.new) (printed_line
-            (trace.Call name.now.bytes text.now (call_in_body (command_view command.now) self.now.scripts).arguments trace.Done)) }
+    fn line_in_body<W: Witness>(&self, word: Word, command: &Command, name: &Name, out: &mut W)
+        ensures { W.hearing.hears (W.told out.old) (W.told out.new)
+            (trace.Call name.now.bytes (word_text word) (call_in_body (command_view command.now) self.now.scripts).arguments trace.Done ∷ []) }
     {
         let count = command.count as usize;
         let mut values = [ShortArg::Value(0); 4];
         self.evaluate_all_in_body(&command.arguments, count, &mut values);
         let shown = &values[..count];
-        put_short_call(name, text, shown, &command.name, CallOutcome::Done, out);
+        out.hear(&Said::Call {
+            by: name,
+            word: word,
+            arguments: shown,
+            quoted: &command.name,
+            ends: CallOutcome::Done,
+        });
     }
 
     /// Prints the line of a call that mostly has one argument, as `line_in_body` does. One argument is put in no list of values.
     #[inline(always)]
-    fn short_line_in_body<W: Sink>(&self, text: &str, command: &Command, name: &Name, out: &mut W)
-        ensures { Puts (W.tape out.old) (W.tape out.new) (printed_line
-            (trace.Call name.now.bytes text.now (call_in_body (command_view command.now) self.now.scripts).arguments trace.Done)) }
+    fn short_line_in_body<W: Witness>(
+        &self,
+        word: Word,
+        command: &Command,
+        name: &Name,
+        out: &mut W,
+    )
+        ensures { W.hearing.hears (W.told out.old) (W.told out.new)
+            (trace.Call name.now.bytes (word_text word) (call_in_body (command_view command.now) self.now.scripts).arguments trace.Done ∷ []) }
     {
         if command.count != 1 {
-            self.line_in_body(text, command, name, out);
+            self.line_in_body(word, command, name, out);
             return;
         }
         match argument_at(command, 0) {
-            None => self.line_in_body(text, command, name, out),
+            None => self.line_in_body(word, command, name, out),
             Some(argument) => {
                 let value = self.evaluate_in_body(*argument);
-                put_short_call(name, text, &[value], &command.name, CallOutcome::Done, out);
+                out.hear(&Said::Call {
+                    by: name,
+                    word: word,
+                    arguments: &[value],
+                    quoted: &command.name,
+                    ends: CallOutcome::Done,
+                });
             }
         }
     }
@@ -390,7 +423,7 @@ impl<S: ListSpace> Kernel<S> {
 
     /// The signalling of a command of the body of that name, if it is of the word Signal and is not refused. Then its line is printed.
     #[inline(always)]
-    fn signalling_in_body<W: Sink>(
+    fn signalling_in_body<W: Witness>(
         &self,
         command: &Command,
         name: &Name,
@@ -398,8 +431,8 @@ impl<S: ListSpace> Kernel<S> {
     ) -> Option<Sent>
         ensures known { IfSome result (λ sent. HasTask sent.task self.now) }
         ensures sent { IfSome result (λ sent. (n : Seen) → n ≡ record self.now { schedule = signalled by_priority sent.task sent.mask self.now.schedule }
-            → Follows (does_in_body name.now.bytes (call_in_body (command_view command.now) self.now.scripts)) self.now n (W.tape out.old) (W.tape out.new)) }
-        ensures nothing { result ≡ None → W.tape out.new ≡ W.tape out.old }
+            → Follows W.hearing (does_in_body name.now.bytes (call_in_body (command_view command.now) self.now.scripts)) self.now n (W.told out.old) (W.told out.new)) }
+        ensures nothing { result ≡ None → W.told out.new ≡ W.told out.old }
     {
         if !is_signal(command.word) {
             return None;
@@ -416,14 +449,13 @@ impl<S: ListSpace> Kernel<S> {
                     return None;
                 }
                 let shown = [ShortArg::Value(other), ShortArg::Value(mask)];
-                put_short_call(
-                    name,
-                    "Signal",
-                    &shown,
-                    &command.name,
-                    CallOutcome::Done,
-                    out,
-                );
+                out.hear(&Said::Call {
+                    by: name,
+                    word: Word::Signals(SignalWord::Signal),
+                    arguments: &shown,
+                    quoted: &command.name,
+                    ends: CallOutcome::Done,
+                });
                 Some(Sent {
                     task: other as usize - 1,
                     mask,
@@ -435,10 +467,15 @@ impl<S: ListSpace> Kernel<S> {
     /// The number of the software interrupt that a command of the body of that name causes, if it is of the word Cause and its argument is a name.
     /// Then its line is printed.
     #[inline(always)]
-    fn causing_in_body<W: Sink>(&self, command: &Command, name: &Name, out: &mut W) -> Option<IntId>
+    fn causing_in_body<W: Witness>(
+        &self,
+        command: &Command,
+        name: &Name,
+        out: &mut W,
+    ) -> Option<IntId>
         ensures causes { IfSome result (λ i. (n : Seen) → n ≡ caused i self.now
-            → Follows (does_in_body name.now.bytes (call_in_body (command_view command.now) self.now.scripts)) self.now n (W.tape out.old) (W.tape out.new)) }
-        ensures nothing { result ≡ None → W.tape out.new ≡ W.tape out.old }
+            → Follows W.hearing (does_in_body name.now.bytes (call_in_body (command_view command.now) self.now.scripts)) self.now n (W.told out.old) (W.told out.new)) }
+        ensures nothing { result ≡ None → W.told out.new ≡ W.told out.old }
     {
         if !is_cause(command.word) {
             return None;
@@ -448,14 +485,13 @@ impl<S: ListSpace> Kernel<S> {
         }
         let own = &command.name;
         let i = self.softint_named(own);
-        put_short_call(
-            name,
-            "Cause",
-            &[ShortArg::Quoted],
-            own,
-            CallOutcome::Done,
-            out,
-        );
+        out.hear(&Said::Call {
+            by: name,
+            word: Word::Interrupts(InterruptWord::Cause),
+            arguments: &[ShortArg::Quoted],
+            quoted: own,
+            ends: CallOutcome::Done,
+        });
         Some(i)
     }
 
@@ -463,9 +499,9 @@ impl<S: ListSpace> Kernel<S> {
 
     /// The command at a place of a body is done by its call, unless an alert has stopped the machine.
     #[inline(never)]
-    fn call_at_place<W: Sink>(&mut self, body: Body, place: usize, name: &Name, out: &mut W)
-        ensures { Follows (does_at_place name.now.bytes (slice_get (code_of_body body self.old.bodies) place))
-            self.old self.new (W.tape out.old) (W.tape out.new) }
+    fn call_at_place<W: Witness>(&mut self, body: Body, place: usize, name: &Name, out: &mut W)
+        ensures { Follows W.hearing (does_at_place name.now.bytes (slice_get (code_of_body body self.old.bodies) place))
+            self.old self.new (W.told out.old) (W.told out.new) }
     {
         if self.stopped {
             return;
@@ -492,9 +528,9 @@ impl<S: ListSpace> Kernel<S> {
     /// The command at a place of a body is done, unless an alert has stopped the machine. A Signal is done at once if it is not refused, and
     /// so is a Cause.
     #[inline(always)]
-    fn ask_at_place<W: Sink>(&mut self, body: Body, place: usize, name: &Name, out: &mut W)
-        ensures { Follows (does_at_place name.now.bytes (slice_get (code_of_body body self.old.bodies) place))
-            self.old self.new (W.tape out.old) (W.tape out.new) }
+    fn ask_at_place<W: Witness>(&mut self, body: Body, place: usize, name: &Name, out: &mut W)
+        ensures { Follows W.hearing (does_at_place name.now.bytes (slice_get (code_of_body body self.old.bodies) place))
+            self.old self.new (W.told out.old) (W.told out.new) }
     {
         if self.stopped {
             return;
@@ -514,9 +550,9 @@ impl<S: ListSpace> Kernel<S> {
     /// The command at a place of a body is done, unless an alert has stopped the machine. A plain word that prints nothing, and Print, are done at
     /// once: no call is made of them, and none has room here.
     #[inline(always)]
-    fn do_place<W: Sink>(&mut self, body: Body, place: usize, name: &Name, out: &mut W)
-        ensures { Follows (does_at_place name.now.bytes (slice_get (code_of_body body self.old.bodies) place))
-            self.old self.new (W.tape out.old) (W.tape out.new) }
+    fn do_place<W: Witness>(&mut self, body: Body, place: usize, name: &Name, out: &mut W)
+        ensures { Follows W.hearing (does_at_place name.now.bytes (slice_get (code_of_body body self.old.bodies) place))
+            self.old self.new (W.told out.old) (W.told out.new) }
     {
         if self.stopped {
             return;
@@ -530,7 +566,7 @@ impl<S: ListSpace> Kernel<S> {
                 }
                 None => {
                     if is_print(command.word) {
-                        self.short_line_in_body("Print", command, name, out);
+                        self.short_line_in_body(Word::Plain(PlainWord::Print), command, name, out);
                         return;
                     }
                     self.ask_at_place(body, place, name, out);
@@ -541,8 +577,8 @@ impl<S: ListSpace> Kernel<S> {
 
     /// A whole body, of that name: its commands one after another; after an alert there is no other.
     #[inline(always)]
-    pub(crate) fn run_body<W: Sink>(&mut self, body: Body, name: &Name, out: &mut W)
-        ensures { Follows (runs_body name.now.bytes (code_of_body body self.old.bodies)) self.old self.new (W.tape out.old) (W.tape out.new) }
+    pub(crate) fn run_body<W: Witness>(&mut self, body: Body, name: &Name, out: &mut W)
+        ensures { Follows W.hearing (runs_body name.now.bytes (code_of_body body self.old.bodies)) self.old self.new (W.told out.old) (W.told out.new) }
     {
         for place in 0..self.bodies.code(body).len() {
             self.do_place(body, place, name, out);

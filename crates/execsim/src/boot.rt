@@ -1,7 +1,7 @@
 //! The parts of a machine, made from its file, and the machine put together of them: of no more than four parts at once, since each part that
 //! can fail multiplies the proof.
 ghost use Rattle.std.specs.Prelude.{◌≡◌, ◌≤◌, [], All, length, map, nat_eq, IfOk};
-ghost use Rattle.taskscript.specs.{Commands.command_view, Machines.IsMachine, Records.library_view, Records.server_view, Records.softint_view, Records.task_view};
+ghost use Rattle.script.specs.{Commands.command_view, Machines.IsMachine, Records.library_view, Records.server_view, Records.softint_view, Records.task_view};
 ghost use Rattle.scheduler.specs.Schedule.{unstarted};
 ghost use Rattle.softint.specs.{Interrupts.IsPriority, Sources.no_latches};
 ghost use Rattle.timerdev.specs.Timing.{new_timer};
@@ -18,11 +18,11 @@ use crate::program::Program;
 use execheap::{Heap, LibInit};
 use execlist::space::ListSpace;
 use scheduler::Sched;
+use script::{LibraryRecord, MachineFile, ServerRecord, SoftintRecord, TaskRecord};
 use softint::interrupt::{Server, Soft};
 use softint::ints::Ints;
 use std::alloc::{AllocError, Global};
 use taskq::TaskInit;
-use taskscript::{LibraryRecord, MachineFile, ServerRecord, SoftintRecord, TaskRecord};
 
 /// The machine of a file before its start.
 pub(crate) fn kernel_of<S: ListSpace>(

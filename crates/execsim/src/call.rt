@@ -3,8 +3,8 @@
 ghost use Rattle.std.specs.Prelude.{◌≤◌};
 
 use exectrace::{Name, ShortArg};
+use script::{Variable, Word};
 use taskq::TaskId;
-use taskscript::{Variable, Word};
 
 /// A command of a task with the values that its arguments had when it was first tried.
 #[derive(Clone, Copy)]

@@ -1,44 +1,92 @@
 //! How a call of a task ends: done, answered, waiting, or refused by an alert; and how one ends whoever makes it. Whatever else the call does
 //! has been done before.
-ghost use Rattle.std.specs.Prelude.{◌≡◌};
-ghost use Rattle.exectrace.specs.{Sink.Puts, Sink.Tape, Shown.shown_outcome, Trace.printed_line};
+ghost use Rattle.std.specs.Prelude.{◌≡◌, ◌∷◌, [], map};
+ghost use Rattle.exectrace.specs.Short.{short_argument};
+ghost use Rattle.exectrace.specs.Trace as trace;
+ghost use Rattle.scheduler.specs.Schedule.{name_of};
+ghost use Rattle.script.specs.Words.{word_text};
+ghost use Rattle.exectrace.specs.{Shown.shown_outcome};
 ghost use Rattle.execmodel.specs.Calls.{done, done_by, answered, answered_by, waiting, silent, silent_by, alerted, alerted_by};
-ghost use Rattle.execsim.specs.{Callers.HasTask, Callers.HasCaller, Agreement.Follows, Agreement.line_seen, Endings.answered_or_alerted, Endings.answered_or_alerted_by, Endings.done_or_alerted, Views.call_view, Views.caller_view};
+ghost use Rattle.execsim.specs.{Agreement.Quietly, Callers.HasTask, Callers.HasCaller, Agreement.Follows, Agreement.line_seen, Endings.answered_or_alerted, Endings.answered_or_alerted_by, Endings.done_or_alerted, Views.call_view, Views.caller_view};
 ghost use Rattle.execheap.specs.Refusals.{code_of};
+ghost use Rattle.script.specs.Alerts.{alert_text};
 
 use crate::call::{Call, Caller};
 use crate::kernel::Kernel;
 use execheap::Refusal;
 use execlist::space::ListSpace;
-use exectrace::Sink;
 use exectrace::lines::CallOutcome;
-use exectrace::printing::{put_alert, put_short_call};
+use exectrace::{Name, Said, ShortArg, Witness};
+use script::{Alert, Word};
 use taskq::TaskId;
 
+/// The alert of a refusal.
+fn alert_of(why: Refusal) -> Alert
+    ensures { alert_text result ≡ code_of why }
+{
+    match why {
+        Refusal::Handle => Alert::Handle,
+        Refusal::Link => Alert::Link,
+        Refusal::Port => Alert::Port,
+        Refusal::Sem => Alert::Sem,
+        Refusal::Lib => Alert::Lib,
+        Refusal::Io => Alert::Io,
+    }
+}
+
 impl<S: ListSpace> Kernel<S> {
-    /// Prints the line of a call of task t.
-    pub(crate) fn say<W: Sink>(&self, t: TaskId, call: &Call, outcome: CallOutcome, out: &mut W)
+    /// Says that there was a call of task t.
+    pub(crate) fn say<W: Witness>(&self, t: TaskId, call: &Call, outcome: CallOutcome, out: &mut W)
         requires { HasTask t self.now }
-        ensures { Puts (W.tape out.old) (W.tape out.new) (printed_line (line_seen t (call_view call.now) (shown_outcome outcome) self.now)) }
+        ensures { W.hearing.hears (W.told out.old) (W.told out.new) ((line_seen t (call_view call.now) (shown_outcome outcome) self.now) ∷ []) }
     {
-        let name = self.name(t);
-        let word = call.word.text();
-        put_short_call(name, word, call.shown(), &call.quoted, outcome, out);
+        let by = self.name(t);
+        out.hear(&Said::Call {
+            by,
+            word: call.word,
+            arguments: call.shown(),
+            quoted: &call.quoted,
+            ends: outcome,
+        });
+    }
+
+    /// Says that there was a call of task t that answers nothing, from its parts.
+    #[inline(always)]
+    pub(crate) fn tell<W: Witness>(
+        &self,
+        t: TaskId,
+        word: Word,
+        arguments: &[ShortArg],
+        quoted: &Name,
+        out: &mut W,
+    )
+        requires { HasTask t self.now }
+        ensures { W.hearing.hears (W.told out.old) (W.told out.new)
+            (trace.Call (name_of self.now.schedule t) (word_text word) (map (short_argument quoted.now.bytes) arguments.now) trace.Done ∷ []) }
+    {
+        let by = self.name(t);
+        out.hear(&Said::Call {
+            by,
+            word,
+            arguments,
+            quoted,
+            ends: CallOutcome::Done,
+        });
     }
 
     /// The call answers nothing, and task t goes on.
-    pub(crate) fn done<W: Sink>(&mut self, t: TaskId, call: &Call, out: &mut W)
+    pub(crate) fn done<W: Witness>(&mut self, t: TaskId, call: &Call, out: &mut W)
         requires { HasTask t self.old }
-        ensures { Follows (done t (call_view call.now)) self.old self.new (W.tape out.old) (W.tape out.new) }
+        ensures { Follows W.hearing (done t (call_view call.now)) self.old self.new (W.told out.old) (W.told out.new) }
     {
         self.say(t, call, CallOutcome::Done, out);
         self.go_on(t, call.next);
     }
 
     /// The call answers, into its target if it has one, and task t goes on.
-    pub(crate) fn answered<W: Sink>(&mut self, t: TaskId, call: &Call, value: u32, out: &mut W)
+    pub(crate) fn answered<W: Witness>(&mut self, t: TaskId, call: &Call, value: u32, out: &mut W)
         requires { HasTask t self.old }
-        ensures { Follows (answered t (call_view call.now) value) self.old self.new (W.tape out.old) (W.tape out.new) }
+        ensures { Follows W.hearing (answered t (call_view call.now) value) self.old self.new (W.told out.old) (W.told out.new) }
     {
         self.say(t, call, CallOutcome::Answers(value), out);
         self.store(t, call.target, value);
@@ -46,9 +94,9 @@ impl<S: ListSpace> Kernel<S> {
     }
 
     /// The call waits, and is kept, so that task t tries it again.
-    pub(crate) fn waiting<W: Sink>(&mut self, t: TaskId, call: &Call, out: &mut W)
+    pub(crate) fn waiting<W: Witness>(&mut self, t: TaskId, call: &Call, out: &mut W)
         requires { HasTask t self.old }
-        ensures { Follows (waiting t (call_view call.now)) self.old self.new (W.tape out.old) (W.tape out.new) }
+        ensures { Follows W.hearing (waiting t (call_view call.now)) self.old self.new (W.told out.old) (W.told out.new) }
     {
         self.say(t, call, CallOutcome::Waits, out);
         self.keep(t, call);
@@ -57,7 +105,7 @@ impl<S: ListSpace> Kernel<S> {
     /// A word that is no call of Exec answers, and prints nothing.
     pub(crate) fn silent(&mut self, t: TaskId, call: &Call, value: u32)
         requires { HasTask t self.old }
-        ensures { (tape : Tape) → Follows (silent t (call_view call.now) value) self.old self.new tape tape }
+        ensures { Quietly (silent t (call_view call.now) value) self.old self.new }
     {
         self.store(t, call.target, value);
         self.go_on(t, call.next);
@@ -65,21 +113,25 @@ impl<S: ListSpace> Kernel<S> {
 
     /// The call of task t is refused: it changes nothing, and the machine stops for good.
     #[cold]
-    pub(crate) fn alerted<W: Sink>(&mut self, code: &str, t: TaskId, call: &Call, out: &mut W)
+    pub(crate) fn alerted<W: Witness>(&mut self, code: Alert, t: TaskId, call: &Call, out: &mut W)
         requires { HasTask t self.old }
-        ensures { Follows (alerted code.now t (call_view call.now)) self.old self.new (W.tape out.old) (W.tape out.new) }
+        ensures { Follows W.hearing (alerted (alert_text code) t (call_view call.now)) self.old self.new (W.told out.old) (W.told out.new) }
     {
-        let name = self.name(t);
-        put_alert(code, name, call.word.text(), out);
+        let by = self.name(t);
+        out.hear(&Said::Alert {
+            code,
+            by,
+            word: call.word,
+        });
         self.stop();
     }
 
     // ---- whoever makes the call
 
     /// The call of a task or of a body answers nothing.
-    pub(crate) fn done_by<W: Sink>(&mut self, caller: &Caller, call: &Call, out: &mut W)
+    pub(crate) fn done_by<W: Witness>(&mut self, caller: &Caller, call: &Call, out: &mut W)
         requires { HasCaller caller.now self.old }
-        ensures { Follows (done_by (caller_view caller.now) (call_view call.now)) self.old self.new (W.tape out.old) (W.tape out.new) }
+        ensures { Follows W.hearing (done_by (caller_view caller.now) (call_view call.now)) self.old self.new (W.told out.old) (W.told out.new) }
     {
         match caller {
             Caller::Task(t) => self.done(*t, call, out),
@@ -88,7 +140,7 @@ impl<S: ListSpace> Kernel<S> {
     }
 
     /// The call of a task or of a body answers, into its target if it has one.
-    pub(crate) fn answered_by<W: Sink>(
+    pub(crate) fn answered_by<W: Witness>(
         &mut self,
         caller: &Caller,
         call: &Call,
@@ -96,7 +148,7 @@ impl<S: ListSpace> Kernel<S> {
         out: &mut W,
     )
         requires { HasCaller caller.now self.old }
-        ensures { Follows (answered_by (caller_view caller.now) (call_view call.now) value) self.old self.new (W.tape out.old) (W.tape out.new) }
+        ensures { Follows W.hearing (answered_by (caller_view caller.now) (call_view call.now) value) self.old self.new (W.told out.old) (W.told out.new) }
     {
         match caller {
             Caller::Task(t) => self.answered(*t, call, value, out),
@@ -107,7 +159,7 @@ impl<S: ListSpace> Kernel<S> {
     /// A word that is no call of Exec answers, and prints nothing, in a task or in a body.
     pub(crate) fn silent_by(&mut self, caller: &Caller, call: &Call, value: u32)
         requires { HasCaller caller.now self.old }
-        ensures { (tape : Tape) → Follows (silent_by (caller_view caller.now) (call_view call.now) value) self.old self.new tape tape }
+        ensures { Quietly (silent_by (caller_view caller.now) (call_view call.now) value) self.old self.new }
     {
         match caller {
             Caller::Task(t) => self.silent(*t, call, value),
@@ -117,15 +169,15 @@ impl<S: ListSpace> Kernel<S> {
 
     /// The call of a task or of a body is refused: it changes nothing, and the machine stops for good.
     #[cold]
-    pub(crate) fn alerted_by<W: Sink>(
+    pub(crate) fn alerted_by<W: Witness>(
         &mut self,
-        code: &str,
+        code: Alert,
         caller: &Caller,
         call: &Call,
         out: &mut W,
     )
         requires { HasCaller caller.now self.old }
-        ensures { Follows (alerted_by code.now (caller_view caller.now) (call_view call.now)) self.old self.new (W.tape out.old) (W.tape out.new) }
+        ensures { Follows W.hearing (alerted_by (alert_text code) (caller_view caller.now) (call_view call.now)) self.old self.new (W.told out.old) (W.told out.new) }
     {
         match caller {
             Caller::Task(t) => self.alerted(code, *t, call, out),
@@ -134,7 +186,7 @@ impl<S: ListSpace> Kernel<S> {
     }
 
     /// A refused call stops the machine by the alert of its refusal.
-    pub(crate) fn refused_by<W: Sink>(
+    pub(crate) fn refused_by<W: Witness>(
         &mut self,
         why: Refusal,
         caller: &Caller,
@@ -142,23 +194,23 @@ impl<S: ListSpace> Kernel<S> {
         out: &mut W,
     )
         requires { HasCaller caller.now self.old }
-        ensures { Follows (alerted_by (code_of why) (caller_view caller.now) (call_view call.now)) self.old self.new (W.tape out.old) (W.tape out.new) }
+        ensures { Follows W.hearing (alerted_by (code_of why) (caller_view caller.now) (call_view call.now)) self.old self.new (W.told out.old) (W.told out.new) }
     {
-        self.alerted_by(why.code(), caller, call, out);
+        self.alerted_by(alert_of(why), caller, call, out);
     }
 
     // ---- a call on an object: done, or refused
 
     /// A refused call stops the machine by the alert of its refusal.
-    pub(crate) fn refused<W: Sink>(&mut self, why: Refusal, t: TaskId, call: &Call, out: &mut W)
+    pub(crate) fn refused<W: Witness>(&mut self, why: Refusal, t: TaskId, call: &Call, out: &mut W)
         requires { HasTask t self.old }
-        ensures { Follows (alerted (code_of why) t (call_view call.now)) self.old self.new (W.tape out.old) (W.tape out.new) }
+        ensures { Follows W.hearing (alerted (code_of why) t (call_view call.now)) self.old self.new (W.told out.old) (W.told out.new) }
     {
-        self.alerted(why.code(), t, call, out);
+        self.alerted(alert_of(why), t, call, out);
     }
 
     /// A call that answers nothing: it is done, or refused by its alert.
-    pub(crate) fn concluded<W: Sink>(
+    pub(crate) fn concluded<W: Witness>(
         &mut self,
         tried: Result<(), Refusal>,
         t: TaskId,
@@ -166,7 +218,7 @@ impl<S: ListSpace> Kernel<S> {
         out: &mut W,
     )
         requires { HasTask t self.old }
-        ensures { Follows (done_or_alerted tried t (call_view call.now)) self.old self.new (W.tape out.old) (W.tape out.new) }
+        ensures { Follows W.hearing (done_or_alerted tried t (call_view call.now)) self.old self.new (W.told out.old) (W.told out.new) }
     {
         match tried {
             Ok(()) => self.done(t, call, out),
@@ -175,7 +227,7 @@ impl<S: ListSpace> Kernel<S> {
     }
 
     /// A call that answers: it does, or is refused by its alert.
-    pub(crate) fn concluded_with<W: Sink>(
+    pub(crate) fn concluded_with<W: Witness>(
         &mut self,
         tried: Result<u32, Refusal>,
         t: TaskId,
@@ -183,7 +235,7 @@ impl<S: ListSpace> Kernel<S> {
         out: &mut W,
     )
         requires { HasTask t self.old }
-        ensures { Follows (answered_or_alerted tried t (call_view call.now)) self.old self.new (W.tape out.old) (W.tape out.new) }
+        ensures { Follows W.hearing (answered_or_alerted tried t (call_view call.now)) self.old self.new (W.told out.old) (W.told out.new) }
     {
         match tried {
             Ok(value) => self.answered(t, call, value, out),
@@ -192,7 +244,7 @@ impl<S: ListSpace> Kernel<S> {
     }
 
     /// A call that answers, of a task or of a body: it does, or is refused by its alert.
-    pub(crate) fn concluded_by<W: Sink>(
+    pub(crate) fn concluded_by<W: Witness>(
         &mut self,
         tried: Result<u32, Refusal>,
         caller: &Caller,
@@ -200,7 +252,7 @@ impl<S: ListSpace> Kernel<S> {
         out: &mut W,
     )
         requires { HasCaller caller.now self.old }
-        ensures { Follows (answered_or_alerted_by tried (caller_view caller.now) (call_view call.now)) self.old self.new (W.tape out.old) (W.tape out.new) }
+        ensures { Follows W.hearing (answered_or_alerted_by tried (caller_view caller.now) (call_view call.now)) self.old self.new (W.told out.old) (W.told out.new) }
     {
         match tried {
             Ok(value) => self.answered_by(caller, call, value, out),

@@ -8,12 +8,10 @@ use crate::body_calls::is_cause;
 use crate::call::{Call, Caller};
 use crate::kernel::Kernel;
 use execlist::space::ListSpace;
-use exectrace::lines::CallOutcome;
-use exectrace::printing::put_short_call;
-use exectrace::{Name, ShortArg, Sink};
+use exectrace::{Name, ShortArg, Witness};
+use script::{InterruptWord, Word};
 use softint::caused::IntId;
 use taskq::TaskId;
-use taskscript::InterruptWord;
 
 /// The name that is the first argument of a call, if one is.
 fn first_name(call: &Call) -> Option<&Name>
@@ -61,9 +59,9 @@ impl<S: ListSpace> Kernel<S> {
 
     /// Cause name: the software interrupt of that name is to run, after those of its priority; one that is caused already stays where it is
     /// (autodoc exec.library/Cause).
-    pub(crate) fn cause_named<W: Sink>(&mut self, caller: &Caller, call: &Call, out: &mut W)
+    pub(crate) fn cause_named<W: Witness>(&mut self, caller: &Caller, call: &Call, out: &mut W)
         requires { HasCaller caller.now self.old }
-        ensures { Follows (does_cause_by (caller_view caller.now) (call_view call.now)) self.old self.new (W.tape out.old) (W.tape out.new) }
+        ensures { Follows W.hearing (does_cause_by (caller_view caller.now) (call_view call.now)) self.old self.new (W.told out.old) (W.told out.new) }
     {
         let i = self.softint_of_call(call);
         self.cause(i);
@@ -72,9 +70,9 @@ impl<S: ListSpace> Kernel<S> {
 
     /// Cause name, of task t, as `cause_named` does it. The line of a call with a name alone is built here.
     #[inline(always)]
-    fn cause_by_task<W: Sink>(&mut self, t: TaskId, call: &Call, out: &mut W)
+    fn cause_by_task<W: Witness>(&mut self, t: TaskId, call: &Call, out: &mut W)
         requires { HasTask t self.old }
-        ensures { Follows (does_cause_by (ByTask t) (call_view call.now)) self.old self.new (W.tape out.old) (W.tape out.new) }
+        ensures { Follows W.hearing (does_cause_by (ByTask t) (call_view call.now)) self.old self.new (W.told out.old) (W.told out.new) }
     {
         if !is_cause(call.word) {
             self.cause_named(&Caller::Task(t), call, out);
@@ -87,21 +85,14 @@ impl<S: ListSpace> Kernel<S> {
         let own = &call.quoted;
         let i = self.softint_named(own);
         self.cause(i);
-        let name = self.name(t);
-        put_short_call(
-            name,
-            "Cause",
-            &[ShortArg::Quoted],
-            own,
-            CallOutcome::Done,
-            out,
-        );
+        let word = Word::Interrupts(InterruptWord::Cause);
+        self.tell(t, word, &[ShortArg::Quoted], own, out);
         self.go_on(t, call.next);
     }
 
     /// A call of task t on interrupts, by its word.
     #[tactic(auto, unfolding(execmodel::specs::Causing::does_cause))]
-    pub(crate) fn does_interrupts<W: Sink>(
+    pub(crate) fn does_interrupts<W: Witness>(
         &mut self,
         word: InterruptWord,
         t: TaskId,
@@ -109,7 +100,7 @@ impl<S: ListSpace> Kernel<S> {
         out: &mut W,
     )
         requires { HasTask t self.old }
-        ensures { Follows (does_interrupts word t (call_view call.now)) self.old self.new (W.tape out.old) (W.tape out.new) }
+        ensures { Follows W.hearing (does_interrupts word t (call_view call.now)) self.old self.new (W.told out.old) (W.told out.new) }
     {
         match word {
             InterruptWord::Cause => self.cause_by_task(t, call, out),

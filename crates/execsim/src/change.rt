@@ -1,19 +1,17 @@
 //! Plain words: a task does them on its command itself, with no call between.
-ghost use Rattle.std.specs.Prelude.{◌≡◌, ℕ, List, IfSome, IsTrue, None, Some, false, option_copied, slice_get, take};
-ghost use Rattle.exectrace.specs.{Sink.Puts, Sink.Tape, Trace.Done, Trace.printed_line};
-ghost use Rattle.taskscript.specs.{declared.word.Word.TheVariants.Plain, Commands.argument_view, Commands.command_view};
+ghost use Rattle.std.specs.Prelude.{◌≡◌, ℕ, List, IfSome, IsTrue, None, Some, false, option_copied, slice_get, take, ◌∷◌, []};
+ghost use Rattle.exectrace.specs.{Trace.Done};
+ghost use Rattle.script.specs.{declared.word.Word.TheVariants.Plain, Commands.argument_view, Commands.command_view};
 ghost use Rattle.execmodel.specs.{State.State, Calls.argument, Calls.call_of, Calls.evaluated, Calls.goes_on, Calls.next_call, Calls.number_in, Calls.stored, Step.call_step, Step.does, Step.task_step};
-ghost use Rattle.execsim.specs.{Callers.HasTask, Changes.ChangesScripts, Changes.PutsPrint, Changes.changes, Agreement.Follows, Agreement.line_seen};
+ghost use Rattle.execsim.specs.{Agreement.Quietly, Callers.HasTask, Changes.ChangesScripts, Changes.PutsPrint, Changes.changes, Agreement.Follows, Agreement.line_seen};
 
 use crate::kernel::Kernel;
 use crate::plain::{all_bits, common_bits, difference, place_at_zero, sum};
 use execlist::space::ListSpace;
 use exectrace::lines::CallOutcome;
-use exectrace::printing::put_short_call;
-use exectrace::sinks::written;
-use exectrace::{ShortArg, Sink};
+use exectrace::{Said, ShortArg, Witness};
+use script::{Argument, Command, PlainWord, Variable, Word};
 use taskq::TaskId;
-use taskscript::{Argument, Command, PlainWord, Variable, Word};
 
 /// What a plain word that prints nothing changes: a variable of its task, or none, is given a value, and the task goes on.
 #[derive(Clone, Copy)]
@@ -165,7 +163,7 @@ impl<S: ListSpace> Kernel<S> {
     #[inline(always)]
     pub(crate) fn change(&mut self, t: TaskId, change: Change)
         requires { HasTask t self.old }
-        ensures follows { (tape : Tape) → Follows (changes t change) self.old self.new tape tape }
+        ensures follows { Quietly (changes t change) self.old self.new }
         ensures next { self.new ≡ record self.old { scripts = goes_on t change.next (stored t change.target change.value self.old.scripts) } }
     {
         self.store(t, change.target, change.value);
@@ -174,27 +172,33 @@ impl<S: ListSpace> Kernel<S> {
 
     /// Puts the line of a Print of task t.
     #[inline(never)]
-    fn say_print<W: Sink>(&self, t: TaskId, command: &Command, out: &mut W)
+    fn say_print<W: Witness>(&self, t: TaskId, command: &Command, out: &mut W)
         requires known { HasTask t self.now }
         requires prints { command.now.word ≡ Plain PlainWord.Print }
-        ensures { (next : ℕ) → Puts (W.tape out.old) (W.tape out.new)
-            (printed_line (line_seen t (call_of t next (command_view command.now) self.now.scripts) Done self.now)) }
+        ensures { (next : ℕ) → W.hearing.hears (W.told out.old) (W.told out.new)
+            ((line_seen t (call_of t next (command_view command.now) self.now.scripts) Done self.now) ∷ []) }
     {
         let mut values = [ShortArg::Value(0); 4];
         let count = command.count as usize;
         self.evaluate_all(t, &command.arguments, count, &mut values);
-        let name = self.name(t);
+        let by = self.name(t);
         let shown = &values[..count];
-        put_short_call(name, "Print", shown, &command.name, CallOutcome::Done, out);
+        out.hear(&Said::Call {
+            by,
+            word: Word::Plain(PlainWord::Print),
+            arguments: shown,
+            quoted: &command.name,
+            ends: CallOutcome::Done,
+        });
     }
 
     /// Puts the line of a Print of task t, as `say_print` does. One argument is put in no list of values.
     #[inline(always)]
-    fn say_short_print<W: Sink>(&self, t: TaskId, command: &Command, out: &mut W)
+    fn say_short_print<W: Witness>(&self, t: TaskId, command: &Command, out: &mut W)
         requires known { HasTask t self.now }
         requires prints { command.now.word ≡ Plain PlainWord.Print }
-        ensures { (next : ℕ) → Puts (W.tape out.old) (W.tape out.new)
-            (printed_line (line_seen t (call_of t next (command_view command.now) self.now.scripts) Done self.now)) }
+        ensures { (next : ℕ) → W.hearing.hears (W.told out.old) (W.told out.new)
+            ((line_seen t (call_of t next (command_view command.now) self.now.scripts) Done self.now) ∷ []) }
     {
         if command.count != 1 {
             self.say_print(t, command, out);
@@ -204,25 +208,24 @@ impl<S: ListSpace> Kernel<S> {
             None => self.say_print(t, command, out),
             Some(argument) => {
                 let value = self.evaluate(t, *argument);
-                let name = self.name(t);
-                put_short_call(
-                    name,
-                    "Print",
-                    &[value],
-                    &command.name,
-                    CallOutcome::Done,
-                    out,
-                );
+                let by = self.name(t);
+                out.hear(&Said::Call {
+                    by,
+                    word: Word::Plain(PlainWord::Print),
+                    arguments: &[value],
+                    quoted: &command.name,
+                    ends: CallOutcome::Done,
+                });
             }
         }
     }
 
     /// Puts the line of what task t does next, if that is a Print and the sink is good. The answer is the place at which the task is to go on then.
     #[inline(always)]
-    fn put_next_print<W: Sink>(&self, t: TaskId, out: &mut W) -> Option<usize>
+    fn put_next_print<W: Witness>(&self, t: TaskId, out: &mut W) -> Option<usize>
         requires { HasTask t self.now }
-        ensures puts { IfSome result (λ next. PutsPrint t next self.now (W.tape out.old) (W.tape out.new)) }
-        ensures nothing { result ≡ None → W.tape out.new ≡ W.tape out.old }
+        ensures puts { IfSome result (λ next. PutsPrint W.hearing t next self.now (W.told out.old) (W.told out.new)) }
+        ensures nothing { result ≡ None → W.told out.new ≡ W.told out.old }
     {
         let program = self.program(t);
         match program.kept() {
@@ -230,13 +233,14 @@ impl<S: ListSpace> Kernel<S> {
             None => match program.command() {
                 None => None,
                 Some(command) => match command.word {
-                    Word::Plain(PlainWord::Print) => match written(out) {
-                        Err(_) => None,
-                        Ok(()) => {
+                    Word::Plain(PlainWord::Print) => {
+                        if out.is_good() {
                             self.say_short_print(t, command, out);
                             Some(program.next())
+                        } else {
+                            None
                         }
-                    },
+                    }
                     _ => None,
                 },
             },
@@ -247,7 +251,7 @@ impl<S: ListSpace> Kernel<S> {
     #[inline(always)]
     pub(crate) fn silent_word(&mut self, t: TaskId) -> bool
         requires { HasTask t self.old }
-        ensures follows { IsTrue result → (tape : Tape) → Follows (task_step (Some t)) self.old self.new tape tape }
+        ensures follows { IsTrue result → Quietly (task_step (Some t)) self.old self.new }
         ensures changes { IsTrue result → ChangesScripts self.old self.new }
         ensures same { result ≡ false → self.new ≡ self.old }
     {
@@ -262,12 +266,12 @@ impl<S: ListSpace> Kernel<S> {
 
     /// Task t does what it does next, if that is a Print and the sink is good. The answer is whether it did.
     #[inline(always)]
-    pub(crate) fn print_word<W: Sink>(&mut self, t: TaskId, out: &mut W) -> bool
+    pub(crate) fn print_word<W: Witness>(&mut self, t: TaskId, out: &mut W) -> bool
         requires { HasTask t self.old }
-        ensures follows { IsTrue result → Follows (task_step (Some t)) self.old self.new (W.tape out.old) (W.tape out.new) }
+        ensures follows { IsTrue result → Follows W.hearing (task_step (Some t)) self.old self.new (W.told out.old) (W.told out.new) }
         ensures changes { IsTrue result → ChangesScripts self.old self.new }
         ensures same { result ≡ false → self.new ≡ self.old }
-        ensures nothing { result ≡ false → W.tape out.new ≡ W.tape out.old }
+        ensures nothing { result ≡ false → W.told out.new ≡ W.told out.old }
     {
         match self.put_next_print(t, out) {
             Some(next) => {
@@ -280,12 +284,12 @@ impl<S: ListSpace> Kernel<S> {
 
     /// Task t does what it does next, if that is a plain word, and if the sink is good in case it prints. The answer is whether it did.
     #[inline(always)]
-    pub(crate) fn plain_word<W: Sink>(&mut self, t: TaskId, out: &mut W) -> bool
+    pub(crate) fn plain_word<W: Witness>(&mut self, t: TaskId, out: &mut W) -> bool
         requires { HasTask t self.old }
-        ensures follows { IsTrue result → Follows (task_step (Some t)) self.old self.new (W.tape out.old) (W.tape out.new) }
+        ensures follows { IsTrue result → Follows W.hearing (task_step (Some t)) self.old self.new (W.told out.old) (W.told out.new) }
         ensures changes { IsTrue result → ChangesScripts self.old self.new }
         ensures same { result ≡ false → self.new ≡ self.old }
-        ensures nothing { result ≡ false → W.tape out.new ≡ W.tape out.old }
+        ensures nothing { result ≡ false → W.told out.new ≡ W.told out.old }
     {
         if self.silent_word(t) {
             return true;

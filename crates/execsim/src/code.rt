@@ -1,8 +1,8 @@
 //! The commands of the bodies are copied from the file when the machine is made, and when it is reset.
 ghost use Rattle.std.specs.Prelude.{◌≡◌, true, false, IfOk};
 
+use script::Command;
 use std::alloc::{AllocError, Global};
-use taskscript::Command;
 
 /// A copy of the commands of a body. An error means that memory is refused.
 pub fn copied_code(alloc: Global, code: &[Command]) -> Result<Vec<Command>, AllocError>

@@ -1,19 +1,20 @@
 //! Interrupts: how they are caused and requested, and how they run, software interrupts one a step, the servers of a source if it is
 //! served (RKM Libraries, Exec Interrupts).
-ghost use Rattle.std.specs.Prelude.{◌≡◌, is_some, true, slice_get};
+ghost use Rattle.std.specs.Prelude.{◌≡◌, is_some, true, slice_get, ◌∷◌, []};
+ghost use Rattle.exectrace.specs.Trace.{Serve};
 ghost use Rattle.softint.specs.Sources.{highest};
-ghost use Rattle.execmodel.specs.{Interrupts.chain_of, Interrupts.serving_counted, Interrupts.interrupts, Interrupts.runs_chain, Interrupts.runs_server, Interrupts.text_of_source, Pending.softint_named, Pending.source_named, Pending.with_latch_of};
+ghost use Rattle.exectrace.specs.Heard.{text_of_source};
+ghost use Rattle.execmodel.specs.{Interrupts.chain_of, Interrupts.serving_counted, Interrupts.interrupts, Interrupts.runs_chain, Interrupts.runs_server, Pending.softint_named, Pending.source_named, Pending.with_latch_of};
 ghost use Rattle.execsim.specs.{Actions.caused, Actions.served, Actions.softint_body, Actions.softint_seen, Actions.source_seen, Actions.without_request, Actions.without_softint, Agreement.Follows};
 
 use crate::bodies::Body;
 use crate::kernel::Kernel;
 use execlist::space::ListSpace;
-use exectrace::printing::{put_serve, put_server, put_softint};
-use exectrace::{Name, Sink};
+use exectrace::{Name, Said, Witness};
+use script::Source as NamedSource;
 use softint::caused::IntId;
 use softint::chain::ServerId;
 use softint::source::Source;
-use taskscript::Source as NamedSource;
 
 /// How many sources there are.
 const SOURCES: u32 = 3;
@@ -26,17 +27,6 @@ pub fn source_named(name: NamedSource) -> Source
         NamedSource::Ports => Source::Ports,
         NamedSource::Vertb => Source::Vertb,
         NamedSource::Exter => Source::Exter,
-    }
-}
-
-/// The text of a source, as the trace prints it.
-fn text_of_source(source: Source) -> &'static str
-    ensures { result.now ≡ text_of_source source }
-{
-    match source {
-        Source::Ports => NamedSource::Ports.text(),
-        Source::Vertb => NamedSource::Vertb.text(),
-        Source::Exter => NamedSource::Exter.text(),
     }
 }
 
@@ -86,26 +76,26 @@ impl<S: ListSpace> Kernel<S> {
 
     /// A software interrupt, which is not caused any more, runs its whole body.
     #[inline(never)]
-    pub(crate) fn run_softint<W: Sink>(&mut self, i: IntId, out: &mut W)
-        ensures { Follows (softint_body i) self.old self.new (W.tape out.old) (W.tape out.new) }
+    pub(crate) fn run_softint<W: Witness>(&mut self, i: IntId, out: &mut W)
+        ensures { Follows W.hearing (softint_body i) self.old self.new (W.told out.old) (W.told out.new) }
     {
         let body = Body::Softint(i);
         let name = self.bodies.name(body);
         let own = &name;
-        put_softint(own, out);
+        out.hear(&Said::Softint(own));
         self.run_body(body, own, out);
     }
 
     // ---- servers
 
     /// Server k runs its whole body.
-    fn run_server<W: Sink>(&mut self, k: ServerId, out: &mut W)
-        ensures { Follows (runs_server k) self.old self.new (W.tape out.old) (W.tape out.new) }
+    fn run_server<W: Witness>(&mut self, k: ServerId, out: &mut W)
+        ensures { Follows W.hearing (runs_server k) self.old self.new (W.told out.old) (W.told out.new) }
     {
         let body = Body::Server(k);
         let name = self.bodies.name(body);
         let own = &name;
-        put_server(own, out);
+        out.hear(&Said::Server(own));
         self.run_body(body, own, out);
     }
 
@@ -117,8 +107,8 @@ impl<S: ListSpace> Kernel<S> {
     }
 
     /// The servers of a source run one after another, until one claims the interrupt, or an alert stops the machine.
-    fn run_chain<W: Sink>(&mut self, source: Source, out: &mut W)
-        ensures { Follows (runs_chain (chain_of source self.old.bodies.servers)) self.old self.new (W.tape out.old) (W.tape out.new) }
+    fn run_chain<W: Witness>(&mut self, source: Source, out: &mut W)
+        ensures { Follows W.hearing (runs_chain (chain_of source self.old.bodies.servers)) self.old self.new (W.told out.old) (W.told out.new) }
     {
         for place in 0..self.bodies.server_count() {
             match self.server_at(source, place) {
@@ -158,13 +148,21 @@ impl<S: ListSpace> Kernel<S> {
         }
     }
 
+    /// Says that a source is served.
+    #[inline(always)]
+    fn say_serve<W: Witness>(&self, source: Source, out: &mut W)
+        ensures { W.hearing.hears (W.told out.old) (W.told out.new) (Serve (text_of_source source) ∷ []) }
+    {
+        out.hear(&Said::Serve(source));
+    }
+
     /// A source is served, whose latch is cleared: VERTB counts the quantum and finishes the requests that are due, and then the servers run.
     #[inline(never)]
-    fn serve<W: Sink>(&mut self, source: Source, out: &mut W)
-        ensures { Follows (served source) self.old self.new (W.tape out.old) (W.tape out.new) }
+    fn serve<W: Witness>(&mut self, source: Source, out: &mut W)
+        ensures { Follows W.hearing (served source) self.old self.new (W.told out.old) (W.told out.new) }
     {
         self.count_serving(source);
-        put_serve(text_of_source(source), out);
+        self.say_serve(source, out);
         self.finish_for(source, out);
         self.run_chain(source, out);
     }
@@ -178,8 +176,8 @@ impl<S: ListSpace> Kernel<S> {
 
     /// All that asks is served, if interrupts are allowed: there are three sources, and no serving sets a latch.
     #[inline(never)]
-    fn serve_all<W: Sink>(&mut self, out: &mut W)
-        ensures { Follows interrupts self.old self.new (W.tape out.old) (W.tape out.new) }
+    fn serve_all<W: Witness>(&mut self, out: &mut W)
+        ensures { Follows W.hearing interrupts self.old self.new (W.told out.old) (W.told out.new) }
     {
         for _turn in 0..SOURCES {
             match self.take_request() {
@@ -196,8 +194,8 @@ impl<S: ListSpace> Kernel<S> {
 
     /// All that asks is served, if interrupts are allowed. Mostly nothing asks, and nothing else is looked at then.
     #[inline(always)]
-    pub(crate) fn interrupt<W: Sink>(&mut self, out: &mut W)
-        ensures { Follows interrupts self.old self.new (W.tape out.old) (W.tape out.new) }
+    pub(crate) fn interrupt<W: Witness>(&mut self, out: &mut W)
+        ensures { Follows W.hearing interrupts self.old self.new (W.told out.old) (W.told out.new) }
     {
         if self.any_asks() {
             self.serve_all(out);

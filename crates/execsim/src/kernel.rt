@@ -3,7 +3,7 @@ ghost use Rattle.std.specs.Prelude.{◌≡◌, ◌≤◌, ℕ, List, length, tru
 ghost use Rattle.exectrace.specs.Short.{short_argument};
 ghost use Rattle.scheduler.specs.Schedule.{name_of, task_count};
 ghost use Rattle.execmodel.specs.{State.booted, State.program_of, State.shared_variables, Calls.content, Calls.evaluated, Calls.stored, Calls.goes_on, Calls.keeps, Signals.is_task};
-ghost use Rattle.taskscript.specs.{Commands.argument_view, Machines.IsMachine};
+ghost use Rattle.script.specs.{Commands.argument_view, Machines.IsMachine};
 ghost use Rattle.execsim.specs.{Agreement.Agrees, Callers.HasTask, Time.HasTimeFor, Views.IsFor, Views.call_view};
 
 use crate::bodies::Bodies;
@@ -14,10 +14,10 @@ use execheap::Heap;
 use execlist::space::ListSpace;
 use exectrace::{Name, ShortArg};
 use scheduler::Sched;
+use script::{Argument, MachineFile, Variable};
 use softint::ints::Ints;
 use std::marker::Model;
 use taskq::{TaskId, TaskInit};
-use taskscript::{Argument, MachineFile, Variable};
 
 /// How many variables all bodies share.
 const SHARED_VARIABLES: usize = 64;

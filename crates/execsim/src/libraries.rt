@@ -8,9 +8,9 @@ use crate::call::Call;
 use crate::kernel::Kernel;
 use crate::ports::name_or_empty;
 use execlist::space::ListSpace;
-use exectrace::{Name, Sink};
+use exectrace::{Name, Witness};
+use script::LibraryWord;
 use taskq::TaskId;
-use taskscript::LibraryWord;
 
 impl<S: ListSpace> Kernel<S> {
     /// Opens the library of a name with at least that version, if there is one and it has a place, once others were expunged under low memory to it
@@ -26,9 +26,9 @@ impl<S: ListSpace> Kernel<S> {
     /// more; 0 if there is none of the name, its version is lower, it is open 65,535 times, or there is no place for it (autodoc
     /// exec.library/OpenLibrary; the count, and that a library takes memory with MEMF_PUBLIC: project rule).
     #[tactic(auto, using(crate::proofs::Opening::open_answered))]
-    fn open_library<W: Sink>(&mut self, t: TaskId, call: &Call, out: &mut W)
+    fn open_library<W: Witness>(&mut self, t: TaskId, call: &Call, out: &mut W)
         requires { HasTask t self.old }
-        ensures { Follows (does_open_library t (call_view call.now)) self.old self.new (W.tape out.old) (W.tape out.new) }
+        ensures { Follows W.hearing (does_open_library t (call_view call.now)) self.old self.new (W.told out.old) (W.told out.new) }
     {
         let name = name_or_empty(call.name(0));
         let base = self.open(name, call.number(1));
@@ -37,9 +37,9 @@ impl<S: ListSpace> Kernel<S> {
 
     /// CloseLibrary base: the library is open once less, and goes if it is to be expunged and is open no more; 0 does nothing. HANDLE
     /// if no loaded library begins there, LIB if it is not open (autodoc exec.library/CloseLibrary; the alerts: project rule).
-    fn close_library<W: Sink>(&mut self, t: TaskId, call: &Call, out: &mut W)
+    fn close_library<W: Witness>(&mut self, t: TaskId, call: &Call, out: &mut W)
         requires { HasTask t self.old }
-        ensures { Follows (does_close_library t (call_view call.now)) self.old self.new (W.tape out.old) (W.tape out.new) }
+        ensures { Follows W.hearing (does_close_library t (call_view call.now)) self.old self.new (W.told out.old) (W.told out.new) }
     {
         let base = call.number(0);
         if base == 0 {
@@ -52,9 +52,9 @@ impl<S: ListSpace> Kernel<S> {
 
     /// RemLibrary base: the library is expunged, or is to be when it is closed for the last time. HANDLE if no loaded library begins there
     /// (autodoc exec.library/RemLibrary; the alert: project rule).
-    fn rem_library<W: Sink>(&mut self, t: TaskId, call: &Call, out: &mut W)
+    fn rem_library<W: Witness>(&mut self, t: TaskId, call: &Call, out: &mut W)
         requires { HasTask t self.old }
-        ensures { Follows (does_rem_library t (call_view call.now)) self.old self.new (W.tape out.old) (W.tape out.new) }
+        ensures { Follows W.hearing (does_rem_library t (call_view call.now)) self.old self.new (W.told out.old) (W.told out.new) }
     {
         let base = call.number(0);
         let tried = self.memory.remove_library(base);
@@ -63,9 +63,9 @@ impl<S: ListSpace> Kernel<S> {
 
     /// LibOpenCnt base: answers how often the library is open. HANDLE if no loaded library begins there (RKM Libraries, Exec Libraries:
     /// lib_OpenCnt; that there is a call for it: project rule).
-    fn lib_open_cnt<W: Sink>(&mut self, t: TaskId, call: &Call, out: &mut W)
+    fn lib_open_cnt<W: Witness>(&mut self, t: TaskId, call: &Call, out: &mut W)
         requires { HasTask t self.old }
-        ensures { Follows (does_lib_open_cnt t (call_view call.now)) self.old self.new (W.tape out.old) (W.tape out.new) }
+        ensures { Follows W.hearing (does_lib_open_cnt t (call_view call.now)) self.old self.new (W.told out.old) (W.told out.new) }
     {
         let base = call.number(0);
         let tried = self.memory.library_count(base);
@@ -73,7 +73,7 @@ impl<S: ListSpace> Kernel<S> {
     }
 
     /// A call of task t on libraries, by its word.
-    pub(crate) fn does_libraries<W: Sink>(
+    pub(crate) fn does_libraries<W: Witness>(
         &mut self,
         word: LibraryWord,
         t: TaskId,
@@ -81,7 +81,7 @@ impl<S: ListSpace> Kernel<S> {
         out: &mut W,
     )
         requires { HasTask t self.old }
-        ensures { Follows (does_libraries word t (call_view call.now)) self.old self.new (W.tape out.old) (W.tape out.new) }
+        ensures { Follows W.hearing (does_libraries word t (call_view call.now)) self.old self.new (W.told out.old) (W.told out.new) }
     {
         match word {
             LibraryWord::OpenLibrary => self.open_library(t, call, out),

@@ -2,7 +2,7 @@
 //! The calls of `Heap` have the effects; a word hands its arguments on, and ends as the answer says.
 ghost use Rattle.std.specs.Prelude.{◌≡◌, [], IfOk, IsTrue, option_map, unwrap_or};
 ghost use Rattle.std.specs.Int.{cast_signed, w32};
-ghost use Rattle.taskscript.specs.declared.word.lists.ListWord.TheVariants as lists;
+ghost use Rattle.script.specs.declared.word.lists.ListWord.TheVariants as lists;
 ghost use Rattle.execmodel.specs.{State.ListHead, State.Node, Memory.placed, GivingWay.after_asking_for_object, Objects.place_for_object, Tasks.is_priority, Lists.find_alert, Lists.found_node, Lists.is_list, Lists.is_node, Lists.list_size, Lists.node_size, Lists.does_lists};
 ghost use Rattle.execheap.specs.Refusals.{alert_of};
 ghost use Rattle.execsim.specs.{Callers.HasTask, Agreement.Follows, Views.call_view};
@@ -12,9 +12,9 @@ use crate::kernel::Kernel;
 use crate::tasks::is_priority;
 use execheap::Refusal;
 use execlist::space::ListSpace;
-use exectrace::{Name, Sink};
+use exectrace::{Name, Witness};
+use script::{Alert, ListWord};
 use taskq::TaskId;
-use taskscript::ListWord;
 
 impl<S: ListSpace> Kernel<S> {
     // ---- made and freed
@@ -44,18 +44,18 @@ impl<S: ListSpace> Kernel<S> {
 
     /// NewList: answers the address of a new empty list, or 0 (autodoc amiga.lib/NewList; that it takes the memory: project rule).
     #[tactic(auto, using(crate::proofs::Listing::list_made))]
-    fn new_list<W: Sink>(&mut self, t: TaskId, call: &Call, out: &mut W)
+    fn new_list<W: Witness>(&mut self, t: TaskId, call: &Call, out: &mut W)
         requires { HasTask t self.old }
-        ensures { Follows (does_lists lists.NewList t (call_view call.now)) self.old self.new (W.tape out.old) (W.tape out.new) }
+        ensures { Follows W.hearing (does_lists lists.NewList t (call_view call.now)) self.old self.new (W.told out.old) (W.told out.new) }
     {
         let list = self.make_list();
         self.answered(t, call, list.unwrap_or(0), out);
     }
 
     /// FreeList list: frees an empty list. HANDLE if no list begins there, LINK if it has nodes (project rule).
-    fn free_list<W: Sink>(&mut self, t: TaskId, call: &Call, out: &mut W)
+    fn free_list<W: Witness>(&mut self, t: TaskId, call: &Call, out: &mut W)
         requires { HasTask t self.old }
-        ensures { Follows (does_lists lists.FreeList t (call_view call.now)) self.old self.new (W.tape out.old) (W.tape out.new) }
+        ensures { Follows W.hearing (does_lists lists.FreeList t (call_view call.now)) self.old self.new (W.told out.old) (W.told out.new) }
     {
         let list = call.number(0);
         let tried = self.memory.free_list(list);
@@ -64,13 +64,13 @@ impl<S: ListSpace> Kernel<S> {
 
     /// NewNode pri name: answers the address of a new node, which is not linked, or 0. VALUE if the priority, read as a signed word, is
     /// not in -128 to 127 (project rule).
-    fn new_node<W: Sink>(&mut self, t: TaskId, call: &Call, out: &mut W)
+    fn new_node<W: Witness>(&mut self, t: TaskId, call: &Call, out: &mut W)
         requires { HasTask t self.old }
-        ensures { Follows (does_lists lists.NewNode t (call_view call.now)) self.old self.new (W.tape out.old) (W.tape out.new) }
+        ensures { Follows W.hearing (does_lists lists.NewNode t (call_view call.now)) self.old self.new (W.told out.old) (W.told out.new) }
     {
         let pri = call.number(0);
         if !is_priority(pri) {
-            self.alerted("VALUE", t, call, out);
+            self.alerted(Alert::Value, t, call, out);
         } else {
             let node = self.make_node(pri, call.name(1));
             self.answered(t, call, node.unwrap_or(0), out);
@@ -78,9 +78,9 @@ impl<S: ListSpace> Kernel<S> {
     }
 
     /// FreeNode node: frees a node. HANDLE if none begins there, LINK if it is linked (project rule).
-    fn free_node<W: Sink>(&mut self, t: TaskId, call: &Call, out: &mut W)
+    fn free_node<W: Witness>(&mut self, t: TaskId, call: &Call, out: &mut W)
         requires { HasTask t self.old }
-        ensures { Follows (does_lists lists.FreeNode t (call_view call.now)) self.old self.new (W.tape out.old) (W.tape out.new) }
+        ensures { Follows W.hearing (does_lists lists.FreeNode t (call_view call.now)) self.old self.new (W.told out.old) (W.told out.new) }
     {
         let node = call.number(0);
         let tried = self.memory.free_node(node);
@@ -91,9 +91,9 @@ impl<S: ListSpace> Kernel<S> {
 
     /// AddHead list node: puts the node first. HANDLE if either is none, LINK if the node is linked (autodoc
     /// exec.library/AddHead; the alerts: project rule).
-    fn add_head<W: Sink>(&mut self, t: TaskId, call: &Call, out: &mut W)
+    fn add_head<W: Witness>(&mut self, t: TaskId, call: &Call, out: &mut W)
         requires { HasTask t self.old }
-        ensures { Follows (does_lists lists.AddHead t (call_view call.now)) self.old self.new (W.tape out.old) (W.tape out.new) }
+        ensures { Follows W.hearing (does_lists lists.AddHead t (call_view call.now)) self.old self.new (W.told out.old) (W.told out.new) }
     {
         let list = call.number(0);
         let node = call.number(1);
@@ -102,9 +102,9 @@ impl<S: ListSpace> Kernel<S> {
     }
 
     /// AddTail list node: puts the node last. The alerts are those of AddHead (autodoc exec.library/AddTail).
-    fn add_tail<W: Sink>(&mut self, t: TaskId, call: &Call, out: &mut W)
+    fn add_tail<W: Witness>(&mut self, t: TaskId, call: &Call, out: &mut W)
         requires { HasTask t self.old }
-        ensures { Follows (does_lists lists.AddTail t (call_view call.now)) self.old self.new (W.tape out.old) (W.tape out.new) }
+        ensures { Follows W.hearing (does_lists lists.AddTail t (call_view call.now)) self.old self.new (W.told out.old) (W.told out.new) }
     {
         let list = call.number(0);
         let node = call.number(1);
@@ -114,9 +114,9 @@ impl<S: ListSpace> Kernel<S> {
 
     /// Enqueue list node: puts the node before the first one of lower priority, or last. The alerts are those of AddHead (autodoc
     /// exec.library/Enqueue).
-    fn enqueue<W: Sink>(&mut self, t: TaskId, call: &Call, out: &mut W)
+    fn enqueue<W: Witness>(&mut self, t: TaskId, call: &Call, out: &mut W)
         requires { HasTask t self.old }
-        ensures { Follows (does_lists lists.Enqueue t (call_view call.now)) self.old self.new (W.tape out.old) (W.tape out.new) }
+        ensures { Follows W.hearing (does_lists lists.Enqueue t (call_view call.now)) self.old self.new (W.told out.old) (W.told out.new) }
     {
         let list = call.number(0);
         let node = call.number(1);
@@ -126,9 +126,9 @@ impl<S: ListSpace> Kernel<S> {
 
     /// Insert list node pred: puts the node after pred, or first if pred is 0. HANDLE if one of them is none, LINK if the node is
     /// linked or pred is not in the list (autodoc exec.library/Insert; the alerts: project rule).
-    fn insert<W: Sink>(&mut self, t: TaskId, call: &Call, out: &mut W)
+    fn insert<W: Witness>(&mut self, t: TaskId, call: &Call, out: &mut W)
         requires { HasTask t self.old }
-        ensures { Follows (does_lists lists.Insert t (call_view call.now)) self.old self.new (W.tape out.old) (W.tape out.new) }
+        ensures { Follows W.hearing (does_lists lists.Insert t (call_view call.now)) self.old self.new (W.told out.old) (W.told out.new) }
     {
         let list = call.number(0);
         let node = call.number(1);
@@ -141,9 +141,9 @@ impl<S: ListSpace> Kernel<S> {
 
     /// Remove node: takes the node out of its list. HANDLE if none begins there, LINK if it is not linked (autodoc
     /// exec.library/Remove; the alerts: project rule).
-    fn remove<W: Sink>(&mut self, t: TaskId, call: &Call, out: &mut W)
+    fn remove<W: Witness>(&mut self, t: TaskId, call: &Call, out: &mut W)
         requires { HasTask t self.old }
-        ensures { Follows (does_lists lists.Remove t (call_view call.now)) self.old self.new (W.tape out.old) (W.tape out.new) }
+        ensures { Follows W.hearing (does_lists lists.Remove t (call_view call.now)) self.old self.new (W.told out.old) (W.told out.new) }
     {
         let node = call.number(0);
         let tried = self.memory.remove(node);
@@ -152,9 +152,9 @@ impl<S: ListSpace> Kernel<S> {
 
     /// RemHead list: takes the first node out and answers it, or 0 for an empty list. HANDLE if no list begins there (autodoc
     /// exec.library/RemHead; the alert: project rule).
-    fn rem_head<W: Sink>(&mut self, t: TaskId, call: &Call, out: &mut W)
+    fn rem_head<W: Witness>(&mut self, t: TaskId, call: &Call, out: &mut W)
         requires { HasTask t self.old }
-        ensures { Follows (does_lists lists.RemHead t (call_view call.now)) self.old self.new (W.tape out.old) (W.tape out.new) }
+        ensures { Follows W.hearing (does_lists lists.RemHead t (call_view call.now)) self.old self.new (W.told out.old) (W.told out.new) }
     {
         let list = call.number(0);
         let tried = self.memory.rem_head(list);
@@ -163,9 +163,9 @@ impl<S: ListSpace> Kernel<S> {
 
     /// RemTail list: takes the last node out and answers it, or 0 for an empty list. HANDLE if no list begins there (autodoc
     /// exec.library/RemTail; the alert: project rule).
-    fn rem_tail<W: Sink>(&mut self, t: TaskId, call: &Call, out: &mut W)
+    fn rem_tail<W: Witness>(&mut self, t: TaskId, call: &Call, out: &mut W)
         requires { HasTask t self.old }
-        ensures { Follows (does_lists lists.RemTail t (call_view call.now)) self.old self.new (W.tape out.old) (W.tape out.new) }
+        ensures { Follows W.hearing (does_lists lists.RemTail t (call_view call.now)) self.old self.new (W.told out.old) (W.told out.new) }
     {
         let list = call.number(0);
         let tried = self.memory.rem_tail(list);
@@ -176,9 +176,9 @@ impl<S: ListSpace> Kernel<S> {
 
     /// First list: answers the first node, or 0 for an empty list. HANDLE if no list begins there (RKM Libraries, Exec Lists and
     /// Queues: scanning a list; the alert: project rule).
-    fn first<W: Sink>(&mut self, t: TaskId, call: &Call, out: &mut W)
+    fn first<W: Witness>(&mut self, t: TaskId, call: &Call, out: &mut W)
         requires { HasTask t self.old }
-        ensures { Follows (does_lists lists.First t (call_view call.now)) self.old self.new (W.tape out.old) (W.tape out.new) }
+        ensures { Follows W.hearing (does_lists lists.First t (call_view call.now)) self.old self.new (W.told out.old) (W.told out.new) }
     {
         let list = call.number(0);
         let tried = self.memory.first(list);
@@ -187,9 +187,9 @@ impl<S: ListSpace> Kernel<S> {
 
     /// Last list: answers the last node, or 0 for an empty list. HANDLE if no list begins there (RKM Libraries, Exec Lists and
     /// Queues: scanning a list; the alert: project rule).
-    fn last<W: Sink>(&mut self, t: TaskId, call: &Call, out: &mut W)
+    fn last<W: Witness>(&mut self, t: TaskId, call: &Call, out: &mut W)
         requires { HasTask t self.old }
-        ensures { Follows (does_lists lists.Last t (call_view call.now)) self.old self.new (W.tape out.old) (W.tape out.new) }
+        ensures { Follows W.hearing (does_lists lists.Last t (call_view call.now)) self.old self.new (W.told out.old) (W.told out.new) }
     {
         let list = call.number(0);
         let tried = self.memory.last(list);
@@ -198,9 +198,9 @@ impl<S: ListSpace> Kernel<S> {
 
     /// Succ node: answers the node after a linked one, or 0. HANDLE if none begins there, LINK if it is not linked (RKM Libraries,
     /// Exec Lists and Queues: `ln_Succ`; the alerts: project rule).
-    fn succ<W: Sink>(&mut self, t: TaskId, call: &Call, out: &mut W)
+    fn succ<W: Witness>(&mut self, t: TaskId, call: &Call, out: &mut W)
         requires { HasTask t self.old }
-        ensures { Follows (does_lists lists.Succ t (call_view call.now)) self.old self.new (W.tape out.old) (W.tape out.new) }
+        ensures { Follows W.hearing (does_lists lists.Succ t (call_view call.now)) self.old self.new (W.told out.old) (W.told out.new) }
     {
         let node = call.number(0);
         let tried = self.memory.succ(node);
@@ -209,9 +209,9 @@ impl<S: ListSpace> Kernel<S> {
 
     /// Pred node: answers the node before a linked one, or 0. HANDLE if none begins there, LINK if it is not linked (RKM Libraries,
     /// Exec Lists and Queues: `ln_Pred`; the alerts: project rule).
-    fn pred<W: Sink>(&mut self, t: TaskId, call: &Call, out: &mut W)
+    fn pred<W: Witness>(&mut self, t: TaskId, call: &Call, out: &mut W)
         requires { HasTask t self.old }
-        ensures { Follows (does_lists lists.Pred t (call_view call.now)) self.old self.new (W.tape out.old) (W.tape out.new) }
+        ensures { Follows W.hearing (does_lists lists.Pred t (call_view call.now)) self.old self.new (W.told out.old) (W.told out.new) }
     {
         let node = call.number(0);
         let tried = self.memory.pred(node);
@@ -231,9 +231,9 @@ impl<S: ListSpace> Kernel<S> {
 
     /// FindName start name: answers the first node of that name in a list, or after a linked node, or 0. HANDLE if neither begins at
     /// the start, LINK if the node is not linked (autodoc exec.library/FindName; the alerts: project rule).
-    fn find_name<W: Sink>(&mut self, t: TaskId, call: &Call, out: &mut W)
+    fn find_name<W: Witness>(&mut self, t: TaskId, call: &Call, out: &mut W)
         requires { HasTask t self.old }
-        ensures { Follows (does_lists lists.FindName t (call_view call.now)) self.old self.new (W.tape out.old) (W.tape out.new) }
+        ensures { Follows W.hearing (does_lists lists.FindName t (call_view call.now)) self.old self.new (W.told out.old) (W.told out.new) }
     {
         let start = call.number(0);
         let tried = self.find(start, call.name(1));
@@ -241,7 +241,7 @@ impl<S: ListSpace> Kernel<S> {
     }
 
     /// A call of task t on lists and nodes, by its word.
-    pub(crate) fn does_lists<W: Sink>(
+    pub(crate) fn does_lists<W: Witness>(
         &mut self,
         word: ListWord,
         t: TaskId,
@@ -249,7 +249,7 @@ impl<S: ListSpace> Kernel<S> {
         out: &mut W,
     )
         requires { HasTask t self.old }
-        ensures { Follows (does_lists word t (call_view call.now)) self.old self.new (W.tape out.old) (W.tape out.new) }
+        ensures { Follows W.hearing (does_lists word t (call_view call.now)) self.old self.new (W.told out.old) (W.told out.new) }
     {
         match word {
             ListWord::NewList => self.new_list(t, call, out),

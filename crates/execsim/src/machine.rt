@@ -1,7 +1,7 @@
 //! The machine as its callers see it: made from a machine file, started once, and given one event after another.
 ghost use Rattle.std.specs.Prelude.{◌≡◌, ◌+◌, ℕ, true, false, sum_by, IfOk, IsOk};
 ghost use Rattle.exectrace.specs.{Sink.Writes, Trace.printed, declared.sinks.SinkState.SinkState};
-ghost use Rattle.taskscript.specs.Events.{ticks as ticks_of};
+ghost use Rattle.script.specs.Events.{ticks as ticks_of};
 ghost use Rattle.execmodel.specs.{State.State, State.booted, State.andthen, Step.starts, Step.event, Step.events};
 ghost use Rattle.execsim.specs.{Advancing.Advances, Advancing.Ends, Agreement.Agrees, Headline.Acts, Headline.StaysFailed, Headline.Finishes, Headline.flow_of, Reached.QueuesAgree, Time.HasTimeFor};
 
@@ -15,10 +15,10 @@ use execlist::space::ListSpace;
 use exectrace::sinks::written;
 use exectrace::{Sink, WriteFault};
 pub use readers::{MachineView, TaskView};
+use script::{Event, MachineFile};
 use std::alloc::{AllocError, Global};
 use std::marker::Model;
 use taskq::TaskInit;
-use taskscript::{Event, MachineFile};
 
 /// Whether a machine goes on.
 #[derive(Clone, Copy, PartialEq, Eq)]

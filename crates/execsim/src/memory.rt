@@ -1,17 +1,17 @@
 //! Memory: blocks that AllocMem gives and FreeMem takes back.
 ghost use Rattle.std.specs.Prelude.{◌≡◌, true, false};
 ghost use Rattle.memlist.specs.Fit.{avail};
-ghost use Rattle.taskscript.specs.declared.word.memory.MemoryWord.TheVariants as words;
+ghost use Rattle.script.specs.declared.word.memory.MemoryWord.TheVariants as words;
 ghost use Rattle.execmodel.specs.{State.Plain, GivingWay.after_asking, Memory.block_at, Memory.can_be_asked, Memory.extents, Memory.freed, Memory.has_only, Memory.is_named, Memory.place_for, Memory.placed, Memory.does_memory};
 ghost use Rattle.execsim.specs.{Callers.HasTask, Agreement.Follows, Views.call_view};
 
 use crate::call::Call;
 use crate::kernel::Kernel;
 use execlist::space::ListSpace;
-use exectrace::Sink;
+use exectrace::Witness;
 use memlist::{MEMF_CHIP, MEMF_CLEAR, MEMF_FAST, MEMF_LARGEST, MEMF_PUBLIC, MEMF_TOTAL};
+use script::{Alert, MemoryWord};
 use taskq::TaskId;
-use taskscript::MemoryWord;
 
 /// What AllocMem may be asked for.
 const ALLOC_BITS: u32 = MEMF_PUBLIC | MEMF_CHIP | MEMF_FAST | MEMF_CLEAR;
@@ -62,14 +62,14 @@ impl<S: ListSpace> Kernel<S> {
     /// AllocMem size reqs: answers the address of a plain block, or 0 if none fits once libraries were expunged under low memory, or the size is
     /// 0. VALUE if the requirements have other bits than MEMF_PUBLIC, MEMF_CHIP, MEMF_FAST and MEMF_CLEAR (autodoc
     /// exec.library/AllocMem; size 0, and the alert: project rule).
-    fn alloc_mem<W: Sink>(&mut self, t: TaskId, call: &Call, out: &mut W)
+    fn alloc_mem<W: Witness>(&mut self, t: TaskId, call: &Call, out: &mut W)
         requires { HasTask t self.old }
-        ensures { Follows (does_memory words.AllocMem t (call_view call.now)) self.old self.new (W.tape out.old) (W.tape out.new) }
+        ensures { Follows W.hearing (does_memory words.AllocMem t (call_view call.now)) self.old self.new (W.told out.old) (W.told out.new) }
     {
         let size = call.number(0);
         let reqs = call.number(1);
         if !has_only(ALLOC_BITS, reqs) {
-            self.alerted("VALUE", t, call, out);
+            self.alerted(Alert::Value, t, call, out);
         } else {
             let place = self.allocate(size, reqs);
             self.answered(t, call, place.unwrap_or(0), out);
@@ -77,27 +77,27 @@ impl<S: ListSpace> Kernel<S> {
     }
 
     /// FreeMem addr size (autodoc exec.library/FreeMem).
-    fn free_mem<W: Sink>(&mut self, t: TaskId, call: &Call, out: &mut W)
+    fn free_mem<W: Witness>(&mut self, t: TaskId, call: &Call, out: &mut W)
         requires { HasTask t self.old }
-        ensures { Follows (does_memory words.FreeMem t (call_view call.now)) self.old self.new (W.tape out.old) (W.tape out.new) }
+        ensures { Follows W.hearing (does_memory words.FreeMem t (call_view call.now)) self.old self.new (W.told out.old) (W.told out.new) }
     {
         let address = call.number(0);
         let size = call.number(1);
         if self.free(address, size) {
             self.done(t, call, out);
         } else {
-            self.alerted("MEM", t, call, out);
+            self.alerted(Alert::Mem, t, call, out);
         }
     }
 
     /// AvailMem reqs (autodoc exec.library/AvailMem).
-    fn avail_mem<W: Sink>(&mut self, t: TaskId, call: &Call, out: &mut W)
+    fn avail_mem<W: Witness>(&mut self, t: TaskId, call: &Call, out: &mut W)
         requires { HasTask t self.old }
-        ensures { Follows (does_memory words.AvailMem t (call_view call.now)) self.old self.new (W.tape out.old) (W.tape out.new) }
+        ensures { Follows W.hearing (does_memory words.AvailMem t (call_view call.now)) self.old self.new (W.told out.old) (W.told out.new) }
     {
         let reqs = call.number(0);
         if !can_be_asked(reqs) {
-            self.alerted("VALUE", t, call, out);
+            self.alerted(Alert::Value, t, call, out);
         } else {
             let answer = self.available(reqs);
             self.answered(t, call, answer, out);
@@ -105,7 +105,7 @@ impl<S: ListSpace> Kernel<S> {
     }
 
     /// A call of task t on memory, by its word.
-    pub(crate) fn does_memory<W: Sink>(
+    pub(crate) fn does_memory<W: Witness>(
         &mut self,
         word: MemoryWord,
         t: TaskId,
@@ -113,7 +113,7 @@ impl<S: ListSpace> Kernel<S> {
         out: &mut W,
     )
         requires { HasTask t self.old }
-        ensures { Follows (does_memory word t (call_view call.now)) self.old self.new (W.tape out.old) (W.tape out.new) }
+        ensures { Follows W.hearing (does_memory word t (call_view call.now)) self.old self.new (W.told out.old) (W.told out.new) }
     {
         match word {
             MemoryWord::AllocMem => self.alloc_mem(t, call, out),

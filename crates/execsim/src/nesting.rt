@@ -8,9 +8,9 @@ ghost use Rattle.execsim.specs.{Callers.HasTask, Callers.Runs, Agreement.Follows
 use crate::call::Call;
 use crate::kernel::Kernel;
 use execlist::space::ListSpace;
-use exectrace::Sink;
+use exectrace::Witness;
+use script::{Alert, NestingWord};
 use taskq::TaskId;
-use taskscript::NestingWord;
 
 impl<S: ListSpace> Kernel<S> {
     /// Counts one more Forbid of the running task, and answers whether its count has room for it.
@@ -50,59 +50,59 @@ impl<S: ListSpace> Kernel<S> {
     }
 
     /// A call that has counted is done; one that could not is refused.
-    fn counted<W: Sink>(&mut self, fits: bool, t: TaskId, call: &Call, out: &mut W)
+    fn counted<W: Witness>(&mut self, fits: bool, t: TaskId, call: &Call, out: &mut W)
         requires { HasTask t self.old }
-        ensures { Follows (done_or_nest fits t (call_view call.now)) self.old self.new (W.tape out.old) (W.tape out.new) }
+        ensures { Follows W.hearing (done_or_nest fits t (call_view call.now)) self.old self.new (W.told out.old) (W.told out.new) }
     {
         if fits {
             self.done(t, call, out);
         } else {
-            self.alerted("NEST", t, call, out);
+            self.alerted(Alert::Nest, t, call, out);
         }
     }
 
     /// Forbid (autodoc exec.library/Forbid).
-    fn forbid<W: Sink>(&mut self, t: TaskId, call: &Call, out: &mut W)
+    fn forbid<W: Witness>(&mut self, t: TaskId, call: &Call, out: &mut W)
         requires known { HasTask t self.old }
         requires runs { Runs t self.old }
-        ensures { Follows (does_forbid t (call_view call.now)) self.old self.new (W.tape out.old) (W.tape out.new) }
+        ensures { Follows W.hearing (does_forbid t (call_view call.now)) self.old self.new (W.told out.old) (W.told out.new) }
     {
         let fits = self.count_forbid(t);
         self.counted(fits, t, call, out);
     }
 
     /// Permit (autodoc exec.library/Permit).
-    fn permit<W: Sink>(&mut self, t: TaskId, call: &Call, out: &mut W)
+    fn permit<W: Witness>(&mut self, t: TaskId, call: &Call, out: &mut W)
         requires known { HasTask t self.old }
         requires runs { Runs t self.old }
-        ensures { Follows (does_permit t (call_view call.now)) self.old self.new (W.tape out.old) (W.tape out.new) }
+        ensures { Follows W.hearing (does_permit t (call_view call.now)) self.old self.new (W.told out.old) (W.told out.new) }
     {
         let fits = self.count_permit(t);
         self.counted(fits, t, call, out);
     }
 
     /// Disable (autodoc exec.library/Disable).
-    fn disable<W: Sink>(&mut self, t: TaskId, call: &Call, out: &mut W)
+    fn disable<W: Witness>(&mut self, t: TaskId, call: &Call, out: &mut W)
         requires known { HasTask t self.old }
         requires runs { Runs t self.old }
-        ensures { Follows (does_disable t (call_view call.now)) self.old self.new (W.tape out.old) (W.tape out.new) }
+        ensures { Follows W.hearing (does_disable t (call_view call.now)) self.old self.new (W.told out.old) (W.told out.new) }
     {
         let fits = self.count_disable(t);
         self.counted(fits, t, call, out);
     }
 
     /// Enable (autodoc exec.library/Enable).
-    fn enable<W: Sink>(&mut self, t: TaskId, call: &Call, out: &mut W)
+    fn enable<W: Witness>(&mut self, t: TaskId, call: &Call, out: &mut W)
         requires known { HasTask t self.old }
         requires runs { Runs t self.old }
-        ensures { Follows (does_enable t (call_view call.now)) self.old self.new (W.tape out.old) (W.tape out.new) }
+        ensures { Follows W.hearing (does_enable t (call_view call.now)) self.old self.new (W.told out.old) (W.told out.new) }
     {
         let fits = self.count_enable(t);
         self.counted(fits, t, call, out);
     }
 
     /// A call of task t on its nesting, by its word.
-    pub(crate) fn does_nesting<W: Sink>(
+    pub(crate) fn does_nesting<W: Witness>(
         &mut self,
         word: NestingWord,
         t: TaskId,
@@ -111,7 +111,7 @@ impl<S: ListSpace> Kernel<S> {
     )
         requires known { HasTask t self.old }
         requires runs { Runs t self.old }
-        ensures { Follows (does_nesting word t (call_view call.now)) self.old self.new (W.tape out.old) (W.tape out.new) }
+        ensures { Follows W.hearing (does_nesting word t (call_view call.now)) self.old self.new (W.told out.old) (W.told out.new) }
     {
         match word {
             NestingWord::Forbid => self.forbid(t, call, out),

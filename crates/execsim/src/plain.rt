@@ -1,15 +1,14 @@
 //! Plain words: they set variables, calculate, jump and print, and ask nothing of Exec.
 ghost use Rattle.std.specs.Prelude.{◌≡◌, ◌+◌, ◌-◌, ◌%◌, ◌^◌, bit_and, bit_or, if◌then◌else◌, nat_eq};
-ghost use Rattle.exectrace.specs.Sink.{Tape};
 ghost use Rattle.execmodel.specs.Plain.{does_set_by, does_add_by, does_sub_by, does_and_by, does_or_by, jumps, does_jump, does_jump_zero, does_jump_not_zero, does_print, does_plain};
-ghost use Rattle.execsim.specs.{Callers.HasTask, Callers.HasCaller, Agreement.Follows, Views.call_view, Views.caller_view};
+ghost use Rattle.execsim.specs.{Agreement.Quietly, Callers.HasTask, Callers.HasCaller, Agreement.Follows, Views.call_view, Views.caller_view};
 
 use crate::call::{Call, Caller};
 use crate::kernel::Kernel;
 use execlist::space::ListSpace;
-use exectrace::Sink;
+use exectrace::Witness;
+use script::PlainWord;
 use taskq::TaskId;
-use taskscript::PlainWord;
 
 /// The sum of two words.
 pub(crate) fn sum(a: u32, b: u32) -> u32
@@ -50,7 +49,7 @@ impl<S: ListSpace> Kernel<S> {
     /// Set a: answers a.
     pub(crate) fn set(&mut self, caller: &Caller, call: &Call)
         requires { HasCaller caller.now self.old }
-        ensures { (tape : Tape) → Follows (does_set_by (caller_view caller.now) (call_view call.now)) self.old self.new tape tape }
+        ensures { Quietly (does_set_by (caller_view caller.now) (call_view call.now)) self.old self.new }
     {
         self.silent_by(caller, call, call.number(0));
     }
@@ -58,7 +57,7 @@ impl<S: ListSpace> Kernel<S> {
     /// Add a b: answers the sum.
     pub(crate) fn add_words(&mut self, caller: &Caller, call: &Call)
         requires { HasCaller caller.now self.old }
-        ensures { (tape : Tape) → Follows (does_add_by (caller_view caller.now) (call_view call.now)) self.old self.new tape tape }
+        ensures { Quietly (does_add_by (caller_view caller.now) (call_view call.now)) self.old self.new }
     {
         self.silent_by(caller, call, sum(call.number(0), call.number(1)));
     }
@@ -66,7 +65,7 @@ impl<S: ListSpace> Kernel<S> {
     /// Sub a b: answers the difference.
     pub(crate) fn sub_words(&mut self, caller: &Caller, call: &Call)
         requires { HasCaller caller.now self.old }
-        ensures { (tape : Tape) → Follows (does_sub_by (caller_view caller.now) (call_view call.now)) self.old self.new tape tape }
+        ensures { Quietly (does_sub_by (caller_view caller.now) (call_view call.now)) self.old self.new }
     {
         self.silent_by(caller, call, difference(call.number(0), call.number(1)));
     }
@@ -74,7 +73,7 @@ impl<S: ListSpace> Kernel<S> {
     /// And a b: answers the bits that both have.
     pub(crate) fn and_words(&mut self, caller: &Caller, call: &Call)
         requires { HasCaller caller.now self.old }
-        ensures { (tape : Tape) → Follows (does_and_by (caller_view caller.now) (call_view call.now)) self.old self.new tape tape }
+        ensures { Quietly (does_and_by (caller_view caller.now) (call_view call.now)) self.old self.new }
     {
         self.silent_by(caller, call, common_bits(call.number(0), call.number(1)));
     }
@@ -82,7 +81,7 @@ impl<S: ListSpace> Kernel<S> {
     /// Or a b: answers the bits that either has.
     pub(crate) fn or_words(&mut self, caller: &Caller, call: &Call)
         requires { HasCaller caller.now self.old }
-        ensures { (tape : Tape) → Follows (does_or_by (caller_view caller.now) (call_view call.now)) self.old self.new tape tape }
+        ensures { Quietly (does_or_by (caller_view caller.now) (call_view call.now)) self.old self.new }
     {
         self.silent_by(caller, call, all_bits(call.number(0), call.number(1)));
     }
@@ -90,7 +89,7 @@ impl<S: ListSpace> Kernel<S> {
     /// Task t goes on at that place.
     fn jump_to(&mut self, t: TaskId, place: usize)
         requires { HasTask t self.old }
-        ensures { (tape : Tape) → Follows (jumps t place) self.old self.new tape tape }
+        ensures { Quietly (jumps t place) self.old self.new }
     {
         self.go_on(t, place);
     }
@@ -98,7 +97,7 @@ impl<S: ListSpace> Kernel<S> {
     /// Jump l: goes on at l.
     fn jump(&mut self, t: TaskId, call: &Call)
         requires { HasTask t self.old }
-        ensures { (tape : Tape) → Follows (does_jump t (call_view call.now)) self.old self.new tape tape }
+        ensures { Quietly (does_jump t (call_view call.now)) self.old self.new }
     {
         self.jump_to(t, call.number(0) as usize);
     }
@@ -106,7 +105,7 @@ impl<S: ListSpace> Kernel<S> {
     /// JumpZ a l: goes on at l if a is 0.
     fn jump_zero(&mut self, t: TaskId, call: &Call)
         requires { HasTask t self.old }
-        ensures { (tape : Tape) → Follows (does_jump_zero t (call_view call.now)) self.old self.new tape tape }
+        ensures { Quietly (does_jump_zero t (call_view call.now)) self.old self.new }
     {
         let place = place_at_zero(call.number(0), call.number(1) as usize, call.next);
         self.jump_to(t, place);
@@ -115,7 +114,7 @@ impl<S: ListSpace> Kernel<S> {
     /// JumpNZ a l: goes on at l if a is not 0.
     fn jump_not_zero(&mut self, t: TaskId, call: &Call)
         requires { HasTask t self.old }
-        ensures { (tape : Tape) → Follows (does_jump_not_zero t (call_view call.now)) self.old self.new tape tape }
+        ensures { Quietly (does_jump_not_zero t (call_view call.now)) self.old self.new }
     {
         let place = place_at_zero(call.number(0), call.next, call.number(1) as usize);
         self.jump_to(t, place);
@@ -123,15 +122,15 @@ impl<S: ListSpace> Kernel<S> {
 
     /// Print a: its line shows the value.
     #[tactic(auto, unfolding(execmodel::specs::Plain::does_print))]
-    fn print<W: Sink>(&mut self, t: TaskId, call: &Call, out: &mut W)
+    fn print<W: Witness>(&mut self, t: TaskId, call: &Call, out: &mut W)
         requires { HasTask t self.old }
-        ensures { Follows (does_print t (call_view call.now)) self.old self.new (W.tape out.old) (W.tape out.new) }
+        ensures { Follows W.hearing (does_print t (call_view call.now)) self.old self.new (W.told out.old) (W.told out.new) }
     {
         self.done(t, call, out);
     }
 
     /// A call of task t, by its word: a plain one.
-    pub(crate) fn does_plain<W: Sink>(
+    pub(crate) fn does_plain<W: Witness>(
         &mut self,
         word: PlainWord,
         t: TaskId,
@@ -139,7 +138,7 @@ impl<S: ListSpace> Kernel<S> {
         out: &mut W,
     )
         requires { HasTask t self.old }
-        ensures { Follows (does_plain word t (call_view call.now)) self.old self.new (W.tape out.old) (W.tape out.new) }
+        ensures { Follows W.hearing (does_plain word t (call_view call.now)) self.old self.new (W.told out.old) (W.told out.new) }
     {
         match word {
             PlainWord::Set => self.set(&Caller::Task(t), call),

@@ -16,10 +16,10 @@ use crate::kernel::Kernel;
 use crate::tasks::is_priority;
 use execheap::Refusal;
 use execlist::space::ListSpace;
-use exectrace::{Name, Sink};
+use exectrace::{Name, Witness};
 use msgport::action::{Action, PortAction};
+use script::{Alert, PortWord};
 use taskq::TaskId;
-use taskscript::PortWord;
 
 /// What AllocSignal is asked for by a call that takes any signal: the word of -1.
 const ANY_SIGNAL: u32 = 0xffff_ffff;
@@ -63,10 +63,10 @@ impl<S: ListSpace> Kernel<S> {
     /// CreateMsgPort: answers the address of a new port, which signals the caller by a newly allocated signal; or 0 if the caller has no
     /// signal left, and then no library is expunged under low memory, or there is no room for the port (autodoc exec.library/CreateMsgPort; when
     /// libraries are asked: project rule).
-    fn create_msg_port<W: Sink>(&mut self, t: TaskId, call: &Call, out: &mut W)
+    fn create_msg_port<W: Witness>(&mut self, t: TaskId, call: &Call, out: &mut W)
         requires known { HasTask t self.old }
         requires runs { Runs t self.old }
-        ensures { Follows (does_create_msg_port t (call_view call.now)) self.old self.new (W.tape out.old) (W.tape out.new) }
+        ensures { Follows W.hearing (does_create_msg_port t (call_view call.now)) self.old self.new (W.told out.old) (W.told out.new) }
     {
         match self.next_signal(t) {
             None => self.answered(t, call, 0, out),
@@ -91,7 +91,7 @@ impl<S: ListSpace> Kernel<S> {
     }
 
     /// A call that frees a port: its signal is given back to its task, or the call is refused by its alert.
-    fn given_back<W: Sink>(
+    fn given_back<W: Witness>(
         &mut self,
         tried: Result<(TaskId, u32), Refusal>,
         t: TaskId,
@@ -101,7 +101,7 @@ impl<S: ListSpace> Kernel<S> {
         requires known { HasTask t self.old }
         requires own { IfOk tried (λ owner. 16 ≤ owner.1) }
         requires signal { IfOk tried (λ owner. owner.1 < 32) }
-        ensures { Follows (given_back_or_alerted tried t (call_view call.now)) self.old self.new (W.tape out.old) (W.tape out.new) }
+        ensures { Follows W.hearing (given_back_or_alerted tried t (call_view call.now)) self.old self.new (W.told out.old) (W.told out.new) }
     {
         match tried {
             Ok((task, bit)) => {
@@ -114,9 +114,9 @@ impl<S: ListSpace> Kernel<S> {
 
     /// DeleteMsgPort port: frees a port and gives its signal back to its task; 0 does nothing. HANDLE if no port begins there, PORT
     /// if it has messages, is public, or is the reply port of a request under way (autodoc exec.library/DeleteMsgPort; the alerts: project rule).
-    fn delete_msg_port<W: Sink>(&mut self, t: TaskId, call: &Call, out: &mut W)
+    fn delete_msg_port<W: Witness>(&mut self, t: TaskId, call: &Call, out: &mut W)
         requires { HasTask t self.old }
-        ensures { Follows (does_delete_msg_port t (call_view call.now)) self.old self.new (W.tape out.old) (W.tape out.new) }
+        ensures { Follows W.hearing (does_delete_msg_port t (call_view call.now)) self.old self.new (W.told out.old) (W.told out.new) }
     {
         let port = call.number(0);
         if port == 0 {
@@ -144,9 +144,9 @@ impl<S: ListSpace> Kernel<S> {
 
     /// AddPort port name pri: makes a port public. HANDLE if no port begins there, VALUE if the priority, read as a signed word, is
     /// not in -128 to 127, LINK if the port is public (autodoc exec.library/AddPort; the alerts: project rule).
-    fn add_port<W: Sink>(&mut self, t: TaskId, call: &Call, out: &mut W)
+    fn add_port<W: Witness>(&mut self, t: TaskId, call: &Call, out: &mut W)
         requires { HasTask t self.old }
-        ensures { Follows (does_add_port t (call_view call.now)) self.old self.new (W.tape out.old) (W.tape out.new) }
+        ensures { Follows W.hearing (does_add_port t (call_view call.now)) self.old self.new (W.told out.old) (W.told out.new) }
     {
         let port = call.number(0);
         let pri = call.number(2);
@@ -154,17 +154,17 @@ impl<S: ListSpace> Kernel<S> {
             let tried = self.make_public(port, call.name(1), pri);
             self.concluded(tried, t, call, out);
         } else if self.memory.is_port(port) {
-            self.alerted("VALUE", t, call, out);
+            self.alerted(Alert::Value, t, call, out);
         } else {
-            self.alerted("HANDLE", t, call, out);
+            self.alerted(Alert::Handle, t, call, out);
         }
     }
 
     /// RemPort port: makes a port public no more. HANDLE if no port begins there, LINK if it is not public (autodoc
     /// exec.library/RemPort; the alerts: project rule).
-    fn rem_port<W: Sink>(&mut self, t: TaskId, call: &Call, out: &mut W)
+    fn rem_port<W: Witness>(&mut self, t: TaskId, call: &Call, out: &mut W)
         requires { HasTask t self.old }
-        ensures { Follows (does_rem_port t (call_view call.now)) self.old self.new (W.tape out.old) (W.tape out.new) }
+        ensures { Follows W.hearing (does_rem_port t (call_view call.now)) self.old self.new (W.told out.old) (W.told out.new) }
     {
         let port = call.number(0);
         let tried = self.memory.rem_port(port);
@@ -183,9 +183,9 @@ impl<S: ListSpace> Kernel<S> {
 
     /// FindPort name: answers the public port of that name, or 0 (autodoc exec.library/FindPort).
     #[tactic(auto, using(crate::proofs::Porting::find_answered))]
-    fn find_port<W: Sink>(&mut self, t: TaskId, call: &Call, out: &mut W)
+    fn find_port<W: Witness>(&mut self, t: TaskId, call: &Call, out: &mut W)
         requires { HasTask t self.old }
-        ensures { Follows (does_find_port t (call_view call.now)) self.old self.new (W.tape out.old) (W.tape out.new) }
+        ensures { Follows W.hearing (does_find_port t (call_view call.now)) self.old self.new (W.told out.old) (W.told out.new) }
     {
         let port = self.public_port(call.name(0));
         self.answered(t, call, port, out);
@@ -195,9 +195,9 @@ impl<S: ListSpace> Kernel<S> {
 
     /// PortSignal port: the port signals its task, as a new port does. HANDLE if no port begins there (RKM Libraries, Exec Messages and
     /// Ports: mp_Flags, PA_SIGNAL; that there is a call for it: project rule).
-    fn port_signal<W: Sink>(&mut self, t: TaskId, call: &Call, out: &mut W)
+    fn port_signal<W: Witness>(&mut self, t: TaskId, call: &Call, out: &mut W)
         requires { HasTask t self.old }
-        ensures { Follows (does_port_signal t (call_view call.now)) self.old self.new (W.tape out.old) (W.tape out.new) }
+        ensures { Follows W.hearing (does_port_signal t (call_view call.now)) self.old self.new (W.told out.old) (W.told out.new) }
     {
         let port = call.number(0);
         let tried = self.memory.set_action(port, PortAction::Signal);
@@ -206,9 +206,9 @@ impl<S: ListSpace> Kernel<S> {
 
     /// PortCause port name: the port causes the software interrupt of that name. HANDLE if no port begins there (RKM Libraries, Exec
     /// Messages and Ports: mp_Flags, PA_SOFTINT; that there is a call for it: project rule).
-    fn port_cause<W: Sink>(&mut self, t: TaskId, call: &Call, out: &mut W)
+    fn port_cause<W: Witness>(&mut self, t: TaskId, call: &Call, out: &mut W)
         requires { HasTask t self.old }
-        ensures { Follows (does_port_cause t (call_view call.now)) self.old self.new (W.tape out.old) (W.tape out.new) }
+        ensures { Follows W.hearing (does_port_cause t (call_view call.now)) self.old self.new (W.told out.old) (W.told out.new) }
     {
         let port = call.number(0);
         let i = self.softint_named(&name_or_empty(call.name(1)));
@@ -218,9 +218,9 @@ impl<S: ListSpace> Kernel<S> {
 
     /// PortIgnore port: the port does nothing if a message arrives. HANDLE if no port begins there (RKM Libraries, Exec Messages and
     /// Ports: mp_Flags, PA_IGNORE; that there is a call for it: project rule).
-    fn port_ignore<W: Sink>(&mut self, t: TaskId, call: &Call, out: &mut W)
+    fn port_ignore<W: Witness>(&mut self, t: TaskId, call: &Call, out: &mut W)
         requires { HasTask t self.old }
-        ensures { Follows (does_port_ignore t (call_view call.now)) self.old self.new (W.tape out.old) (W.tape out.new) }
+        ensures { Follows W.hearing (does_port_ignore t (call_view call.now)) self.old self.new (W.told out.old) (W.told out.new) }
     {
         let port = call.number(0);
         let tried = self.memory.set_action(port, PortAction::Ignore);
@@ -231,9 +231,9 @@ impl<S: ListSpace> Kernel<S> {
 
     /// NewMsg port word: answers the address of a new message with that reply port, or none for 0, and that word; or 0. HANDLE if the
     /// reply port is not 0 and no port begins there (project rule).
-    fn new_msg<W: Sink>(&mut self, t: TaskId, call: &Call, out: &mut W)
+    fn new_msg<W: Witness>(&mut self, t: TaskId, call: &Call, out: &mut W)
         requires { HasTask t self.old }
-        ensures { Follows (does_new_msg t (call_view call.now)) self.old self.new (W.tape out.old) (W.tape out.new) }
+        ensures { Follows W.hearing (does_new_msg t (call_view call.now)) self.old self.new (W.told out.old) (W.told out.new) }
     {
         let reply = call.number(0);
         let word = call.number(1);
@@ -244,9 +244,9 @@ impl<S: ListSpace> Kernel<S> {
     }
 
     /// FreeMsg message: frees a message. HANDLE if none begins there, LINK if a port has it (project rule).
-    fn free_msg<W: Sink>(&mut self, t: TaskId, call: &Call, out: &mut W)
+    fn free_msg<W: Witness>(&mut self, t: TaskId, call: &Call, out: &mut W)
         requires { HasTask t self.old }
-        ensures { Follows (does_free_msg t (call_view call.now)) self.old self.new (W.tape out.old) (W.tape out.new) }
+        ensures { Follows W.hearing (does_free_msg t (call_view call.now)) self.old self.new (W.told out.old) (W.told out.new) }
     {
         let message = call.number(0);
         let tried = self.memory.free_message(message);
@@ -256,9 +256,9 @@ impl<S: ListSpace> Kernel<S> {
     // ---- what a message holds
 
     /// MsgWord message: answers its word. HANDLE if no message begins there (project rule).
-    fn msg_word<W: Sink>(&mut self, t: TaskId, call: &Call, out: &mut W)
+    fn msg_word<W: Witness>(&mut self, t: TaskId, call: &Call, out: &mut W)
         requires { HasTask t self.old }
-        ensures { Follows (does_msg_word t (call_view call.now)) self.old self.new (W.tape out.old) (W.tape out.new) }
+        ensures { Follows W.hearing (does_msg_word t (call_view call.now)) self.old self.new (W.told out.old) (W.told out.new) }
     {
         let message = call.number(0);
         let tried = self.memory.word(message);
@@ -266,9 +266,9 @@ impl<S: ListSpace> Kernel<S> {
     }
 
     /// SetMsgWord message word: gives the message another word. HANDLE if no message begins there (project rule).
-    fn set_msg_word<W: Sink>(&mut self, t: TaskId, call: &Call, out: &mut W)
+    fn set_msg_word<W: Witness>(&mut self, t: TaskId, call: &Call, out: &mut W)
         requires { HasTask t self.old }
-        ensures { Follows (does_set_msg_word t (call_view call.now)) self.old self.new (W.tape out.old) (W.tape out.new) }
+        ensures { Follows W.hearing (does_set_msg_word t (call_view call.now)) self.old self.new (W.told out.old) (W.told out.new) }
     {
         let message = call.number(0);
         let word = call.number(1);
@@ -289,9 +289,9 @@ impl<S: ListSpace> Kernel<S> {
 
     /// MsgType message: answers its type, 0 for a new one. HANDLE if no message begins there (RKM Libraries, Exec Messages and Ports:
     /// ln_Type; that a new one has type 0, and the alert: project rule).
-    fn msg_type<W: Sink>(&mut self, t: TaskId, call: &Call, out: &mut W)
+    fn msg_type<W: Witness>(&mut self, t: TaskId, call: &Call, out: &mut W)
         requires { HasTask t self.old }
-        ensures { Follows (does_msg_type t (call_view call.now)) self.old self.new (W.tape out.old) (W.tape out.new) }
+        ensures { Follows W.hearing (does_msg_type t (call_view call.now)) self.old self.new (W.told out.old) (W.told out.new) }
     {
         let message = call.number(0);
         let tried = self.kind(message);
@@ -321,7 +321,7 @@ impl<S: ListSpace> Kernel<S> {
     }
 
     /// A call that puts a message, of a task or of a body: what is to be done for it is done, or the call is refused by its alert.
-    pub(crate) fn performed<W: Sink>(
+    pub(crate) fn performed<W: Witness>(
         &mut self,
         tried: Result<Action, Refusal>,
         caller: &Caller,
@@ -329,7 +329,7 @@ impl<S: ListSpace> Kernel<S> {
         out: &mut W,
     )
         requires { HasCaller caller.now self.old }
-        ensures { Follows (performed_or_alerted_by tried (caller_view caller.now) (call_view call.now)) self.old self.new (W.tape out.old) (W.tape out.new) }
+        ensures { Follows W.hearing (performed_or_alerted_by tried (caller_view caller.now) (call_view call.now)) self.old self.new (W.told out.old) (W.told out.new) }
     {
         match tried {
             Ok(action) => {
@@ -342,9 +342,9 @@ impl<S: ListSpace> Kernel<S> {
 
     /// PutMsg port message: puts a message at a port, after those that it has. HANDLE if either is none, LINK if a port has the
     /// message (autodoc exec.library/PutMsg; the alerts: project rule).
-    pub(crate) fn put_msg<W: Sink>(&mut self, caller: &Caller, call: &Call, out: &mut W)
+    pub(crate) fn put_msg<W: Witness>(&mut self, caller: &Caller, call: &Call, out: &mut W)
         requires { HasCaller caller.now self.old }
-        ensures { Follows (does_put_msg_by (caller_view caller.now) (call_view call.now)) self.old self.new (W.tape out.old) (W.tape out.new) }
+        ensures { Follows W.hearing (does_put_msg_by (caller_view caller.now) (call_view call.now)) self.old self.new (W.told out.old) (W.told out.new) }
     {
         let port = call.number(0);
         let message = call.number(1);
@@ -355,9 +355,9 @@ impl<S: ListSpace> Kernel<S> {
     /// ReplyMsg message: puts a message at its reply port; one without gets the type NT_FREEMSG. HANDLE if no message begins there,
     /// LINK if a port has it, HANDLE if no port begins at its reply port's address (autodoc exec.library/ReplyMsg; the alerts: project
     /// rule).
-    pub(crate) fn reply_msg<W: Sink>(&mut self, caller: &Caller, call: &Call, out: &mut W)
+    pub(crate) fn reply_msg<W: Witness>(&mut self, caller: &Caller, call: &Call, out: &mut W)
         requires { HasCaller caller.now self.old }
-        ensures { Follows (does_reply_msg_by (caller_view caller.now) (call_view call.now)) self.old self.new (W.tape out.old) (W.tape out.new) }
+        ensures { Follows W.hearing (does_reply_msg_by (caller_view caller.now) (call_view call.now)) self.old self.new (W.told out.old) (W.told out.new) }
     {
         let message = call.number(0);
         let tried = self.memory.reply_message(message);
@@ -368,9 +368,9 @@ impl<S: ListSpace> Kernel<S> {
 
     /// GetMsg port: answers the first message, which leaves the port, or 0. HANDLE if no port begins there (autodoc
     /// exec.library/GetMsg; the alert: project rule).
-    pub(crate) fn get_msg<W: Sink>(&mut self, caller: &Caller, call: &Call, out: &mut W)
+    pub(crate) fn get_msg<W: Witness>(&mut self, caller: &Caller, call: &Call, out: &mut W)
         requires { HasCaller caller.now self.old }
-        ensures { Follows (does_get_msg_by (caller_view caller.now) (call_view call.now)) self.old self.new (W.tape out.old) (W.tape out.new) }
+        ensures { Follows W.hearing (does_get_msg_by (caller_view caller.now) (call_view call.now)) self.old self.new (W.told out.old) (W.told out.new) }
     {
         let port = call.number(0);
         let tried = self.memory.take_message(port);
@@ -386,7 +386,7 @@ impl<S: ListSpace> Kernel<S> {
     }
 
     /// The call waits for signals of the mask that come from now on.
-    pub(crate) fn wait_for_message<W: Sink>(
+    pub(crate) fn wait_for_message<W: Witness>(
         &mut self,
         mask: u32,
         t: TaskId,
@@ -395,7 +395,7 @@ impl<S: ListSpace> Kernel<S> {
     )
         requires known { HasTask t self.old }
         requires runs { Runs t self.old }
-        ensures { Follows (looked None mask t (call_view call.now)) self.old self.new (W.tape out.old) (W.tape out.new) }
+        ensures { Follows W.hearing (looked None mask t (call_view call.now)) self.old self.new (W.told out.old) (W.told out.new) }
     {
         self.clear_and_wait(t, mask);
         self.waiting(t, &call.awaiting(mask), out);
@@ -411,11 +411,18 @@ impl<S: ListSpace> Kernel<S> {
     }
 
     /// The call at a port with that first message, or with none, and with that signal: it answers the message, or waits.
-    fn look<W: Sink>(&mut self, message: Option<u32>, bit: u32, t: TaskId, call: &Call, out: &mut W)
+    fn look<W: Witness>(
+        &mut self,
+        message: Option<u32>,
+        bit: u32,
+        t: TaskId,
+        call: &Call,
+        out: &mut W,
+    )
         requires known { HasTask t self.old }
         requires runs { Runs t self.old }
         requires signal { bit < 32 }
-        ensures { Follows (looked message (2 ^ bit) t (call_view call.now)) self.old self.new (W.tape out.old) (W.tape out.new) }
+        ensures { Follows W.hearing (looked message (2 ^ bit) t (call_view call.now)) self.old self.new (W.told out.old) (W.told out.new) }
     {
         match message {
             Some(message) => self.answered(t, call, message, out),
@@ -426,10 +433,10 @@ impl<S: ListSpace> Kernel<S> {
     /// WaitPort port: answers the first message of the port, and leaves it there; if there is none, the task waits for the port's
     /// signal, and looks again when it next runs, after that signal is cleared. HANDLE if no port begins there, PORT if it does not
     /// signal the caller (autodoc exec.library/WaitPort; how a task waits and looks again, and the alerts: project rule).
-    fn wait_port<W: Sink>(&mut self, t: TaskId, call: &Call, out: &mut W)
+    fn wait_port<W: Witness>(&mut self, t: TaskId, call: &Call, out: &mut W)
         requires known { HasTask t self.old }
         requires runs { Runs t self.old }
-        ensures { Follows (does_wait_port t (call_view call.now)) self.old self.new (W.tape out.old) (W.tape out.new) }
+        ensures { Follows W.hearing (does_wait_port t (call_view call.now)) self.old self.new (W.told out.old) (W.told out.new) }
     {
         let port = call.number(0);
         match self.memory.message_to_wait_for(t, port) {
@@ -443,7 +450,7 @@ impl<S: ListSpace> Kernel<S> {
 
     /// A call of task t on ports and messages, by its word.
     #[tactic(auto, unfolding(execmodel::specs::Ports::does_put_msg, execmodel::specs::Ports::does_get_msg, execmodel::specs::Ports::does_reply_msg))]
-    pub(crate) fn does_ports<W: Sink>(
+    pub(crate) fn does_ports<W: Witness>(
         &mut self,
         word: PortWord,
         t: TaskId,
@@ -452,7 +459,7 @@ impl<S: ListSpace> Kernel<S> {
     )
         requires known { HasTask t self.old }
         requires runs { Runs t self.old }
-        ensures { Follows (does_ports word t (call_view call.now)) self.old self.new (W.tape out.old) (W.tape out.new) }
+        ensures { Follows W.hearing (does_ports word t (call_view call.now)) self.old self.new (W.told out.old) (W.told out.new) }
     {
         let caller = Caller::Task(t);
         match word {

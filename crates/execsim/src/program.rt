@@ -2,14 +2,14 @@
 ghost use Rattle.std.specs.Prelude.{◌≡◌, ◌<◌, ◌≤◌, ◌+◌, map, length, true, Some, None, slice_get, slice_set, slice_index_or, option_copied, option_map};
 ghost use Rattle.exectrace.specs.Short.{short_argument};
 ghost use Rattle.execmodel.specs.{Calls.argument, Calls.name_argument, State.begun_with};
-ghost use Rattle.taskscript.specs.Commands.{command_view};
+ghost use Rattle.script.specs.Commands.{command_view};
 ghost use Rattle.execsim.specs.Views.{call_view};
 
 use crate::call::Call;
 use crate::code::copy_code;
 use exectrace::{Name, ShortArg};
+use script::{Command, PlainWord, Word};
 use std::marker::Model;
-use taskscript::{Command, PlainWord, Word};
 
 /// How many variables of its own a task has.
 pub const PRIVATE_VARIABLES: usize = 32;
@@ -88,7 +88,7 @@ pub struct Program {
 impl Model for Program {
     ghost use Rattle.std.specs.Prelude.{map, Some, None, if◌then◌else◌};
     ghost use Rattle.execmodel.specs.State as model;
-    ghost use Rattle.taskscript.specs.Commands.{command_view};
+    ghost use Rattle.script.specs.Commands.{command_view};
     ghost use Rattle.execsim.specs.Views.{call_view};
 
     ghost Value = { model.Program };

@@ -15,11 +15,10 @@ use crate::kernel::Kernel;
 use crate::ports::name_or_empty;
 use execheap::{Action, Awaited, Refusal};
 use execlist::space::ListSpace;
-use exectrace::printing::put_timer;
-use exectrace::{Name, Sink};
+use exectrace::{Name, Said, Witness};
+use script::{Alert, RequestWord};
 use softint::source::Source;
 use taskq::TaskId;
-use taskscript::RequestWord;
 
 /// What AbortIO answers for a request that is not under way: the word of -1.
 const NOT_ABORTED: u32 = 0xffff_ffff;
@@ -61,9 +60,9 @@ impl<S: ListSpace> Kernel<S> {
 
     /// CreateIORequest port: answers the address of a new request with that reply port, or 0; 0 for port 0. HANDLE if the port is not 0
     /// and none begins there (autodoc exec.library/CreateIORequest; the alert: project rule).
-    fn create_io_request<W: Sink>(&mut self, t: TaskId, call: &Call, out: &mut W)
+    fn create_io_request<W: Witness>(&mut self, t: TaskId, call: &Call, out: &mut W)
         requires { HasTask t self.old }
-        ensures { Follows (does_create_io_request t (call_view call.now)) self.old self.new (W.tape out.old) (W.tape out.new) }
+        ensures { Follows W.hearing (does_create_io_request t (call_view call.now)) self.old self.new (W.told out.old) (W.told out.new) }
     {
         let port = call.number(0);
         if port == 0 {
@@ -78,9 +77,9 @@ impl<S: ListSpace> Kernel<S> {
 
     /// DeleteIORequest request: frees a request; 0 does nothing. HANDLE if none begins there, IO if it is under way, LINK if its
     /// reply is queued (autodoc exec.library/DeleteIORequest; the alerts: project rule).
-    fn delete_io_request<W: Sink>(&mut self, t: TaskId, call: &Call, out: &mut W)
+    fn delete_io_request<W: Witness>(&mut self, t: TaskId, call: &Call, out: &mut W)
         requires { HasTask t self.old }
-        ensures { Follows (does_delete_io_request t (call_view call.now)) self.old self.new (W.tape out.old) (W.tape out.new) }
+        ensures { Follows W.hearing (does_delete_io_request t (call_view call.now)) self.old self.new (W.told out.old) (W.told out.new) }
     {
         let request = call.number(0);
         if request == 0 {
@@ -109,9 +108,9 @@ impl<S: ListSpace> Kernel<S> {
     /// OpenDevice name unit request: opens a request for a unit of timer.device, and answers 0; or the word of IOERR_OPENFAIL (-1) if
     /// there is no such device or unit, and the request is then not open. HANDLE if no request begins there, IO if it is under way
     /// (autodoc exec.library/OpenDevice; the alerts: project rule).
-    fn open_device<W: Sink>(&mut self, t: TaskId, call: &Call, out: &mut W)
+    fn open_device<W: Witness>(&mut self, t: TaskId, call: &Call, out: &mut W)
         requires { HasTask t self.old }
-        ensures { Follows (does_open_device t (call_view call.now)) self.old self.new (W.tape out.old) (W.tape out.new) }
+        ensures { Follows W.hearing (does_open_device t (call_view call.now)) self.old self.new (W.told out.old) (W.told out.new) }
     {
         let unit = timer_unit(name_or_empty(call.name(0)), call.number(1));
         let tried = self.open_request(call.number(2), unit);
@@ -121,9 +120,9 @@ impl<S: ListSpace> Kernel<S> {
     /// CloseDevice request: the request is not open. HANDLE if none begins there, IO if it is under way (autodoc
     /// exec.library/CloseDevice; the alerts: project rule).
     #[tactic(auto, using(crate::proofs::Requesting::close_tried))]
-    fn close_device<W: Sink>(&mut self, t: TaskId, call: &Call, out: &mut W)
+    fn close_device<W: Witness>(&mut self, t: TaskId, call: &Call, out: &mut W)
         requires { HasTask t self.old }
-        ensures { Follows (does_close_device t (call_view call.now)) self.old self.new (W.tape out.old) (W.tape out.new) }
+        ensures { Follows W.hearing (does_close_device t (call_view call.now)) self.old self.new (W.told out.old) (W.told out.new) }
     {
         let request = call.number(0);
         let tried = self.memory.close_device(request);
@@ -133,9 +132,9 @@ impl<S: ListSpace> Kernel<S> {
     /// SetIO request cmd secs micros: gives a request a command and a time in seconds and microseconds. HANDLE if no request begins
     /// there, VALUE if the command is above 65535, IO if the request is under way (RKM Devices, Introduction to Amiga System Devices:
     /// io_Command; Devices, timer device: tr_time; that there is a call for it, and the alerts: project rule).
-    fn set_io<W: Sink>(&mut self, t: TaskId, call: &Call, out: &mut W)
+    fn set_io<W: Witness>(&mut self, t: TaskId, call: &Call, out: &mut W)
         requires { HasTask t self.old }
-        ensures { Follows (does_set_io t (call_view call.now)) self.old self.new (W.tape out.old) (W.tape out.new) }
+        ensures { Follows W.hearing (does_set_io t (call_view call.now)) self.old self.new (W.told out.old) (W.told out.new) }
     {
         let request = call.number(0);
         let command = call.number(1);
@@ -145,9 +144,9 @@ impl<S: ListSpace> Kernel<S> {
                 .set_request(request, command as u16, call.number(2), call.number(3));
             self.concluded(tried, t, call, out);
         } else if self.memory.is_request(request) {
-            self.alerted("VALUE", t, call, out);
+            self.alerted(Alert::Value, t, call, out);
         } else {
-            self.alerted("HANDLE", t, call, out);
+            self.alerted(Alert::Handle, t, call, out);
         }
     }
 
@@ -156,9 +155,9 @@ impl<S: ListSpace> Kernel<S> {
     /// SendIO request: begins a request with IOF_QUICK cleared; if that does it at once, it is replied. HANDLE if no request begins
     /// there, IO if it is under way or not open, LINK if its reply is queued, HANDLE if no port begins at its reply port's address
     /// (autodoc exec.library/SendIO; the alerts: project rule).
-    fn send_io<W: Sink>(&mut self, t: TaskId, call: &Call, out: &mut W)
+    fn send_io<W: Witness>(&mut self, t: TaskId, call: &Call, out: &mut W)
         requires { HasTask t self.old }
-        ensures { Follows (does_send_io t (call_view call.now)) self.old self.new (W.tape out.old) (W.tape out.new) }
+        ensures { Follows W.hearing (does_send_io t (call_view call.now)) self.old self.new (W.told out.old) (W.told out.new) }
     {
         let request = call.number(0);
         let tried = self.memory.send_request(request);
@@ -166,11 +165,11 @@ impl<S: ListSpace> Kernel<S> {
     }
 
     /// The call that looks for a request answers its error, or waits for its reply port's signal.
-    fn look_for<W: Sink>(&mut self, found: Awaited, t: TaskId, call: &Call, out: &mut W)
+    fn look_for<W: Witness>(&mut self, found: Awaited, t: TaskId, call: &Call, out: &mut W)
         requires known { HasTask t self.old }
         requires runs { Runs t self.old }
         requires signal { IsSignal found }
-        ensures { Follows (tells_or_waits found t (call_view call.now)) self.old self.new (W.tape out.old) (W.tape out.new) }
+        ensures { Follows W.hearing (tells_or_waits found t (call_view call.now)) self.old self.new (W.told out.old) (W.told out.new) }
     {
         match found {
             Awaited::Done(error) => self.answered(t, call, error_word(error), out),
@@ -182,10 +181,10 @@ impl<S: ListSpace> Kernel<S> {
     /// for the signal of its reply port, and looks again when it next runs, after that signal is cleared. HANDLE if no request begins
     /// there, IO if it never was begun, LINK if it was replied and its reply is not queued, PORT if it is under way and its reply
     /// port does not signal the caller (autodoc exec.library/WaitIO; how a task waits and looks again, and the alerts: project rule).
-    fn wait_io<W: Sink>(&mut self, t: TaskId, call: &Call, out: &mut W)
+    fn wait_io<W: Witness>(&mut self, t: TaskId, call: &Call, out: &mut W)
         requires known { HasTask t self.old }
         requires runs { Runs t self.old }
-        ensures { Follows (does_wait_io t (call_view call.now)) self.old self.new (W.tape out.old) (W.tape out.new) }
+        ensures { Follows W.hearing (does_wait_io t (call_view call.now)) self.old self.new (W.told out.old) (W.told out.new) }
     {
         let request = call.number(0);
         match self.memory.wait_for_request(t, request) {
@@ -200,10 +199,10 @@ impl<S: ListSpace> Kernel<S> {
     /// DoIO request: begins a request with IOF_QUICK set; if that does it at once, its error is answered, else the task waits for it as
     /// by WaitIO. The call of a task that has waited begins nothing: it is WaitIO's. Alerts as SendIO's, and PORT if the reply port does
     /// not signal the caller (autodoc exec.library/DoIO; the alerts: project rule).
-    fn do_io<W: Sink>(&mut self, t: TaskId, call: &Call, out: &mut W)
+    fn do_io<W: Witness>(&mut self, t: TaskId, call: &Call, out: &mut W)
         requires known { HasTask t self.old }
         requires runs { Runs t self.old }
-        ensures { Follows (does_do_io t (call_view call.now)) self.old self.new (W.tape out.old) (W.tape out.new) }
+        ensures { Follows W.hearing (does_do_io t (call_view call.now)) self.old self.new (W.told out.old) (W.told out.new) }
     {
         if self.is_tried_again(t) {
             self.wait_io(t, call, out);
@@ -229,9 +228,9 @@ impl<S: ListSpace> Kernel<S> {
 
     /// CheckIO request: answers 0 for a request that is under way, and else the request, and leaves its reply if it is. HANDLE if no
     /// request begins there (autodoc exec.library/CheckIO; the alert: project rule).
-    fn check_io<W: Sink>(&mut self, t: TaskId, call: &Call, out: &mut W)
+    fn check_io<W: Witness>(&mut self, t: TaskId, call: &Call, out: &mut W)
         requires { HasTask t self.old }
-        ensures { Follows (does_check_io t (call_view call.now)) self.old self.new (W.tape out.old) (W.tape out.new) }
+        ensures { Follows W.hearing (does_check_io t (call_view call.now)) self.old self.new (W.told out.old) (W.told out.new) }
     {
         let request = call.number(0);
         let tried = self.check(request);
@@ -240,7 +239,7 @@ impl<S: ListSpace> Kernel<S> {
 
     /// A call that aborts a request: one that was under way is replied, and 0 is answered, for any other the word of -1; or the call is
     /// refused by its alert.
-    fn aborted<W: Sink>(
+    fn aborted<W: Witness>(
         &mut self,
         tried: Result<Option<Action>, Refusal>,
         t: TaskId,
@@ -248,7 +247,7 @@ impl<S: ListSpace> Kernel<S> {
         out: &mut W,
     )
         requires { HasTask t self.old }
-        ensures { Follows (aborts_or_alerted tried t (call_view call.now)) self.old self.new (W.tape out.old) (W.tape out.new) }
+        ensures { Follows W.hearing (aborts_or_alerted tried t (call_view call.now)) self.old self.new (W.told out.old) (W.told out.new) }
     {
         match tried {
             Ok(found) => match found {
@@ -264,9 +263,9 @@ impl<S: ListSpace> Kernel<S> {
 
     /// AbortIO request: a request that is under way is replied at once, with the error IOERR_ABORTED (-2), and 0 is answered; for any other
     /// the word of -1. HANDLE if no request begins there (autodoc exec.library/AbortIO; the alert: project rule).
-    fn abort_io<W: Sink>(&mut self, t: TaskId, call: &Call, out: &mut W)
+    fn abort_io<W: Witness>(&mut self, t: TaskId, call: &Call, out: &mut W)
         requires { HasTask t self.old }
-        ensures { Follows (does_abort_io t (call_view call.now)) self.old self.new (W.tape out.old) (W.tape out.new) }
+        ensures { Follows W.hearing (does_abort_io t (call_view call.now)) self.old self.new (W.told out.old) (W.told out.new) }
     {
         let request = call.number(0);
         let tried = self.memory.abort_request(request);
@@ -277,9 +276,9 @@ impl<S: ListSpace> Kernel<S> {
 
     /// IOSecs request: answers the seconds of its time. HANDLE if no request begins there (Devices, timer device: tr_time; that there is
     /// a call for it, and the alert: project rule).
-    fn io_secs<W: Sink>(&mut self, t: TaskId, call: &Call, out: &mut W)
+    fn io_secs<W: Witness>(&mut self, t: TaskId, call: &Call, out: &mut W)
         requires { HasTask t self.old }
-        ensures { Follows (does_io_secs t (call_view call.now)) self.old self.new (W.tape out.old) (W.tape out.new) }
+        ensures { Follows W.hearing (does_io_secs t (call_view call.now)) self.old self.new (W.told out.old) (W.told out.new) }
     {
         let tried = self.memory.secs(call.number(0));
         self.concluded_with(tried, t, call, out);
@@ -287,9 +286,9 @@ impl<S: ListSpace> Kernel<S> {
 
     /// IOMicros request: answers the microseconds of its time. HANDLE if no request begins there (Devices, timer device: tr_time; that
     /// there is a call for it, and the alert: project rule).
-    fn io_micros<W: Sink>(&mut self, t: TaskId, call: &Call, out: &mut W)
+    fn io_micros<W: Witness>(&mut self, t: TaskId, call: &Call, out: &mut W)
         requires { HasTask t self.old }
-        ensures { Follows (does_io_micros t (call_view call.now)) self.old self.new (W.tape out.old) (W.tape out.new) }
+        ensures { Follows W.hearing (does_io_micros t (call_view call.now)) self.old self.new (W.told out.old) (W.told out.new) }
     {
         let tried = self.memory.micros(call.number(0));
         self.concluded_with(tried, t, call, out);
@@ -309,9 +308,9 @@ impl<S: ListSpace> Kernel<S> {
     /// IOError request: answers its error as a word: 0, or that of IOERR_OPENFAIL (-1), IOERR_ABORTED (-2) or IOERR_NOCMD (-3). HANDLE if
     /// no request begins there (RKM Devices, Introduction to Amiga System Devices: io_Error; that there is a call for it, and the alert: project
     /// rule).
-    fn io_error<W: Sink>(&mut self, t: TaskId, call: &Call, out: &mut W)
+    fn io_error<W: Witness>(&mut self, t: TaskId, call: &Call, out: &mut W)
         requires { HasTask t self.old }
-        ensures { Follows (does_io_error t (call_view call.now)) self.old self.new (W.tape out.old) (W.tape out.new) }
+        ensures { Follows W.hearing (does_io_error t (call_view call.now)) self.old self.new (W.told out.old) (W.told out.new) }
     {
         let tried = self.error(call.number(0));
         self.concluded_with(tried, t, call, out);
@@ -330,16 +329,16 @@ impl<S: ListSpace> Kernel<S> {
 
     /// IOFlags request: answers 1 if IOF_QUICK is set, and else 0. HANDLE if no request begins there (RKM Devices, Introduction to
     /// Amiga System Devices: io_Flags; that there is a call for it, and the alert: project rule).
-    fn io_flags<W: Sink>(&mut self, t: TaskId, call: &Call, out: &mut W)
+    fn io_flags<W: Witness>(&mut self, t: TaskId, call: &Call, out: &mut W)
         requires { HasTask t self.old }
-        ensures { Follows (does_io_flags t (call_view call.now)) self.old self.new (W.tape out.old) (W.tape out.new) }
+        ensures { Follows W.hearing (does_io_flags t (call_view call.now)) self.old self.new (W.told out.old) (W.told out.new) }
     {
         let tried = self.flags(call.number(0));
         self.concluded_with(tried, t, call, out);
     }
 
     /// A call of task t on requests, by its word.
-    pub(crate) fn does_requests<W: Sink>(
+    pub(crate) fn does_requests<W: Witness>(
         &mut self,
         word: RequestWord,
         t: TaskId,
@@ -348,7 +347,7 @@ impl<S: ListSpace> Kernel<S> {
     )
         requires known { HasTask t self.old }
         requires runs { Runs t self.old }
-        ensures { Follows (does_requests word t (call_view call.now)) self.old self.new (W.tape out.old) (W.tape out.new) }
+        ensures { Follows W.hearing (does_requests word t (call_view call.now)) self.old self.new (W.told out.old) (W.told out.new) }
     {
         match word {
             RequestWord::CreateIORequest => self.create_io_request(t, call, out),
@@ -387,18 +386,18 @@ impl<S: ListSpace> Kernel<S> {
     }
 
     /// A request that is done says so, and then what is to be done for its reply is done.
-    fn announce_due<W: Sink>(&mut self, request: u32, action: Action, out: &mut W)
-        ensures follows { Follows (finishes_with request action) self.old self.new (W.tape out.old) (W.tape out.new) }
+    fn announce_due<W: Witness>(&mut self, request: u32, action: Action, out: &mut W)
+        ensures follows { Follows W.hearing (finishes_with request action) self.old self.new (W.told out.old) (W.told out.new) }
         ensures kept { self.new.memory ≡ self.old.memory }
     {
-        put_timer(request, out);
+        out.hear(&Said::Timer(request));
         self.perform(action);
     }
 
     /// All requests whose time has come finish, one after another: by the due time when it came, and those of one due time in the order in
     /// which they were begun.
-    fn finish_all_due<W: Sink>(&mut self, out: &mut W)
-        ensures { Follows finishes_all_due self.old self.new (W.tape out.old) (W.tape out.new) }
+    fn finish_all_due<W: Witness>(&mut self, out: &mut W)
+        ensures { Follows W.hearing finishes_all_due self.old self.new (W.told out.old) (W.told out.new) }
     {
         while let Some((request, action)) = self.take_due() {
             self.announce_due(request, action, out);
@@ -406,8 +405,8 @@ impl<S: ListSpace> Kernel<S> {
     }
 
     /// For VERTB all requests finish whose time has come.
-    pub(crate) fn finish_for<W: Sink>(&mut self, source: Source, out: &mut W)
-        ensures { Follows (finishes_for source) self.old self.new (W.tape out.old) (W.tape out.new) }
+    pub(crate) fn finish_for<W: Witness>(&mut self, source: Source, out: &mut W)
+        ensures { Follows W.hearing (finishes_for source) self.old self.new (W.told out.old) (W.told out.new) }
     {
         match source {
             Source::Vertb => self.finish_all_due(out),
@@ -436,8 +435,8 @@ impl<S: ListSpace> Kernel<S> {
 
     /// All requests that wait for system time and whose time has come finish, one after another: by their times, and those of one time in
     /// the order in which they were begun.
-    fn finish_all_until<W: Sink>(&mut self, out: &mut W)
-        ensures { Follows finishes_all_until self.old self.new (W.tape out.old) (W.tape out.new) }
+    fn finish_all_until<W: Witness>(&mut self, out: &mut W)
+        ensures { Follows W.hearing finishes_all_until self.old self.new (W.told out.old) (W.told out.new) }
     {
         while let Some((request, action)) = self.take_until() {
             self.announce_due(request, action, out);
@@ -446,8 +445,8 @@ impl<S: ListSpace> Kernel<S> {
 
     /// What follows a call on requests: if it set system time, all requests finish that wait for system time and whose time has come.
     /// Those that wait for the clock are not looked at.
-    pub(crate) fn finish_set<W: Sink>(&mut self, out: &mut W)
-        ensures { Follows finishes_set self.old self.new (W.tape out.old) (W.tape out.new) }
+    pub(crate) fn finish_set<W: Witness>(&mut self, out: &mut W)
+        ensures { Follows W.hearing finishes_set self.old self.new (W.told out.old) (W.told out.new) }
     {
         if self.take_setting() {
             self.finish_all_until(out);

@@ -1,6 +1,6 @@
 //! A used machine, put back to its first state with no memory taken: each part becomes what `boot` makes of the file, if it is as large.
 ghost use Rattle.std.specs.Prelude.{◌≡◌, [], length, map, nat_eq, true};
-ghost use Rattle.taskscript.specs.Records.{task_view};
+ghost use Rattle.script.specs.Records.{task_view};
 ghost use Rattle.scheduler.specs.Schedule.{task_count, unstarted};
 ghost use Rattle.timerdev.specs.Timing.{new_timer};
 ghost use Rattle.execmodel.specs.State.{begun};
@@ -9,8 +9,8 @@ use crate::program::Program;
 use execheap::Heap;
 use execlist::space::ListSpace;
 use scheduler::Sched;
+use script::{MachineFile, TaskRecord};
 use taskq::TaskInit;
-use taskscript::{MachineFile, TaskRecord};
 
 /// Makes the names and priorities those of these tasks, if they are as many, and answers whether they are.
 fn reset_inits(inits: &mut Vec<TaskInit>, tasks: &[TaskRecord]) -> bool

@@ -6,9 +6,9 @@ ghost use Rattle.execsim.specs.{Advancing.GoesSilently, Advancing.StepsSilently,
 
 use crate::kernel::Kernel;
 use execlist::space::ListSpace;
-use exectrace::Sink;
+use exectrace::Witness;
+use script::Word;
 use taskq::TaskId;
-use taskscript::Word;
 
 impl<S: ListSpace> Kernel<S> {
     /// Task t, which rests, does plain words that print nothing, as long as its next command is one, and at most that many. The answer is how many.
@@ -29,10 +29,10 @@ impl<S: ListSpace> Kernel<S> {
     /// Task t, which rests, does plain words, as long as its next command is one, and at most that many; it prints to a good sink only. The answer
     /// is how many.
     #[inline(never)]
-    fn plain_words<W: Sink>(&mut self, t: TaskId, most: u32, out: &mut W) -> u32
+    fn plain_words<W: Witness>(&mut self, t: TaskId, most: u32, out: &mut W) -> u32
         requires { Rests t self.old }
         ensures within { result ≤ most }
-        ensures follows { Follows (steps result) self.old self.new (W.tape out.old) (W.tape out.new) }
+        ensures follows { Follows W.hearing (steps result) self.old self.new (W.told out.old) (W.told out.new) }
     {
         for done in 0..most {
             if !self.plain_word(t, out) {
@@ -57,10 +57,10 @@ impl<S: ListSpace> Kernel<S> {
     }
 
     /// Steps of a settled machine that ask nothing of Exec, at most that many: those of an idle machine, or plain words. The answer is how many.
-    pub(crate) fn quiet_steps<W: Sink>(&mut self, most: u32, out: &mut W) -> u32
+    pub(crate) fn quiet_steps<W: Witness>(&mut self, most: u32, out: &mut W) -> u32
         requires { IsSettled self.old }
         ensures within { result ≤ most }
-        ensures follows { Follows (steps result) self.old self.new (W.tape out.old) (W.tape out.new) }
+        ensures follows { Follows W.hearing (steps result) self.old self.new (W.told out.old) (W.told out.new) }
     {
         if self.ints.any_caused() {
             return 0;
@@ -96,12 +96,12 @@ impl<S: ListSpace> Kernel<S> {
     /// A step of a settled machine, if its running task does a plain word in it, or if it is idle; a word prints to a good sink only. A Print is looked
     /// for first, since a log comes to one Print at a time. The answer is whether the step was done.
     #[inline(always)]
-    fn quiet_step<W: Sink>(&mut self, out: &mut W) -> bool
+    fn quiet_step<W: Witness>(&mut self, out: &mut W) -> bool
         requires { IsSettled self.old }
-        ensures follows { IsTrue result → Follows step self.old self.new (W.tape out.old) (W.tape out.new) }
+        ensures follows { IsTrue result → Follows W.hearing step self.old self.new (W.told out.old) (W.told out.new) }
         ensures settled { IsSettled self.new }
         ensures same { result ≡ false → self.new ≡ self.old }
-        ensures nothing { result ≡ false → W.tape out.new ≡ W.tape out.old }
+        ensures nothing { result ≡ false → W.told out.new ≡ W.told out.old }
     {
         if self.ints.any_caused() {
             return false;
@@ -120,10 +120,10 @@ impl<S: ListSpace> Kernel<S> {
 
     /// One step of a machine, which is settled if `rests` says so. The answer is whether nothing was due after it, so that the machine is settled.
     #[inline(always)]
-    fn next_step<W: Sink>(&mut self, rests: bool, out: &mut W) -> bool
+    fn next_step<W: Witness>(&mut self, rests: bool, out: &mut W) -> bool
         requires agree { IsInOrder self.old }
         requires settled { rests ≡ true → IsSettled self.old }
-        ensures follows { Follows step self.old self.new (W.tape out.old) (W.tape out.new) }
+        ensures follows { Follows W.hearing step self.old self.new (W.told out.old) (W.told out.new) }
         ensures settled { IsTrue result → IsSettled self.new }
     {
         if rests && self.quiet_step(out) {
@@ -136,11 +136,11 @@ impl<S: ListSpace> Kernel<S> {
     /// The machine is settled before and after if `rests` says so; it does if the machine did plain words that print nothing, since others then
     /// often follow.
     #[inline(always)]
-    pub(crate) fn advance<W: Sink>(&mut self, rests: &mut bool, more: u32, out: &mut W) -> u32
+    pub(crate) fn advance<W: Witness>(&mut self, rests: &mut bool, more: u32, out: &mut W) -> u32
         requires agree { IsInOrder self.old }
         requires settled { rests.old ≡ true → IsSettled self.old }
         ensures within { result ≤ more }
-        ensures steps { StepsSilently result self.old self.new (W.tape out.old) (W.tape out.new) }
+        ensures steps { StepsSilently W.hearing result self.old self.new (W.told out.old) (W.told out.new) }
         ensures settled { rests.new ≡ true → IsSettled self.new }
     {
         if self.next_step(*rests, out) {

@@ -13,10 +13,10 @@ use crate::call::Call;
 use crate::kernel::Kernel;
 use execheap::Refusal;
 use execlist::space::ListSpace;
-use exectrace::Sink;
+use exectrace::Witness;
+use script::SemaphoreWord;
 use sigsem::semaphore::Obtained;
 use taskq::TaskId;
-use taskscript::SemaphoreWord;
 
 /// What AttemptSemaphore answers: 1 for a task that has the semaphore, and else 0.
 fn attempted(has: bool) -> u32
@@ -41,18 +41,18 @@ impl<S: ListSpace> Kernel<S> {
     /// NewSem: answers the address of a new semaphore, which no task owns, or 0 (autodoc exec.library/InitSemaphore; that it takes the
     /// memory: project rule).
     #[tactic(auto, using(crate::proofs::Obtaining::semaphore_made))]
-    fn new_sem<W: Sink>(&mut self, t: TaskId, call: &Call, out: &mut W)
+    fn new_sem<W: Witness>(&mut self, t: TaskId, call: &Call, out: &mut W)
         requires { HasTask t self.old }
-        ensures { Follows (does_new_sem t (call_view call.now)) self.old self.new (W.tape out.old) (W.tape out.new) }
+        ensures { Follows W.hearing (does_new_sem t (call_view call.now)) self.old self.new (W.told out.old) (W.told out.new) }
     {
         let semaphore = self.make_semaphore();
         self.answered(t, call, semaphore.unwrap_or(0), out);
     }
 
     /// FreeSem semaphore: frees a semaphore. HANDLE if none begins there, SEM if a task owns it (project rule).
-    fn free_sem<W: Sink>(&mut self, t: TaskId, call: &Call, out: &mut W)
+    fn free_sem<W: Witness>(&mut self, t: TaskId, call: &Call, out: &mut W)
         requires { HasTask t self.old }
-        ensures { Follows (does_free_sem t (call_view call.now)) self.old self.new (W.tape out.old) (W.tape out.new) }
+        ensures { Follows W.hearing (does_free_sem t (call_view call.now)) self.old self.new (W.told out.old) (W.told out.new) }
     {
         let semaphore = call.number(0);
         let tried = self.memory.free_semaphore(semaphore);
@@ -78,7 +78,7 @@ impl<S: ListSpace> Kernel<S> {
     }
 
     /// A call by which task t asks for a semaphore: it is done if the task has it, else the task waits; or it is refused by its alert.
-    fn obtains<W: Sink>(
+    fn obtains<W: Witness>(
         &mut self,
         tried: Result<Obtained, Refusal>,
         t: TaskId,
@@ -87,7 +87,7 @@ impl<S: ListSpace> Kernel<S> {
     )
         requires known { HasTask t self.old }
         requires runs { Runs t self.old }
-        ensures { Follows (obtains_or_alerted tried (argument 0 (call_view call.now)) t (call_view call.now)) self.old self.new (W.tape out.old) (W.tape out.new) }
+        ensures { Follows W.hearing (obtains_or_alerted tried (argument 0 (call_view call.now)) t (call_view call.now)) self.old self.new (W.told out.old) (W.told out.new) }
     {
         match tried {
             Ok(how) => match how {
@@ -104,12 +104,12 @@ impl<S: ListSpace> Kernel<S> {
     /// ObtainSemaphore semaphore: a free semaphore is the caller's, with the count 1; the owner's count is one more; any other task waits,
     /// after those that asked before. The call of a task that has waited is complete. HANDLE if no semaphore begins there, SEM if the
     /// count would go past 32767 (autodoc exec.library/ObtainSemaphore; the alerts: project rule).
-    fn obtain_semaphore<W: Sink>(&mut self, t: TaskId, call: &Call, out: &mut W)
+    fn obtain_semaphore<W: Witness>(&mut self, t: TaskId, call: &Call, out: &mut W)
         requires known { HasTask t self.old }
         requires runs { Runs t self.old }
         requires stopped { WaitsForNone t self.old.memory.heap }
         requires room { t < self.old.memory.tasks }
-        ensures { Follows (does_obtain_semaphore t (call_view call.now)) self.old self.new (W.tape out.old) (W.tape out.new) }
+        ensures { Follows W.hearing (does_obtain_semaphore t (call_view call.now)) self.old self.new (W.told out.old) (W.told out.new) }
     {
         if self.is_tried_again(t) {
             self.done(t, call, out);
@@ -123,9 +123,9 @@ impl<S: ListSpace> Kernel<S> {
     /// AttemptSemaphore semaphore: as ObtainSemaphore if no wait is needed, and answers 1; else nothing changes and the answer is 0.
     /// HANDLE if no semaphore begins there, SEM if the count would go past 32767 (autodoc exec.library/AttemptSemaphore; the alerts:
     /// project rule).
-    fn attempt_semaphore<W: Sink>(&mut self, t: TaskId, call: &Call, out: &mut W)
+    fn attempt_semaphore<W: Witness>(&mut self, t: TaskId, call: &Call, out: &mut W)
         requires { HasTask t self.old }
-        ensures { Follows (does_attempt_semaphore t (call_view call.now)) self.old self.new (W.tape out.old) (W.tape out.new) }
+        ensures { Follows W.hearing (does_attempt_semaphore t (call_view call.now)) self.old self.new (W.told out.old) (W.told out.new) }
     {
         let semaphore = call.number(0);
         match self.memory.attempt_semaphore(t, semaphore) {
@@ -145,7 +145,7 @@ impl<S: ListSpace> Kernel<S> {
     }
 
     /// A call that releases a semaphore: the new owner, if there is one, becomes ready; or the call is refused by its alert.
-    fn passes<W: Sink>(
+    fn passes<W: Witness>(
         &mut self,
         tried: Result<Option<TaskId>, Refusal>,
         t: TaskId,
@@ -154,7 +154,7 @@ impl<S: ListSpace> Kernel<S> {
     )
         requires known { HasTask t self.old }
         requires waits { IfOk tried (λ heir. IfSome heir (λ owner. status_of self.old.schedule owner ≡ TaskState.Waiting Why.Sem)) }
-        ensures { Follows (passes_or_alerted tried (argument 0 (call_view call.now)) t (call_view call.now)) self.old self.new (W.tape out.old) (W.tape out.new) }
+        ensures { Follows W.hearing (passes_or_alerted tried (argument 0 (call_view call.now)) t (call_view call.now)) self.old self.new (W.told out.old) (W.told out.new) }
     {
         match tried {
             Ok(heir) => match heir {
@@ -171,10 +171,10 @@ impl<S: ListSpace> Kernel<S> {
     /// ReleaseSemaphore semaphore: the owner has to release the semaphore once less. The last release hands it on: the first of the tasks
     /// that wait there is the owner with the count 1, and ready; if none waits, no task owns it. HANDLE if no semaphore begins there,
     /// SEM if the caller does not own it (autodoc exec.library/ReleaseSemaphore; the alerts: project rule).
-    fn release_semaphore<W: Sink>(&mut self, t: TaskId, call: &Call, out: &mut W)
+    fn release_semaphore<W: Witness>(&mut self, t: TaskId, call: &Call, out: &mut W)
         requires known { HasTask t self.old }
         requires agree { QueuesAgree self.old }
-        ensures { Follows (does_release_semaphore t (call_view call.now)) self.old self.new (W.tape out.old) (W.tape out.new) }
+        ensures { Follows W.hearing (does_release_semaphore t (call_view call.now)) self.old self.new (W.told out.old) (W.told out.new) }
     {
         let semaphore = call.number(0);
         let tried = self.memory.release_semaphore(t, semaphore);
@@ -182,7 +182,7 @@ impl<S: ListSpace> Kernel<S> {
     }
 
     /// A call of task t on semaphores, by its word.
-    pub(crate) fn does_semaphores<W: Sink>(
+    pub(crate) fn does_semaphores<W: Witness>(
         &mut self,
         word: SemaphoreWord,
         t: TaskId,
@@ -192,7 +192,7 @@ impl<S: ListSpace> Kernel<S> {
         requires known { HasTask t self.old }
         requires runs { Runs t self.old }
         requires agree { IsInOrder self.old }
-        ensures { Follows (does_semaphores word t (call_view call.now)) self.old self.new (W.tape out.old) (W.tape out.new) }
+        ensures { Follows W.hearing (does_semaphores word t (call_view call.now)) self.old self.new (W.told out.old) (W.told out.new) }
     {
         match word {
             SemaphoreWord::NewSem => self.new_sem(t, call, out),

@@ -1,8 +1,7 @@
 //! Steps and settling: all interleaving comes from the list of events.
-ghost use Rattle.std.specs.Prelude.{◌≡◌, ◌<◌, ◌≤◌, false, is_some, length, sum_by, Some, None, IfSome, IsTrue, if◌then◌else◌};
+ghost use Rattle.std.specs.Prelude.{◌≡◌, ◌<◌, ◌≤◌, false, is_some, length, sum_by, Some, None, IfSome, IsTrue, if◌then◌else◌, true};
 ghost use Rattle.execlist.specs.Disciplines.{by_priority};
-ghost use Rattle.exectrace.specs.{Sink.Puts, Trace.printed_line, declared.sinks.SinkState.SinkState};
-ghost use Rattle.taskscript.specs.Events.{ticks as ticks_of};
+ghost use Rattle.script.specs.Events.{ticks as ticks_of};
 ghost use Rattle.scheduler.specs.{Schedule.IsToOneOf, Dispatch.switch_of, Dispatch.rescheduled, Dispatch.added};
 ghost use Rattle.softint.specs.Sources.{highest};
 ghost use Rattle.execmodel.specs.Step.{announced, switches, settle, does, ends, acts, acting, step, steps, request, tick, ticks, starts, all_added, event, events, task_step};
@@ -13,21 +12,18 @@ use crate::call::Call;
 use crate::interrupts::source_named;
 use crate::kernel::Kernel;
 use execlist::space::ListSpace;
-use exectrace::lines::CallOutcome;
-use exectrace::printing::{put_call, put_idle, put_switch};
-use exectrace::sinks::written;
-use exectrace::{Arg, ShortArg, Sink};
+use exectrace::{Said, ShortArg, Witness};
 use scheduler::Switch;
+use script::{Event, TaskWord, Word};
 use softint::source::Source;
 use taskq::TaskId;
-use taskscript::{Event, Word};
 
 impl<S: ListSpace> Kernel<S> {
     // ---- settle
 
     /// The switch to another task, or to being idle, if one is due.
-    fn switch<W: Sink>(&mut self, out: &mut W)
-        ensures { Follows switches self.old self.new (W.tape out.old) (W.tape out.new) }
+    fn switch<W: Witness>(&mut self, out: &mut W)
+        ensures { Follows W.hearing switches self.old self.new (W.told out.old) (W.told out.new) }
     {
         let choice = self.reschedule();
         self.announce(choice, out);
@@ -43,20 +39,23 @@ impl<S: ListSpace> Kernel<S> {
     }
 
     /// Prints the line of a switch, if one was made.
-    fn announce<W: Sink>(&self, choice: Option<Switch>, out: &mut W)
+    fn announce<W: Witness>(&self, choice: Option<Switch>, out: &mut W)
         requires { IsToOneOf choice (length self.now.scripts.programs) }
-        ensures { Follows (announced choice) self.now self.now (W.tape out.old) (W.tape out.new) }
+        ensures { Follows W.hearing (announced choice) self.now self.now (W.told out.old) (W.told out.new) }
     {
         match choice {
             None => {}
-            Some(Switch::Idle) => put_idle(out),
-            Some(Switch::To(t)) => put_switch(self.name(t), out),
+            Some(Switch::Idle) => out.hear(&Said::Idle),
+            Some(Switch::To(t)) => {
+                let who = self.name(t);
+                out.hear(&Said::Switch(who));
+            }
         }
     }
 
     /// The switch, unless an alert has stopped the machine.
-    fn switch_unless_stopped<W: Sink>(&mut self, out: &mut W)
-        ensures { Follows (unless_stopped switches) self.old self.new (W.tape out.old) (W.tape out.new) }
+    fn switch_unless_stopped<W: Witness>(&mut self, out: &mut W)
+        ensures { Follows W.hearing (unless_stopped switches) self.old self.new (W.told out.old) (W.told out.new) }
     {
         if !self.stopped {
             self.switch(out);
@@ -64,8 +63,8 @@ impl<S: ListSpace> Kernel<S> {
     }
 
     #[inline(always)]
-    fn serve_and_switch<W: Sink>(&mut self, out: &mut W)
-        ensures { Follows (andthen interrupts (unless_stopped switches)) self.old self.new (W.tape out.old) (W.tape out.new) }
+    fn serve_and_switch<W: Witness>(&mut self, out: &mut W)
+        ensures { Follows W.hearing (andthen interrupts (unless_stopped switches)) self.old self.new (W.told out.old) (W.told out.new) }
     {
         self.interrupt(out);
         self.switch_unless_stopped(out);
@@ -73,8 +72,8 @@ impl<S: ListSpace> Kernel<S> {
 
     /// What follows each action; a stopped machine stays as it is.
     #[inline(always)]
-    pub(crate) fn settle<W: Sink>(&mut self, out: &mut W)
-        ensures { Follows settle self.old self.new (W.tape out.old) (W.tape out.new) }
+    pub(crate) fn settle<W: Witness>(&mut self, out: &mut W)
+        ensures { Follows W.hearing settle self.old self.new (W.told out.old) (W.told out.new) }
     {
         if !self.stopped {
             self.serve_and_switch(out);
@@ -83,8 +82,8 @@ impl<S: ListSpace> Kernel<S> {
 
     /// What follows each step, as `settle`. The answer is whether nothing was due, so that the machine is settled.
     #[inline(always)]
-    fn settle_again<W: Sink>(&mut self, out: &mut W) -> bool
-        ensures follows { Follows settle self.old self.new (W.tape out.old) (W.tape out.new) }
+    fn settle_again<W: Witness>(&mut self, out: &mut W) -> bool
+        ensures follows { Follows W.hearing settle self.old self.new (W.told out.old) (W.told out.new) }
         ensures settled { IsTrue result → IsSettled self.new }
     {
         if self.stopped {
@@ -99,10 +98,10 @@ impl<S: ListSpace> Kernel<S> {
 
     /// The switch of a machine that goes on and in which no source asks. The answer is whether none was due.
     #[inline(always)]
-    fn switch_again<W: Sink>(&mut self, out: &mut W) -> bool
+    fn switch_again<W: Witness>(&mut self, out: &mut W) -> bool
         requires going { self.old.stopped ≡ false }
         requires unasked { is_some (highest self.old.pending.latches) ≡ false }
-        ensures follows { Follows settle self.old self.new (W.tape out.old) (W.tape out.new) }
+        ensures follows { Follows W.hearing settle self.old self.new (W.told out.old) (W.told out.new) }
         ensures settled { IsTrue result → IsSettled self.new }
     {
         let choice = self.reschedule();
@@ -118,11 +117,11 @@ impl<S: ListSpace> Kernel<S> {
     /// A call of task t, by the group of its word. If it sets system time, those that wait for that are looked at after the call's own
     /// line.
     #[tactic(auto, unfolding(execmodel::specs::Step::does))]
-    fn does<W: Sink>(&mut self, t: TaskId, call: &Call, out: &mut W)
+    fn does<W: Witness>(&mut self, t: TaskId, call: &Call, out: &mut W)
         requires known { HasTask t self.old }
         requires runs { Runs t self.old }
         requires agree { IsInOrder self.old }
-        ensures { Follows (does t (call_view call.now)) self.old self.new (W.tape out.old) (W.tape out.new) }
+        ensures { Follows W.hearing (does t (call_view call.now)) self.old self.new (W.told out.old) (W.told out.new) }
     {
         match call.word {
             Word::Plain(word) => self.does_plain(word, t, call, out),
@@ -144,46 +143,47 @@ impl<S: ListSpace> Kernel<S> {
 
     /// A task whose commands are used up ends, as by RemTask 0.
     #[inline(never)]
-    fn end<W: Sink>(&mut self, t: TaskId, out: &mut W)
+    fn end<W: Witness>(&mut self, t: TaskId, out: &mut W)
         requires known { HasTask t self.old }
         requires runs { Runs t self.old }
-        ensures { Follows (ends t) self.old self.new (W.tape out.old) (W.tape out.new) }
+        ensures { Follows W.hearing (ends t) self.old self.new (W.told out.old) (W.told out.new) }
     {
         let name = self.name(t);
-        put_call(name, "RemTask", &[Arg::Value(0)], CallOutcome::Done, out);
+        let word = Word::Tasks(TaskWord::RemTask);
+        self.tell(t, word, &[ShortArg::Value(0)], name, out);
         self.leave(t);
     }
 
     /// Task t, which runs, makes this call, which is its next one.
     #[inline(always)]
-    fn make<W: Sink>(&mut self, t: TaskId, call: &Call, out: &mut W)
+    fn make<W: Witness>(&mut self, t: TaskId, call: &Call, out: &mut W)
         requires known { HasTask t self.old }
         requires runs { Runs t self.old }
         requires agree { IsInOrder self.old }
         requires next { next_call t self.old.scripts ≡ Some (call_view call.now) }
-        ensures { Follows (task_step (Some t)) self.old self.new (W.tape out.old) (W.tape out.new) }
+        ensures { Follows W.hearing (task_step (Some t)) self.old self.new (W.told out.old) (W.told out.new) }
     {
         self.does(t, call, out);
     }
 
     /// Task t, which runs and has no call left to make, ends.
     #[inline(always)]
-    fn make_none<W: Sink>(&mut self, t: TaskId, out: &mut W)
+    fn make_none<W: Witness>(&mut self, t: TaskId, out: &mut W)
         requires known { HasTask t self.old }
         requires runs { Runs t self.old }
         requires next { next_call t self.old.scripts ≡ None }
-        ensures { Follows (task_step (Some t)) self.old self.new (W.tape out.old) (W.tape out.new) }
+        ensures { Follows W.hearing (task_step (Some t)) self.old self.new (W.told out.old) (W.told out.new) }
     {
         self.end(t, out);
     }
 
     /// Task t, which runs, tries the call again that it waits in, or makes that of its next command, or ends.
     #[inline(never)]
-    fn make_call<W: Sink>(&mut self, t: TaskId, out: &mut W)
+    fn make_call<W: Witness>(&mut self, t: TaskId, out: &mut W)
         requires known { HasTask t self.old }
         requires runs { Runs t self.old }
         requires agree { IsInOrder self.old }
-        ensures { Follows (task_step (Some t)) self.old self.new (W.tape out.old) (W.tape out.new) }
+        ensures { Follows W.hearing (task_step (Some t)) self.old self.new (W.told out.old) (W.told out.new) }
     {
         let program = self.program(t);
         match program.kept() {
@@ -212,9 +212,9 @@ impl<S: ListSpace> Kernel<S> {
     }
 
     /// The running task does one command; if none runs, the step is used up.
-    fn run_task<W: Sink>(&mut self, out: &mut W)
+    fn run_task<W: Witness>(&mut self, out: &mut W)
         requires { IsInOrder self.old }
-        ensures { Follows running_task_step self.old self.new (W.tape out.old) (W.tape out.new) }
+        ensures { Follows W.hearing running_task_step self.old self.new (W.told out.old) (W.told out.new) }
     {
         match self.running() {
             None => {}
@@ -223,9 +223,9 @@ impl<S: ListSpace> Kernel<S> {
     }
 
     /// A software interrupt that may run does so, or else the running task does one command.
-    fn run_one<W: Sink>(&mut self, out: &mut W)
+    fn run_one<W: Witness>(&mut self, out: &mut W)
         requires { IsInOrder self.old }
-        ensures { Follows acting self.old self.new (W.tape out.old) (W.tape out.new) }
+        ensures { Follows W.hearing acting self.old self.new (W.told out.old) (W.told out.new) }
     {
         match self.take_softint() {
             Some(i) => self.run_softint(i, out),
@@ -241,9 +241,9 @@ impl<S: ListSpace> Kernel<S> {
     }
 
     /// What a step does before the machine settles; a stopped machine does nothing.
-    fn act<W: Sink>(&mut self, out: &mut W)
+    fn act<W: Witness>(&mut self, out: &mut W)
         requires { IsInOrder self.old }
-        ensures { Follows acts self.old self.new (W.tape out.old) (W.tape out.new) }
+        ensures { Follows W.hearing acts self.old self.new (W.told out.old) (W.told out.new) }
     {
         if !self.stopped {
             self.run_one(out);
@@ -251,9 +251,9 @@ impl<S: ListSpace> Kernel<S> {
     }
 
     /// One step. The answer is whether nothing was due after it, so that the machine is settled.
-    pub(crate) fn step<W: Sink>(&mut self, out: &mut W) -> bool
+    pub(crate) fn step<W: Witness>(&mut self, out: &mut W) -> bool
         requires { IsInOrder self.old }
-        ensures follows { Follows step self.old self.new (W.tape out.old) (W.tape out.new) }
+        ensures follows { Follows W.hearing step self.old self.new (W.told out.old) (W.told out.new) }
         ensures settled { IsTrue result → IsSettled self.new }
     {
         self.act(out);
@@ -261,12 +261,12 @@ impl<S: ListSpace> Kernel<S> {
     }
 
     /// One step, and those after it that ask nothing of Exec; at most that many, of which there is one. The answer is how many.
-    fn some_steps<W: Sink>(&mut self, most: u32, out: &mut W) -> u32
+    fn some_steps<W: Witness>(&mut self, most: u32, out: &mut W) -> u32
         requires one { 0 < most }
         requires agree { IsInOrder self.old }
         ensures some { 0 < result }
         ensures within { result ≤ most }
-        ensures follows { Follows (steps result) self.old self.new (W.tape out.old) (W.tape out.new) }
+        ensures follows { Follows W.hearing (steps result) self.old self.new (W.told out.old) (W.told out.new) }
     {
         if self.step(out) {
             self.quiet_steps(most - 1, out) + 1
@@ -276,23 +276,24 @@ impl<S: ListSpace> Kernel<S> {
     }
 
     /// Some steps, as long as the sink is good; after a failed write nothing more is simulated, and all of them are done.
-    fn some_steps_while_good<W: Sink>(&mut self, most: u32, out: &mut W) -> u32
+    fn some_steps_while_good<W: Witness>(&mut self, most: u32, out: &mut W) -> u32
         requires one { 0 < most }
-        requires agree { (W.tape out.old).state ≡ SinkState.Good → IsInOrder self.old }
+        requires agree { W.hearing.good (W.told out.old) ≡ true → IsInOrder self.old }
         ensures some { 0 < result }
         ensures within { result ≤ most }
-        ensures follows { FollowsWhileGood (steps result) self.old self.new (W.tape out.old) (W.tape out.new) }
+        ensures follows { FollowsWhileGood W.hearing (steps result) self.old self.new (W.told out.old) (W.told out.new) }
     {
-        match written(out) {
-            Ok(()) => self.some_steps(most, out),
-            Err(_) => most,
+        if out.is_good() {
+            self.some_steps(most, out)
+        } else {
+            most
         }
     }
 
     /// That many steps.
-    fn steps<W: Sink>(&mut self, n: u32, out: &mut W)
-        requires { (W.tape out.old).state ≡ SinkState.Good → IsKnown self.old }
-        ensures { FollowsWhileGood (steps n) self.old self.new (W.tape out.old) (W.tape out.new) }
+    fn steps<W: Witness>(&mut self, n: u32, out: &mut W)
+        requires { W.hearing.good (W.told out.old) ≡ true → IsKnown self.old }
+        ensures { FollowsWhileGood W.hearing (steps n) self.old self.new (W.told out.old) (W.told out.new) }
     {
         let mut done = 0;
         while done < n {
@@ -303,8 +304,8 @@ impl<S: ListSpace> Kernel<S> {
     // ---- run
 
     /// An interrupt is requested, and the machine settles; a stopped machine does nothing.
-    fn request<W: Sink>(&mut self, source: Source, out: &mut W)
-        ensures { Follows (request source) self.old self.new (W.tape out.old) (W.tape out.new) }
+    fn request<W: Witness>(&mut self, source: Source, out: &mut W)
+        ensures { Follows W.hearing (request source) self.old self.new (W.told out.old) (W.told out.new) }
     {
         if !self.stopped {
             self.latch(source);
@@ -313,19 +314,18 @@ impl<S: ListSpace> Kernel<S> {
     }
 
     /// An interrupt is requested, as long as the sink is good.
-    fn request_while_good<W: Sink>(&mut self, source: Source, out: &mut W)
-        ensures { FollowsWhileGood (request source) self.old self.new (W.tape out.old) (W.tape out.new) }
+    fn request_while_good<W: Witness>(&mut self, source: Source, out: &mut W)
+        ensures { FollowsWhileGood W.hearing (request source) self.old self.new (W.told out.old) (W.told out.new) }
     {
-        match written(out) {
-            Ok(()) => self.request(source, out),
-            Err(_) => {}
+        if out.is_good() {
+            self.request(source, out);
         }
     }
 
     /// One tick of the vertical blank: the clock gains it, and VERTB is requested; a stopped machine does nothing.
-    fn tick<W: Sink>(&mut self, out: &mut W)
+    fn tick<W: Witness>(&mut self, out: &mut W)
         requires { HasTimeFor 1 self.old }
-        ensures { Follows tick self.old self.new (W.tape out.old) (W.tape out.new) }
+        ensures { Follows W.hearing tick self.old self.new (W.told out.old) (W.told out.new) }
     {
         if !self.stopped {
             self.gain_tick();
@@ -334,20 +334,19 @@ impl<S: ListSpace> Kernel<S> {
     }
 
     /// One tick, as long as the sink is good.
-    fn tick_while_good<W: Sink>(&mut self, out: &mut W)
-        requires { (W.tape out.old).state ≡ SinkState.Good → HasTimeFor 1 self.old }
-        ensures { FollowsWhileGood tick self.old self.new (W.tape out.old) (W.tape out.new) }
+    fn tick_while_good<W: Witness>(&mut self, out: &mut W)
+        requires { W.hearing.good (W.told out.old) ≡ true → HasTimeFor 1 self.old }
+        ensures { FollowsWhileGood W.hearing tick self.old self.new (W.told out.old) (W.told out.new) }
     {
-        match written(out) {
-            Ok(()) => self.tick(out),
-            Err(_) => {}
+        if out.is_good() {
+            self.tick(out);
         }
     }
 
     /// That many ticks.
-    fn ticks<W: Sink>(&mut self, n: u32, out: &mut W)
-        requires { (W.tape out.old).state ≡ SinkState.Good → IsInTime n self.old }
-        ensures { FollowsWhileGood (ticks n) self.old self.new (W.tape out.old) (W.tape out.new) }
+    fn ticks<W: Witness>(&mut self, n: u32, out: &mut W)
+        requires { W.hearing.good (W.told out.old) ≡ true → IsInTime n self.old }
+        ensures { FollowsWhileGood W.hearing (ticks n) self.old self.new (W.told out.old) (W.told out.new) }
     {
         for _tick in 0..n {
             self.tick_while_good(out);
@@ -377,8 +376,8 @@ impl<S: ListSpace> Kernel<S> {
     }
 
     /// The start of the machine.
-    pub(crate) fn start<W: Sink>(&mut self, out: &mut W)
-        ensures { Follows starts self.old self.new (W.tape out.old) (W.tape out.new) }
+    pub(crate) fn start<W: Witness>(&mut self, out: &mut W)
+        ensures { Follows W.hearing starts self.old self.new (W.told out.old) (W.told out.new) }
     {
         self.add_all();
         self.settle(out);
@@ -386,9 +385,9 @@ impl<S: ListSpace> Kernel<S> {
 
     /// One event.
     #[tactic(auto, unfolding(execmodel::specs::Step::event))]
-    pub(crate) fn event<W: Sink>(&mut self, one: Event, out: &mut W)
-        requires { (W.tape out.old).state ≡ SinkState.Good → IsInTime (ticks_of one) self.old }
-        ensures { FollowsWhileGood (event one) self.old self.new (W.tape out.old) (W.tape out.new) }
+    pub(crate) fn event<W: Witness>(&mut self, one: Event, out: &mut W)
+        requires { W.hearing.good (W.told out.old) ≡ true → IsInTime (ticks_of one) self.old }
+        ensures { FollowsWhileGood W.hearing (event one) self.old self.new (W.told out.old) (W.told out.new) }
     {
         match one {
             Event::Run(n) => self.steps(n, out),
@@ -398,9 +397,9 @@ impl<S: ListSpace> Kernel<S> {
     }
 
     /// One event after another.
-    pub(crate) fn events<W: Sink>(&mut self, list: &[Event], out: &mut W)
-        requires { (W.tape out.old).state ≡ SinkState.Good → IsInTime (sum_by ticks_of list.now) self.old }
-        ensures { FollowsWhileGood (events list.now) self.old self.new (W.tape out.old) (W.tape out.new) }
+    pub(crate) fn events<W: Witness>(&mut self, list: &[Event], out: &mut W)
+        requires { W.hearing.good (W.told out.old) ≡ true → IsInTime (sum_by ticks_of list.now) self.old }
+        ensures { FollowsWhileGood W.hearing (events list.now) self.old self.new (W.told out.old) (W.told out.new) }
     {
         for one in list {
             self.event(*one, out);

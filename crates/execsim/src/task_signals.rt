@@ -10,9 +10,9 @@ ghost use Rattle.execsim.specs.{Callers.HasTask, Callers.Runs, Callers.HasCaller
 use crate::call::{Call, Caller};
 use crate::kernel::Kernel;
 use execlist::space::ListSpace;
-use exectrace::Sink;
+use exectrace::Witness;
+use script::{Alert, SignalWord};
 use taskq::TaskId;
-use taskscript::SignalWord;
 
 /// Whether the mask holds only signals that scripts may name: 12 to 31.
 pub(crate) fn is_mask(mask: u32) -> bool
@@ -65,25 +65,25 @@ impl<S: ListSpace> Kernel<S> {
 
     /// AllocSignal a (autodoc exec.library/AllocSignal).
     #[tactic(auto, using(crate::proofs::Signalling::allocated))]
-    fn alloc_signal<W: Sink>(&mut self, t: TaskId, call: &Call, out: &mut W)
+    fn alloc_signal<W: Witness>(&mut self, t: TaskId, call: &Call, out: &mut W)
         requires known { HasTask t self.old }
         requires runs { Runs t self.old }
-        ensures { Follows (does_alloc_signal t (call_view call.now)) self.old self.new (W.tape out.old) (W.tape out.new) }
+        ensures { Follows W.hearing (does_alloc_signal t (call_view call.now)) self.old self.new (W.told out.old) (W.told out.new) }
     {
         let signal = self.allocate_signal(t, call.number(0));
         self.answered(t, call, signal, out);
     }
 
     /// FreeSignal a (autodoc exec.library/FreeSignal).
-    fn free_signal<W: Sink>(&mut self, t: TaskId, call: &Call, out: &mut W)
+    fn free_signal<W: Witness>(&mut self, t: TaskId, call: &Call, out: &mut W)
         requires { HasTask t self.old }
-        ensures { Follows (does_free_signal t (call_view call.now)) self.old self.new (W.tape out.old) (W.tape out.new) }
+        ensures { Follows W.hearing (does_free_signal t (call_view call.now)) self.old self.new (W.told out.old) (W.told out.new) }
     {
         let n = call.number(0);
         if is_no_signal(n) {
             self.done(t, call, out);
         } else if !is_own_signal(n) {
-            self.alerted("MASK", t, call, out);
+            self.alerted(Alert::Mask, t, call, out);
         } else {
             self.deallocate_signal(t, n);
             self.done(t, call, out);
@@ -91,15 +91,15 @@ impl<S: ListSpace> Kernel<S> {
     }
 
     /// SetSignal new mask (autodoc exec.library/SetSignal).
-    fn set_signal<W: Sink>(&mut self, t: TaskId, call: &Call, out: &mut W)
+    fn set_signal<W: Witness>(&mut self, t: TaskId, call: &Call, out: &mut W)
         requires known { HasTask t self.old }
         requires runs { Runs t self.old }
-        ensures { Follows (does_set_signal t (call_view call.now)) self.old self.new (W.tape out.old) (W.tape out.new) }
+        ensures { Follows W.hearing (does_set_signal t (call_view call.now)) self.old self.new (W.told out.old) (W.told out.new) }
     {
         let new = call.number(0);
         let mask = call.number(1);
         if !is_mask(mask) {
-            self.alerted("MASK", t, call, out);
+            self.alerted(Alert::Mask, t, call, out);
         } else {
             let received = self.change_signals(t, new, mask);
             self.answered(t, call, received, out);
@@ -125,16 +125,16 @@ impl<S: ListSpace> Kernel<S> {
 
     /// Signal t mask: the task of that number receives the signals of the mask. HANDLE if there is no such task, MASK if the mask
     /// holds a signal that scripts may not name (autodoc exec.library/Signal; the alerts: project rule).
-    pub(crate) fn signal<W: Sink>(&mut self, caller: &Caller, call: &Call, out: &mut W)
+    pub(crate) fn signal<W: Witness>(&mut self, caller: &Caller, call: &Call, out: &mut W)
         requires { HasCaller caller.now self.old }
-        ensures { Follows (does_signal_by (caller_view caller.now) (call_view call.now)) self.old self.new (W.tape out.old) (W.tape out.new) }
+        ensures { Follows W.hearing (does_signal_by (caller_view caller.now) (call_view call.now)) self.old self.new (W.told out.old) (W.told out.new) }
     {
         let other = call.number(0);
         let mask = call.number(1);
         if !self.is_task(other) {
-            self.alerted_by("HANDLE", caller, call, out);
+            self.alerted_by(Alert::Handle, caller, call, out);
         } else if !is_mask(mask) {
-            self.alerted_by("MASK", caller, call, out);
+            self.alerted_by(Alert::Mask, caller, call, out);
         } else {
             self.signal_task(other as usize - 1, mask);
             self.done_by(caller, call, out);
@@ -142,14 +142,14 @@ impl<S: ListSpace> Kernel<S> {
     }
 
     /// Wait mask (autodoc exec.library/Wait).
-    fn wait<W: Sink>(&mut self, t: TaskId, call: &Call, out: &mut W)
+    fn wait<W: Witness>(&mut self, t: TaskId, call: &Call, out: &mut W)
         requires known { HasTask t self.old }
         requires runs { Runs t self.old }
-        ensures { Follows (does_wait t (call_view call.now)) self.old self.new (W.tape out.old) (W.tape out.new) }
+        ensures { Follows W.hearing (does_wait t (call_view call.now)) self.old self.new (W.told out.old) (W.told out.new) }
     {
         let mask = call.number(0);
         if !is_mask(mask) {
-            self.alerted("MASK", t, call, out);
+            self.alerted(Alert::Mask, t, call, out);
         } else {
             match self.wait_for(t, mask) {
                 Some(common) => self.answered(t, call, common, out),
@@ -160,7 +160,7 @@ impl<S: ListSpace> Kernel<S> {
 
     /// A call of task t on signals, by its word.
     #[tactic(auto, unfolding(execmodel::specs::Signals::does_signal))]
-    pub(crate) fn does_signals<W: Sink>(
+    pub(crate) fn does_signals<W: Witness>(
         &mut self,
         word: SignalWord,
         t: TaskId,
@@ -169,7 +169,7 @@ impl<S: ListSpace> Kernel<S> {
     )
         requires known { HasTask t self.old }
         requires runs { Runs t self.old }
-        ensures { Follows (does_signals word t (call_view call.now)) self.old self.new (W.tape out.old) (W.tape out.new) }
+        ensures { Follows W.hearing (does_signals word t (call_view call.now)) self.old self.new (W.told out.old) (W.told out.new) }
     {
         match word {
             SignalWord::AllocSignal => self.alloc_signal(t, call, out),

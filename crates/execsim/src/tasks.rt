@@ -10,9 +10,9 @@ ghost use Rattle.execsim.specs.{Callers.HasTask, Callers.Runs, Agreement.Follows
 use crate::call::Call;
 use crate::kernel::Kernel;
 use execlist::space::ListSpace;
-use exectrace::{Name, Sink};
+use exectrace::{Name, Witness};
+use script::{Alert, TaskWord};
 use taskq::TaskId;
-use taskscript::TaskWord;
 
 /// Whether a task may have the priority that the word is, read as a signed one.
 pub(crate) fn is_priority(word: u32) -> bool
@@ -90,16 +90,16 @@ impl<S: ListSpace> Kernel<S> {
     }
 
     /// SetTaskPri task pri (autodoc exec.library/SetTaskPri).
-    fn set_task_pri<W: Sink>(&mut self, t: TaskId, call: &Call, out: &mut W)
+    fn set_task_pri<W: Witness>(&mut self, t: TaskId, call: &Call, out: &mut W)
         requires { HasTask t self.old }
-        ensures { Follows (does_set_task_pri t (call_view call.now)) self.old self.new (W.tape out.old) (W.tape out.new) }
+        ensures { Follows W.hearing (does_set_task_pri t (call_view call.now)) self.old self.new (W.told out.old) (W.told out.new) }
     {
         let other = call.number(0);
         let pri = call.number(1);
         if !self.is_live_task(other) {
-            self.alerted("HANDLE", t, call, out);
+            self.alerted(Alert::Handle, t, call, out);
         } else if !is_priority(pri) {
-            self.alerted("VALUE", t, call, out);
+            self.alerted(Alert::Value, t, call, out);
         } else {
             let old = self.set_pri(other as usize - 1, pri);
             self.answered(t, call, old, out);
@@ -107,13 +107,13 @@ impl<S: ListSpace> Kernel<S> {
     }
 
     /// AddTask task (autodoc exec.library/AddTask).
-    fn add_task<W: Sink>(&mut self, t: TaskId, call: &Call, out: &mut W)
+    fn add_task<W: Witness>(&mut self, t: TaskId, call: &Call, out: &mut W)
         requires { HasTask t self.old }
-        ensures { Follows (does_add_task t (call_view call.now)) self.old self.new (W.tape out.old) (W.tape out.new) }
+        ensures { Follows W.hearing (does_add_task t (call_view call.now)) self.old self.new (W.told out.old) (W.told out.new) }
     {
         let other = call.number(0);
         if !self.is_task(other) {
-            self.alerted("HANDLE", t, call, out);
+            self.alerted(Alert::Handle, t, call, out);
         } else {
             let begins = self.add(other as usize - 1);
             self.answered(t, call, begun(begins, other), out);
@@ -121,18 +121,18 @@ impl<S: ListSpace> Kernel<S> {
     }
 
     /// RemTask task (autodoc exec.library/RemTask).
-    fn rem_task<W: Sink>(&mut self, t: TaskId, call: &Call, out: &mut W)
+    fn rem_task<W: Witness>(&mut self, t: TaskId, call: &Call, out: &mut W)
         requires known { HasTask t self.old }
         requires runs { Runs t self.old }
         requires room { length self.old.scripts.programs ≤ self.old.memory.tasks }
-        ensures { Follows (does_rem_task t (call_view call.now)) self.old self.new (W.tape out.old) (W.tape out.new) }
+        ensures { Follows W.hearing (does_rem_task t (call_view call.now)) self.old self.new (W.told out.old) (W.told out.new) }
     {
         let other = call.number(0);
         if is_caller(t, other) {
             self.leave(t);
             self.done(t, call, out);
         } else if !self.is_live_task(other) {
-            self.alerted("HANDLE", t, call, out);
+            self.alerted(Alert::Handle, t, call, out);
         } else {
             self.remove_task(other as usize - 1);
             self.done(t, call, out);
@@ -155,16 +155,16 @@ impl<S: ListSpace> Kernel<S> {
 
     /// FindTask name (autodoc exec.library/FindTask).
     #[tactic(auto, using(crate::proofs::Tasking::task_found))]
-    fn find_task<W: Sink>(&mut self, t: TaskId, call: &Call, out: &mut W)
+    fn find_task<W: Witness>(&mut self, t: TaskId, call: &Call, out: &mut W)
         requires { HasTask t self.old }
-        ensures { Follows (does_find_task t (call_view call.now)) self.old self.new (W.tape out.old) (W.tape out.new) }
+        ensures { Follows W.hearing (does_find_task t (call_view call.now)) self.old self.new (W.told out.old) (W.told out.new) }
     {
         let answer = self.found_number(t, call.name(0));
         self.answered(t, call, answer, out);
     }
 
     /// A call of task t on tasks, by its word.
-    pub(crate) fn does_tasks<W: Sink>(
+    pub(crate) fn does_tasks<W: Witness>(
         &mut self,
         word: TaskWord,
         t: TaskId,
@@ -174,7 +174,7 @@ impl<S: ListSpace> Kernel<S> {
         requires known { HasTask t self.old }
         requires runs { Runs t self.old }
         requires room { length self.old.scripts.programs ≤ self.old.memory.tasks }
-        ensures { Follows (does_tasks word t (call_view call.now)) self.old self.new (W.tape out.old) (W.tape out.new) }
+        ensures { Follows W.hearing (does_tasks word t (call_view call.now)) self.old self.new (W.told out.old) (W.told out.new) }
     {
         match word {
             TaskWord::SetTaskPri => self.set_task_pri(t, call, out),

@@ -3,8 +3,8 @@ use Rattle.std.proofs.Common.{◌≡◌, ◌∙◌, ℕ, ◌+◌, ◌<◌, ◌�
 use Rattle.std.specs.Io.KnownBytes.{Appends}
 use Rattle.std.proofs.lemmas.{List.take_more, List.drop_more, List.Concat.flat_map-append, List.Sums.sum_by-cons}
 use Rattle.exectrace.specs.{Sink.Tape, Trace.TraceLine, Trace.printed, Trace.printed_line}
-use Rattle.exectrace.proofs.Pieces.{Appends-none, Appends-then}
-use Rattle.taskscript.specs.{Events.ticks as ticks_of, declared.event.Event.Event}
+use Rattle.exectrace.specs.Putting.{Appends-none, Appends-then}
+use Rattle.script.specs.{Events.ticks as ticks_of, declared.event.Event.Event}
 use Rattle.execmodel.specs.{State.State, State.Outcome, State.Mark, State.andthen, Step.event, Step.events}
 use Rattle.execmodel.proofs.Moments.{events_more}
 use Rattle.execsim.specs.{Agreement.Seen, Agreement.Agrees, Headline.Shown, Headline.Acts, declared.machine.Flow.Flow}

@@ -1,7 +1,8 @@
 -- What a caller finds in its buffer after a run.
 use Rattle.std.specs.Prelude.{◌≡◌, ℕ, ◌<◌, ◌≤◌, List, length, take, Result, Ok, Err}
 use Rattle.exectrace.specs.Trace.{printed}
-use Rattle.taskscript.specs.{File.MachineData, declared.event.Event.Event, declared.fault.FileFault.FileFault, declared.fault.EventFault.EventFault}
+use Rattle.script.specs.{File.MachineData, declared.event.Event.Event}
+use Rattle.taskscript.specs.{declared.fault.FileFault.FileFault, declared.fault.EventFault.EventFault}
 use Rattle.taskscript.specs.declared.fault.FileFault.TheVariants as file_fault
 use Rattle.taskscript.specs.declared.fault.EventFault.TheVariants as event_fault
 use Rattle.execmodel.specs.Step.{run}

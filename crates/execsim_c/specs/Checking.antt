@@ -1,6 +1,7 @@
 -- The status of what is found in two texts and in their run.
 use Rattle.std.specs.Prelude.{◌≡◌, ◌≤◌, ◌↔◌, ℕ, List, None, true, Result, IsSome}
-use Rattle.taskscript.specs.{File.MachineData, declared.event.Event.Event, declared.fault.FileFault.FileFault, declared.fault.EventFault.EventFault}
+use Rattle.script.specs.{File.MachineData, declared.event.Event.Event}
+use Rattle.taskscript.specs.{declared.fault.FileFault.FileFault, declared.fault.EventFault.EventFault}
 use Rattle.execadvice.specs.Findings.{fault_of}
 use Rattle.runadvice.specs.Ends.{ends_by_alert}
 

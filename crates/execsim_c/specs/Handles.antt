@@ -1,6 +1,7 @@
 -- What the calls of a machine that C keeps come to.
 use Rattle.std.specs.Prelude.{◌≡◌, ℕ, Bool, List, [], ◌++◌, drop, length, Some, Result, Ok}
-use Rattle.taskscript.specs.{File.MachineData, declared.event.Event.Event, declared.fault.FileFault.FileFault, declared.fault.EventFault.EventFault}
+use Rattle.script.specs.{File.MachineData, declared.event.Event.Event}
+use Rattle.taskscript.specs.{declared.fault.FileFault.FileFault, declared.fault.EventFault.EventFault}
 use Rattle.execmodel.specs.Step.{events}
 use Rattle.execsim.specs.Headline.{Shown}
 use Rattle.execsim_c.specs.{Held.Kept, Stepping.IsStarted, Stepping.Does, declared.session.Session.Session}

@@ -2,7 +2,8 @@
 use Rattle.std.specs.Prelude.{◌≡◌, ℕ, List, Option, Result, Ok}
 use Rattle.std.specs.Io.KnownBytes.{Appends}
 use Rattle.exectrace.specs.Trace.{printed}
-use Rattle.taskscript.specs.{File.MachineData, declared.fault.FileFault.FileFault}
+use Rattle.script.specs.File.{MachineData}
+use Rattle.taskscript.specs.declared.fault.FileFault.{FileFault}
 use Rattle.execmodel.specs.{State.State, State.Outcome, State.booted, Step.starts}
 use Rattle.execsim.specs.Agreement.{Seen, Agrees}
 

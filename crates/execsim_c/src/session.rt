@@ -1,7 +1,7 @@
 //! A machine that is kept between calls: it has started, and it keeps the lines that no caller has taken.
 ghost use Rattle.std.specs.Prelude.{◌≡◌, ◌+◌, ℕ, false, IfOk, IfSome, OnOk, Some, sum_by};
 ghost use Rattle.exectrace.specs.declared.sinks.SinkState.{SinkState};
-ghost use Rattle.taskscript.specs.Events.{ticks as ticks_of};
+ghost use Rattle.script.specs.Events.{ticks as ticks_of};
 ghost use Rattle.execmodel.specs.Step.{events};
 ghost use Rattle.execsim.specs.Time.{HasTimeFor};
 ghost use Rattle.execsim_c.specs.Stepping.{Does, Starts};
@@ -9,8 +9,8 @@ ghost use Rattle.execsim_c.specs.Stepping.{Does, Starts};
 use execlist::link::LinkSpace;
 use execsim::Machine;
 use exectrace::{Sink, WriteFault, WriteSink};
+use script::{Event, MachineFile};
 use std::alloc::{AllocError, Global};
-use taskscript::{Event, MachineFile};
 
 /// How many ticks a machine bears at least.
 const TICKS: u64 = 1_000_000;

@@ -1,6 +1,7 @@
 //! A machine that C keeps between calls: it is opened, does events, gives its lines, and is closed.
 ghost use Rattle.std.specs.Prelude.{◌≡◌, ◌+◌, ◌⊎◌, IfOk, MatchResult, None, Ok, Err, Some, false, sum_by, true};
-ghost use Rattle.taskscript.specs.{Events.script_of, Events.ticks as ticks_of, File.file_of, declared.fault.FileFault.FileFault, declared.fault.EventFault.EventFault};
+ghost use Rattle.script.specs.Events.{ticks as ticks_of};
+ghost use Rattle.taskscript.specs.{Events.script_of, File.file_of, declared.fault.FileFault.FileFault, declared.fault.EventFault.EventFault};
 ghost use Rattle.execmodel.specs.Step.{events};
 ghost use Rattle.execsim_c.specs.{Buffers.RefusesFile, Handles.Goes, Handles.Opens, Handles.Takes, Stepping.Does, Stepping.IsStarted};
 
@@ -10,8 +11,9 @@ use crate::refusal::refuse;
 use crate::session::Session;
 use crate::status::{EVENTS_REFUSED, NO_MACHINE, NO_MEMORY, RAN, TOO_LONG, status_if};
 use execsim::SimFault;
+use script::{Event, Events};
 use std::alloc::{AllocError, Global};
-use taskscript::{Event, EventFault, Events, FileFault, read_events, read_machine};
+use taskscript::{EventFault, FileFault, read_events, read_machine};
 
 /// The machine of a machine file, which has started.
 fn started(alloc: Global, file: &[u8]) -> Result<Box<Session>, FileFault>

@@ -2,20 +2,9 @@
 use Rattle.std.proofs.Common.{◌≡◌, ◌≢◌, ℕ, zero, suc, ◌+◌, ◌-◌, ◌<◌, ◌≤◌, List, [], ◌∷◌, ◌++◌, length, take, drop, refl, sym, subst, ap, ◌∙◌, append_assoc, length-drop, length-append, arith, ◌⊎◌, inl, inr, get_or, map, ◌↔◌, true, false, Option, Some, None, Result, Ok, Err, IsOk, take-append-drop, append-nil, flat_map, take-add}
 use Rattle.std.proofs.lemmas.{List.take_rest, List.take_more, List.map-append, Grind.flat_map-append}
 use Rattle.std.specs.Io.KnownBytes.{Appends}
+use Rattle.exectrace.specs.Putting.{Appends-none, Appends-then, stopped_not_good, Breaks-then, puts_none, Puts-trans}
 use Rattle.exectrace.specs.declared.sinks.SinkState.TheVariants.{Good, Empty, Failed}
 use Rattle.exectrace.specs.{declared.sinks.SinkState.SinkState, Sink.empties, Sink.after_taking, Sink.Tape, Sink.TakesAll, Sink.Breaks, Sink.Puts, Sink.Writes, Sink.Adds}
-
--- The bytes that a writer holds.
-
-pub Appends-none : (a : Option (List ℕ)) → Appends a a []
-Appends-none None = tt
-Appends-none (Some held) = sym (append-nil held)
-
-pub Appends-then : (a b c : Option (List ℕ)) (xs ys : List ℕ) → Appends a b xs → Appends b c ys → Appends a c (xs ++ ys)
-Appends-then None b c xs ys first more = tt
-Appends-then (Some held) None c xs ys first more = absurd first
-Appends-then (Some held) (Some between) None xs ys first more = absurd more
-Appends-then (Some held) (Some between) (Some end) xs ys first more = more ∙ ap (λ zs. zs ++ ys) first ∙ append_assoc held xs ys
 
 -- after the first k bytes, a write of the rest that took n
 pub Appends-rest : (a b c : Option (List ℕ)) (k n : ℕ) (xs : List ℕ) → Appends a b (take k xs) → Appends b c (take n (take (length xs - k) (drop k xs))) → Appends a c (take (k + n) xs)
@@ -43,32 +32,7 @@ pub good_at_end : (before after : SinkState) (k n m : ℕ) → k < m → after �
 good_at_end before after k zero m below e all = absurd (omega arith)
 good_at_end before after k (suc n) m below e all = e
 
-stopped_not_good : (state : SinkState) → (state ≡ Failed) ⊎ (state ≡ Empty 16) → state ≢ Good
-stopped_not_good state stopped good = elim stopped [ inl failed ↦ cc | inr empty ↦ cc ]
-
 -- If a text breaks off.
-
--- all of a first text was taken, and a second one broke off
-Breaks-then : (a b c : Tape) (xs ys : List ℕ) → Appends a.taken b.taken xs → Breaks b c ys → Breaks a c (xs ++ ys)
-Breaks-then a b c xs ys first broke = record {
-  written = xs ++ broke.written;
-  missing = broke.missing;
-  parts = ap (λ zs. xs ++ zs) broke.parts ∙ sym (append_assoc xs broke.written broke.missing);
-  short = broke.short;
-  took = Appends-then a.taken b.taken c.taken xs broke.written first broke.took;
-  stopped = broke.stopped;
-}
-
--- a first text broke off, and a second one was never begun
-Breaks-early : (a b : Tape) (xs ys : List ℕ) → Breaks a b xs → Breaks a b (xs ++ ys)
-Breaks-early a b xs ys broke = record {
-  written = broke.written;
-  missing = broke.missing ++ ys;
-  parts = ap (λ zs. zs ++ ys) broke.parts ∙ append_assoc broke.written broke.missing ys;
-  short = simp length-append (omega (arith, broke.short));
-  took = broke.took;
-  stopped = broke.stopped;
-}
 
 -- the first k bytes of a text were taken, and the sink takes no more
 Breaks-at : (a b : Tape) (k : ℕ) (xs : List ℕ) → k < length xs → Appends a.taken b.taken (take k xs) → (b.state ≡ Failed) ⊎ (b.state ≡ Empty 16) → Breaks a b xs
@@ -93,31 +57,6 @@ Breaks-exhausted a b c k n xs below few first more state full =
 
 -- Calls that do not fail.
 
--- a sink that is not good is left alone, whatever was to be written
-pub puts_nothing : {a : Tape} (bytes : List ℕ) → a.state ≢ Good → Puts a a bytes
-puts_nothing bytes bad = record { while_good = λ good. absurd (bad good); afterwards = λ _. refl }
-
--- nothing to write
-pub puts_none : (a : Tape) → Puts a a []
-puts_none a = record { while_good = λ good. inl (record { took = Appends-none a.taken; good = good }); afterwards = λ bad. refl }
-
--- one after another
-pub Puts-trans : (a b c : Tape) (xs ys : List ℕ) → Puts a b xs → Puts b c ys → Puts a c (xs ++ ys)
-Puts-trans a b c xs ys p q = record {
-  while_good = λ good. elim (p.while_good good) [
-    | inl all ↦ elim (q.while_good all.good) [
-      | inl more ↦ inl (record { took = Appends-then a.taken b.taken c.taken xs ys all.took more.took; good = more.good })
-      | inr broke ↦ inr (Breaks-then a b c xs ys all.took broke)
-    ]
-    | inr broke ↦
-        let same : c ≡ b = q.afterwards (stopped_not_good b.state broke.stopped) in
-        inr (Breaks-early a c xs ys (subst (λ (t : Tape). Breaks a t xs) (sym same) broke))
-  ];
-  afterwards = λ bad. let first : b ≡ a = p.afterwards bad in
-      let still : b.state ≢ Good = (λ e. bad (ap (λ (t : Tape). t.state) (sym first) ∙ e)) in
-      q.afterwards still ∙ first;
-}
-
 -- the first n bytes were taken, and the rest after them, or a part of it
 pub puts_rest : {T E : Type 0} (a b c : Tape) (n : ℕ) (xs : List ℕ) (result : Result T E) → a.state ≡ Good → Appends a.taken b.taken (take n xs)
     → Writes b c (take (length xs - n) (drop n xs)) result → Puts a c xs
@@ -129,10 +68,6 @@ puts_rest a b c n xs (Err fault) good first broke =
     let more : Breaks b c (drop n xs) = rw take_rest at broke in
     let whole : Breaks a c xs = subst (λ zs. Breaks a c zs) (take-append-drop n xs) (Breaks-then a b c _ _ first more) in
     record { while_good = λ _. inr whole; afterwards = λ bad. absurd (bad good) }
-
--- one after another, if the bytes are another spelling of the two texts
-pub puts_then : {a b c : Tape} {xs ys : List ℕ} (bytes : List ℕ) → Puts a b xs → Puts b c ys → bytes ≡ xs ++ ys → Puts a c bytes
-puts_then {a} {b} {c} {xs} {ys} bytes p q e = rw e (Puts-trans a b c xs ys p q)
 
 -- another spelling of the same bytes
 pub put_same : {a b : Tape} {xs : List ℕ} (ys : List ℕ) → Puts a b xs → ys ≡ xs → Puts a b ys

@@ -1,8 +1,8 @@
 -- How many steps, ticks and requests events are.
 use Rattle.std.proofs.Common.{◌≡◌, ℕ, ◌+◌, ◌<◌, ◌≤◌, ◌^◌, List, [], ◌∷◌, ◌++◌, length, replicate, refl, arith, sum_by}
 use Rattle.std.proofs.lemmas.{List.length-replicate, List.Sums.sum_by-append, List.Sums.sum_by-cons}
-use Rattle.taskscript.specs.declared.event.Event.TheVariants.{Run, Tick, Irq}
-use Rattle.taskscript.specs.declared.event.Event.{Event}
+use Rattle.script.specs.declared.event.Event.TheVariants.{Run, Tick, Irq}
+use Rattle.script.specs.declared.event.Event.{Event}
 
 pub turns_of_one : (n : ℕ) (e : Event) → length (replicate n e) ≡ n
 turns_of_one n e = length-replicate n e

@@ -2,11 +2,10 @@
 
 use crate::lines::{CodeLines, Shown};
 use execlog::{Body, Book, Place};
+use script::{Command, Name, PlainWord, Word};
 use std::alloc::{AllocError, Global};
 use std::str::from_utf8;
-use taskscript::{
-    BodyListing, Command, Listed, Name, PlainWord, Word, items_at, line_in, lines_of,
-};
+use taskscript::{BodyListing, Listed, items_at, line_in, lines_of};
 use toml::{Table, Value};
 
 /// Whether a word prints nothing.

@@ -1,10 +1,10 @@
 //! The events of a run by the numbers that a log gives to steps, ticks and requests.
 ghost use Rattle.std.specs.Prelude.{◌≡◌, ◌≤◌, IfOk, sum_by};
-ghost use Rattle.taskscript.specs.Events.{ticks as ticks_of};
+ghost use Rattle.script.specs.Events.{ticks as ticks_of};
 ghost use Rattle.execlog.specs.Log.{turns};
 
+use script::Event;
 use std::alloc::{AllocError, Global};
-use taskscript::Event;
 
 /// The most steps, ticks and requests of a run: an event text has a million steps, a million ticks and 100,000 events at most.
 const MOST_TURNS: u64 = 4_000_000;

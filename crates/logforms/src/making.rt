@@ -1,7 +1,7 @@
 //! A machine that is run over events.
 ghost use Rattle.std.specs.Prelude.{◌≡◌, ◌≤◌, false, sum_by};
 ghost use Rattle.exectrace.specs.declared.sinks.SinkState.{SinkState};
-ghost use Rattle.taskscript.specs.Events.{ticks as ticks_of};
+ghost use Rattle.script.specs.Events.{ticks as ticks_of};
 ghost use Rattle.execsim.specs.Time.{HasTimeFor};
 ghost use Rattle.execlog.specs.Log.{turns};
 
@@ -9,8 +9,8 @@ use execlist::link::LinkSpace;
 use execlog::{Form, LogFault, write_log};
 use execsim::Machine;
 use exectrace::Sink;
+use script::Event;
 use std::alloc::Global;
-use taskscript::Event;
 
 /// Runs a machine that was not started yet over events, and writes its log in a form.
 ///

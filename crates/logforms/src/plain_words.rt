@@ -5,8 +5,9 @@ use crate::page::Page;
 use crate::replay::Replay;
 use crate::values::{push_number, push_word};
 use execlog::{Body, Place};
+use script::{Argument, Command, PlainWord, Variable, Word};
 use std::alloc::{AllocError, Global};
-use taskscript::{Argument, BodyListing, Command, Listing, PlainWord, Variable, Word};
+use taskscript::{BodyListing, Listing};
 
 /// The names of the variables of a body.
 #[derive(Clone, Copy)]

@@ -2,7 +2,7 @@
 //! values.
 
 use execlog::Before;
-use taskscript::{Argument, Command, PlainWord, Variable};
+use script::{Argument, Command, PlainWord, Variable};
 
 /// What the variables hold.
 #[derive(Clone, Copy)]

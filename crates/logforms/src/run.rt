@@ -1,7 +1,8 @@
 //! A run that was read.
 
 use execlog::Book;
-use taskscript::{Events, Listed};
+use script::Events;
+use taskscript::Listed;
 
 /// The texts of a run.
 #[derive(Drop)]

@@ -1,6 +1,6 @@
 //! The command over any words and writers, and on the arguments of its process.
 ghost use Rattle.std.specs.Prelude.{◌≡◌, ◌≤◌, IfOk, false, sum_by};
-ghost use Rattle.taskscript.specs.Events.{ticks as ticks_of};
+ghost use Rattle.script.specs.Events.{ticks as ticks_of};
 ghost use Rattle.execsim.specs.Time.{HasTimeFor};
 ghost use Rattle.execlog.specs.Log.{turns};
 
@@ -19,12 +19,12 @@ use execrun::{SystemTexts, Texts};
 use execsim::Machine;
 use exectrace::WriteSink;
 use logforms::{Json, Run, Words, Written, ends_of, events_up_to, last_number, run_events};
+use script::Event;
 use std::alloc::Global;
 use std::env::Env;
 use std::io::{BufWriter, Write};
 use std::rt::Files;
 use std::{env, io};
-use taskscript::Event;
 
 /// How many bytes are kept before they are handed to standard output.
 const OUTPUT_BUFFER: usize = 65_536;

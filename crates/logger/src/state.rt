@@ -1,6 +1,6 @@
 //! All that a machine shows after some steps, as a page of text.
 ghost use Rattle.std.specs.Prelude.{◌≡◌, ◌≤◌, false, sum_by};
-ghost use Rattle.taskscript.specs.Events.{ticks as ticks_of};
+ghost use Rattle.script.specs.Events.{ticks as ticks_of};
 ghost use Rattle.execsim.specs.Time.{HasTimeFor};
 ghost use Rattle.execlog.specs.Log.{turns};
 
@@ -11,10 +11,10 @@ use execlog::{Actor, Before, Form, Moment, Page};
 use execsim::Machine;
 use exectrace::WriteSink;
 use logforms::{Run, page_of, run_events};
+use script::Event;
 use std::alloc::{AllocError, Global};
 use std::io;
 use std::io::Write;
-use taskscript::Event;
 
 /// A writer that takes all, and keeps nothing.
 #[derive(Clone, Copy, Drop)]

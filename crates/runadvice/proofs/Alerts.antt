@@ -4,7 +4,8 @@ use Rattle.std.specs.Cmp.Lexicographic.{pointwise}
 use Rattle.std.proofs.lemmas.{Bool.Decides.Decides-eqb, Option.none-some, Option.same_Some, Option.slice_get-map, Slice.Eq.strip_suffix_is}
 use Rattle.exectrace.specs.Trace.{printed, printed_line}
 use Rattle.exectrace.specs.Trace as trace
-use Rattle.taskscript.specs.{Commands.CommandData, Commands.command_view, declared.command.Command.Command, File.MachineData, Listings.ListingData, Words.word_text}
+use Rattle.script.specs.{Commands.CommandData, Commands.command_view, declared.command.Command.Command, File.MachineData, Words.word_text}
+use Rattle.taskscript.specs.Listings.{ListingData}
 use Rattle.execmodel.specs.State.{Outcome, Scripts, program_of}
 use Rattle.execsim.specs.{Agreement.Seen, Agreement.Agrees, Readers.task_seen, Readers.task_view}
 use Rattle.runadvice.specs.{Alerts.EndsRun, Alerts.Stops, Going.EndsWith, declared.check.Alert.Alert}

@@ -2,8 +2,8 @@
 use Rattle.std.proofs.Common.{◌≡◌, ℕ, ◌+◌, ◌<◌, List, [], ◌∷◌, ◌++◌, length, take, drop, get_or, refl, ap, sym, inl, inr, ◌∙◌, subst, append-nil, append_assoc, arith, Result, Ok, Err, OnOk, ◌⊎◌, sum_by}
 use Rattle.std.proofs.lemmas.{Grind.flat_map-append, List.take_more, List.Sums.sum_by-drop_more}
 use Rattle.exectrace.specs.{Sink.Tape, Trace.printed, Trace.printed_line}
-use Rattle.taskscript.specs.declared.event.Event.TheVariants.{Run, Tick}
-use Rattle.taskscript.specs.{Events.ticks as ticks_of, File.MachineData, declared.event.Event.Event}
+use Rattle.script.specs.declared.event.Event.TheVariants.{Run, Tick}
+use Rattle.script.specs.{Events.ticks as ticks_of, File.MachineData, declared.event.Event.Event}
 use Rattle.execmodel.specs.{State.State, State.Outcome, State.andthen, State.booted, Step.starts, Step.steps, Step.ticks, Step.event, Step.events, Step.run}
 use Rattle.execmodel.proofs.Moments.{events_more, run_cut, tick_cut}
 use Rattle.execsim.specs.{Agreement.Seen, Agreement.Agrees, Headline.Acts, Headline.Shown, declared.machine.Flow.Flow, Time.HasTimeFor}

@@ -3,7 +3,8 @@ use Rattle.std.specs.Prelude.{◌≡◌, ℕ, List, Option, Some, Ok, option_map
 use Rattle.exectrace.specs.Trace.{printed, printed_line}
 use Rattle.exectrace.specs.Trace as trace
 use Rattle.taskscript.specs.declared.place.Owner.TheVariants.{Task, Softint, Server}
-use Rattle.taskscript.specs.{Commands.CommandData, Events.script_of, File.MachineData, File.TaskData, File.SoftintData, File.ServerData, File.file_of, Listings.BodyListingData, Listings.ListingData, Listings.listing_in, Words.word_text, declared.event.Event.Event, declared.place.Owner.Owner}
+use Rattle.script.specs.{Commands.CommandData, File.MachineData, File.TaskData, File.SoftintData, File.ServerData, Words.word_text, declared.event.Event.Event}
+use Rattle.taskscript.specs.{Events.script_of, File.file_of, Listings.BodyListingData, Listings.ListingData, Listings.listing_in, declared.place.Owner.Owner}
 use Rattle.execmodel.specs.{State.Outcome, State.program_of, Step.run}
 use Rattle.execsim.specs.{Agreement.Seen, Readers.task_seen}
 use Rattle.runadvice.specs.{declared.alert.Refused.Refused, declared.check.Alert.Alert, Going.EndsWith}

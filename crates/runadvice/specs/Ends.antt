@@ -1,6 +1,7 @@
 -- Which runs an alert ends.
 use Rattle.std.specs.Prelude.{Bool, false, List, Result, Ok, Err}
-use Rattle.taskscript.specs.{File.MachineData, declared.event.Event.Event, declared.fault.EventFault.EventFault, declared.fault.FileFault.FileFault}
+use Rattle.script.specs.{File.MachineData, declared.event.Event.Event}
+use Rattle.taskscript.specs.{declared.fault.EventFault.EventFault, declared.fault.FileFault.FileFault}
 use Rattle.execmodel.specs.Step.{run}
 
 -- whether both texts are accepted, and an alert ends their run

@@ -1,7 +1,7 @@
 -- A machine over some events, by what it shows and what it has printed last.
 use Rattle.std.specs.Prelude.{◌≡◌, ℕ, List, ◌++◌}
 use Rattle.exectrace.specs.Trace.{printed}
-use Rattle.taskscript.specs.declared.event.Event.{Event}
+use Rattle.script.specs.declared.event.Event.{Event}
 use Rattle.execmodel.specs.{State.State, Step.events}
 use Rattle.execsim.specs.Agreement.{Seen, Agrees}
 

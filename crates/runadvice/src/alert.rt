@@ -10,8 +10,9 @@ use crate::page::{Spot, name_of};
 use crate::room::Room;
 use crate::scene::Linked;
 use crate::value::{numbers_of, value_of};
+use script::{Command, MachineFile};
 use std::str::from_utf8;
-use taskscript::{Command, MachineFile, Owner};
+use taskscript::Owner;
 
 /// The codes of the alerts.
 const CODES: [&str; 10] = [

@@ -1,12 +1,13 @@
 //! Which bodies of interrupts have run, by the lines that they printed. A body runs straight to its end, so each of its commands that print has
 //! a line, in their order, up to an alert.
 ghost use Rattle.std.specs.Prelude.{◌≡◌, map, option_copied, slice_get, option_map};
-ghost use Rattle.taskscript.specs.Commands.{command_view};
+ghost use Rattle.script.specs.Commands.{command_view};
 ghost use Rattle.runadvice.specs.Alerts.{code_in, command_in};
 
 use crate::page::{Spot, name_of};
 use crate::step::prints;
-use taskscript::{Command, MachineFile, Owner};
+use script::{Command, MachineFile};
+use taskscript::Owner;
 
 /// A body that has begun.
 #[derive(Clone, Copy)]

@@ -16,11 +16,10 @@ use crate::room::Room;
 use crate::running::Running;
 use execlist::link::LinkSpace;
 use execsim::Machine;
+use script::{Events, MachineFile, Word};
 use std::alloc::{AllocError, Global};
 use std::str::from_utf8;
-use taskscript::{
-    EventFault, Events, FileFault, Listed, MachineFile, Word, read_events, read_listed,
-};
+use taskscript::{EventFault, FileFault, Listed, read_events, read_listed};
 
 /// The alert that ended a run.
 #[derive(Clone, Copy)]

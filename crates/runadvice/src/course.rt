@@ -11,10 +11,11 @@ use crate::step::{Site, Turn, When, prints};
 use crate::value::value_of;
 use crate::words::row_of;
 use execsim::Flow;
+use script::{Command, Event, MachineFile, Source, Variable};
 use std::alloc::{AllocError, Global};
 use std::collections::HashMap;
 use std::str::from_utf8;
-use taskscript::{Command, Event, MachineFile, Owner, Source, Variable};
+use taskscript::Owner;
 
 /// How many of the last steps are looked at.
 pub const RECENT: u64 = 1000;

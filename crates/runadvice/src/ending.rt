@@ -8,8 +8,8 @@ use crate::page::{Page, argument_text};
 use crate::rules::Fault;
 use crate::value::variable_at;
 use crate::words::{Flaw, row_of};
+use script::Event;
 use std::alloc::{AllocError, Global};
-use taskscript::Event;
 
 /// When the alert came.
 fn when(alloc: Global, course: &Course<'_>) -> Result<String, AllocError> {

@@ -2,7 +2,7 @@
 //! the end of that run.
 ghost use Rattle.std.specs.Prelude.{◌≡◌, ◌+◌, ◌∷◌, ℕ, [], false, sum_by, OnOk};
 ghost use Rattle.exectrace.specs.{Trace.printed, declared.sinks.SinkState.SinkState};
-ghost use Rattle.taskscript.specs.{Events.ticks as ticks_of, File.MachineData, declared.event.Event.Event};
+ghost use Rattle.script.specs.{Events.ticks as ticks_of, File.MachineData, declared.event.Event.Event};
 ghost use Rattle.execmodel.specs.{State.booted, Step.run as run_of, Step.starts};
 ghost use Rattle.execsim.specs.{Agreement.Agrees, Time.HasTimeFor};
 ghost use Rattle.runadvice.specs.Going.{EndsWith, Goes};
@@ -11,8 +11,8 @@ use crate::course::Course;
 use crate::next::{Next, next_of};
 use crate::room::Room;
 use crate::scene::{Linked, Scene};
+use script::Event;
 use std::alloc::{AllocError, Global};
-use taskscript::Event;
 
 /// A run, as far as it is made.
 #[derive(Drop)]

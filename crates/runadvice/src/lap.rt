@@ -10,8 +10,8 @@ use crate::scene::Linked;
 use crate::snapshot::{memory_shown, tasks_shown};
 use crate::step::{Turn, prints};
 use execsim::Flow;
+use script::{Event, PlainWord, PortWord, Word};
 use std::alloc::{AllocError, Global};
-use taskscript::{Event, PlainWord, PortWord, Word};
 
 /// How often all that the memory shows is compared.
 const MOST_COMPARED: usize = 4;

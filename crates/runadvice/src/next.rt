@@ -3,7 +3,7 @@ ghost use Rattle.std.specs.Prelude.{◌≡◌};
 
 use crate::scene::Linked;
 use crate::step::Turn;
-use taskscript::{Argument, Command, PlainWord, Word};
+use script::{Argument, Command, PlainWord, Word};
 
 /// What the last of some steps is to do.
 #[derive(Clone, Copy)]

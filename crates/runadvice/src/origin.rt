@@ -5,8 +5,9 @@ use crate::page::name_of;
 use crate::step::{Site, when_text};
 use crate::value::held_by;
 use crate::words::row_of;
+use script::{Argument, Command, Variable, Word};
 use std::alloc::{AllocError, Global};
-use taskscript::{Argument, Command, Owner, Variable, Word};
+use taskscript::Owner;
 
 /// What has a body, in words.
 fn kind_of_owner(owner: Owner) -> &'static str {

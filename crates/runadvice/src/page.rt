@@ -4,8 +4,9 @@ ghost use Rattle.taskscript.specs.declared.place.Owner.{Owner};
 ghost use Rattle.runadvice.specs.Alerts.{line_in, name_in};
 
 use execadvice::{Advice, Span, Written, field_span, line_at, line_text, said_by, shown};
+use script::MachineFile;
 use std::alloc::{AllocError, Global};
-use taskscript::{Array, LinePlace, Listed, Listing, MachineFile, Owner};
+use taskscript::{Array, LinePlace, Listed, Listing, Owner};
 use toml::Table;
 
 /// A command of the file.

@@ -3,8 +3,8 @@ ghost use Rattle.std.specs.Prelude.{◌<◌, ◌≤◌};
 
 use crate::next::{Next, Part, Way, way_after};
 use crate::step::{Turn, When};
+use script::{Command, MachineFile, Variable};
 use std::alloc::{AllocError, Global};
-use taskscript::{Command, MachineFile, Variable};
 
 /// The most steps that are done at once of which some may print.
 const LONGEST: u32 = 1000;

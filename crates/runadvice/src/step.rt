@@ -1,7 +1,7 @@
 //! Which command was done, when, and what it set.
 use crate::page::Spot;
+use script::{PlainWord, Word};
 use std::alloc::{AllocError, Global};
-use taskscript::{PlainWord, Word};
 
 /// When something was done in a run.
 #[derive(Clone, Copy)]

@@ -1,7 +1,7 @@
 //! What variables and arguments hold.
 use crate::scene::Linked;
 use execsim::Call;
-use taskscript::{Argument, Command, Variable};
+use script::{Argument, Command, Variable};
 
 /// What a variable holds, as a task sees it; a body of an interrupt has shared variables alone, and no task.
 pub fn held_by(machine: &Linked, task: Option<usize>, variable: Variable) -> u32 {

@@ -2,9 +2,9 @@
 use crate::argument::owner_at;
 use crate::scene::Linked;
 use crate::step::Turn;
+use script::{PortWord, RequestWord, Word};
 use std::alloc::{AllocError, Global};
 use taskq::{TaskState, Why};
-use taskscript::{PortWord, RequestWord, Word};
 
 /// What a call waits for.
 #[derive(Clone, Copy, PartialEq, Eq)]

@@ -3,11 +3,11 @@ use crate::argument::{counted, joined};
 use crate::memory::{blocks_of, queued};
 use crate::scene::{Linked, Scene};
 use execsim::DueTime;
-use std::alloc::{AllocError, Global};
-use taskq::{TaskState, Why};
-use taskscript::{
+use script::{
     Argument, Command, InterruptWord, MachineFile, PortWord, ServerRecord, SignalWord, Source, Word,
 };
+use std::alloc::{AllocError, Global};
+use taskq::{TaskState, Why};
 
 /// How many requests and servers are named at most.
 const MOST_NAMED: usize = 3;

@@ -1,5 +1,5 @@
 //! What each word asks of its arguments, what else is at fault when one is refused, which end an object, and why they answer 0: one row a word.
-use taskscript::{
+use script::{
     LibraryWord, ListWord, MemoryWord, NestingWord, PortWord, RequestWord, SemaphoreWord,
     SignalWord, TaskWord, Word,
 };

@@ -1,6 +1,7 @@
 -- What the program comes to over two texts: its status, and what it writes.
 use Rattle.std.specs.Prelude.{◌≡◌, ℕ, List, Result, Ok, Err}
-use Rattle.taskscript.specs.{File.MachineData, declared.event.Event.Event, declared.fault.FileFault.FileFault, declared.fault.EventFault.EventFault}
+use Rattle.script.specs.{File.MachineData, declared.event.Event.Event}
+use Rattle.taskscript.specs.{declared.fault.FileFault.FileFault, declared.fault.EventFault.EventFault}
 use Rattle.execsim.specs.{declared.simulation.End.End, declared.simulation.SimFault.SimFault}
 use Rattle.execrun.specs.{Ending.code_of, Ending.ending_after, Ending.status_of, Fault.fault_of, Fault.line_of, declared.ending.Ending.Ending}
 use Rattle.runs.specs.Runs.{IsRun, IsFault}

@@ -1,7 +1,8 @@
 -- What a whole run of two texts is: both are read, and it prints the trace of the defined machine over the defined events.
 use Rattle.std.specs.Prelude.{◌≡◌, ℕ, List, Result, Ok, Err}
 use Rattle.exectrace.specs.Trace.{printed}
-use Rattle.taskscript.specs.{File.MachineData, declared.event.Event.Event, declared.fault.FileFault.FileFault, declared.fault.EventFault.EventFault}
+use Rattle.script.specs.{File.MachineData, declared.event.Event.Event}
+use Rattle.taskscript.specs.{declared.fault.FileFault.FileFault, declared.fault.EventFault.EventFault}
 use Rattle.taskscript.specs.declared.fault.FileFault.TheVariants as file_fault
 use Rattle.taskscript.specs.declared.fault.EventFault.TheVariants as event_fault
 use Rattle.execmodel.specs.Step.{run}

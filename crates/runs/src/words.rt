@@ -1,8 +1,8 @@
 //! Prints what a line may have beside a word. After the argument `words` each argument is the text of a word; its row has the text,
 //! `answers` or `silent`, and the kinds of the word's arguments from left to right.
+use script::{Kind, Word, word_of};
 use std::process::ExitCode;
 use std::{env, io};
-use taskscript::{Kind, Word, word_of};
 
 /// The argument before the texts.
 const WORD: &str = "words";

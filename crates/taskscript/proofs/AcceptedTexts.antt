@@ -2,8 +2,10 @@
 use Rattle.std.proofs.Common.{◌≡◌, ℕ, ◌+◌, ◌≤◌, All, if◌then◌else◌, Bool, true, false, List, [], ◌∷◌, ◌++◌, length, Option, Some, None, Ok, refl, subst, append_assoc, arith, append-nil}
 use Rattle.std.proofs.lemmas.{Bool.Decides.nat_tests, List.Elements.All-nil}
 use Rattle.toml.specs.Data.{Members}
-use Rattle.taskscript.specs.Events.{event_of, is_skipped, events_of, is_within, fault_by, event_line_faults, event_faults as line_by_line, text_lines, script_of, turns, AreWithin}
-use Rattle.taskscript.specs.{declared.event.Event.Event, declared.fault.EventFault.EventFault, declared.fault.EventFault.TheVariants.TooMany, declared.refused.Refused.Refused, File.MachineData, File.refusals, File.machine_of, File.placed_file_of_document, File.placed_file_of, File.file_of, Machines.IsMachine, Places.without_place, Tree.document_of}
+use Rattle.script.specs.Events.{is_within, turns, AreWithin}
+use Rattle.taskscript.specs.Events.{event_of, is_skipped, events_of, fault_by, event_line_faults, event_faults as line_by_line, text_lines, script_of}
+use Rattle.script.specs.{declared.event.Event.Event, File.MachineData, Machines.IsMachine}
+use Rattle.taskscript.specs.{declared.fault.EventFault.EventFault, declared.fault.EventFault.TheVariants.TooMany, declared.refused.Refused.Refused, File.refusals, File.machine_of, File.placed_file_of_document, File.placed_file_of, File.file_of, Places.without_place, Tree.document_of}
 use Rattle.execlist.specs.{Order.first, Answers.fault_or}
 use Rattle.taskscript.proofs.{EventSizes.events_some, EventTurns.events_push, Firsts.first_left, Firsts.first_right, Machines.machine_holds}
 

@@ -2,7 +2,8 @@
 use Rattle.std.proofs.Common.{◌≡◌, ℕ, suc, ◌+◌, ◌<◌, ◌≤◌, List, [], ◌∷◌, ◌++◌, length, get_or, drop, map, Option, Some, None, refl, sym, ap, ◌∙◌, arith, append_assoc, Bor, append-nil, drop_of_length-le}
 use Rattle.std.proofs.lemmas.List.{drop_more, length-map}
 use Rattle.std.proofs.Math.ListN.{get_or-map as default_map}
-use Rattle.taskscript.specs.{declared.word.row.Kind.TheVariants.Value, declared.word.row.Kind.Kind, Lines.NamedArgumentData, Parsing.◌>>=◌, Parsing.argument_of, Parsing.arguments_of}
+use Rattle.script.specs.{declared.word.row.Kind.TheVariants.Value, declared.word.row.Kind.Kind}
+use Rattle.taskscript.specs.{Lines.NamedArgumentData, Parsing.◌>>=◌, Parsing.argument_of, Parsing.arguments_of}
 
 none_after : {A B : Type 0} (o : Option A) (f : A → Option B) → ((x : A) → f x ≡ None) → (o >>= f) ≡ None
 none_after None f h = refl

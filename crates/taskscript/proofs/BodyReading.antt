@@ -8,8 +8,9 @@ use Rattle.toml.proofs.Views.{items_view-drop}
 use Rattle.taskscript.specs.declared.fault.FileFault.TheVariants.{BadCommand, NotInInterrupt, BadLabel, TooMany}
 use Rattle.taskscript.specs.Numbering.{Names, names_after, variable_in, is_within, argument_in, command_in, variables_of, labels_of_arguments, have_room}
 use Rattle.taskscript.specs.Code.{line_in, lines_in, command_said, label_said, commands_of, labels_of, is_label_of, place_of, names_of, line_faults, lines_faults, jump_faults, jumps_said, jumps_faults, body_faults, code_of, shared_after}
-use Rattle.taskscript.specs.{declared.command.Command.Command, declared.fault.FileFault.FileFault, Commands.ArgumentData, Commands.CommandData, Commands.command_view, Faults.check, Faults.Judges, Interrupting.Setting, Interrupting.may_stand, Interrupting.names_softints, Labels.Mark, Labels.place_in, Labels.place_at, Labels.are_marked, Labels.jump_faults_in, Labels.jumps_faults_in, Lines.NamedVariableData, Lines.NamedArgumentData, Lines.number, Lines.variable, Lines.label, Lines.quoted, Lines.NamedCommandData, Lines.LineData, Lines.label_line, Lines.command_line, declared.place.Owner.Owner, declared.refused.Refused.Refused, Listings.number_said, Listings.command_lines_from, Listings.command_lines, Meaning.says, Places.at, Places.line_at, Places.refused, Bodies.Reading, Bodies.nothing_read, Bodies.reading_with, Bodies.reading_after, Bodies.said_faults, Bodies.faults_after}
-use Rattle.taskscript.specs.Commands as numbered
+use Rattle.script.specs.{declared.command.Command.Command, Commands.ArgumentData, Commands.CommandData, Commands.command_view}
+use Rattle.taskscript.specs.{declared.fault.FileFault.FileFault, Faults.check, Faults.Judges, Interrupting.Setting, Interrupting.may_stand, Interrupting.names_softints, Labels.Mark, Labels.place_in, Labels.place_at, Labels.are_marked, Labels.jump_faults_in, Labels.jumps_faults_in, Lines.NamedVariableData, Lines.NamedArgumentData, Lines.number, Lines.variable, Lines.label, Lines.quoted, Lines.NamedCommandData, Lines.LineData, Lines.label_line, Lines.command_line, declared.place.Owner.Owner, declared.refused.Refused.Refused, Listings.number_said, Listings.command_lines_from, Listings.command_lines, Meaning.says, Places.at, Places.line_at, Places.refused, Bodies.Reading, Bodies.nothing_read, Bodies.reading_with, Bodies.reading_after, Bodies.said_faults, Bodies.faults_after}
+use Rattle.script.specs.Commands as numbered
 use Rattle.execlist.specs.Order.{first}
 use Rattle.taskscript.proofs.{Firsts.first_none, Firsts.first_some, Firsts.first_left, Firsts.first_right, Firsts.at_none, Firsts.at_some, Firsts.none_at, FirstSight.room_whole, Turns.names_after-append}
 

@@ -4,10 +4,11 @@ use Rattle.std.specs.List.{cons_option}
 use Rattle.std.proofs.lemmas.List.Elements.{All-nil, All-cons, All-head, All-tail, All-map, All-weaker}
 use Rattle.std.proofs.lemmas.{Bool.and_parts, Bool.Decides.nat_tests, List.length-map, List.Folds.list_all-append}
 use Rattle.taskscript.specs.declared.fault.FileFault.TheVariants.{BadCommand, NotInInterrupt, TooMany}
-use Rattle.taskscript.specs.declared.variable.Variable.TheVariants.{Private, Shared}
+use Rattle.script.specs.declared.variable.Variable.TheVariants.{Private, Shared}
 use Rattle.taskscript.specs.Numbering.{Names, variable_in, argument_in, command_in, is_within, variables_of_target, variables_of_arguments, variables_of}
-use Rattle.taskscript.specs.{declared.fault.FileFault.FileFault, declared.variable.Variable.Variable, Commands.CommandData, Commands.VariableFits, Commands.ArgumentFits, Commands.CommandFits, Faults.check, Interrupting.Setting, Interrupting.may_stand, Interrupting.names_softints, Lines.NamedVariableData, Lines.NamedArgumentData, Lines.number, Lines.variable, Lines.label, Lines.quoted, Lines.NamedCommandData, Lines.LineData, Lines.label_line, Lines.command_line, Code.command_said, Code.commands_of, Code.labels_of, Code.place_of, Code.names_of, Code.line_faults, Code.lines_faults, Code.jumps_faults, Code.body_faults, Code.code_of, declared.place.Owner.Owner, Meaning.says, Places.at, Places.line_at}
-use Rattle.taskscript.specs.Commands as numbered
+use Rattle.script.specs.{declared.variable.Variable.Variable, Commands.CommandData, Commands.VariableFits, Commands.ArgumentFits, Commands.CommandFits}
+use Rattle.taskscript.specs.{declared.fault.FileFault.FileFault, Faults.check, Interrupting.Setting, Interrupting.may_stand, Interrupting.names_softints, Lines.NamedVariableData, Lines.NamedArgumentData, Lines.number, Lines.variable, Lines.label, Lines.quoted, Lines.NamedCommandData, Lines.LineData, Lines.label_line, Lines.command_line, Code.command_said, Code.commands_of, Code.labels_of, Code.place_of, Code.names_of, Code.line_faults, Code.lines_faults, Code.jumps_faults, Code.body_faults, Code.code_of, declared.place.Owner.Owner, Meaning.says, Places.at, Places.line_at}
+use Rattle.script.specs.Commands as numbered
 use Rattle.execlist.specs.Order.{first}
 use Rattle.taskscript.proofs.{Firsts.first_left, Firsts.first_right, Firsts.none_at, FirstSight.all_within}
 

@@ -3,8 +3,10 @@ use Rattle.std.proofs.Common.{◌≡◌, ℕ, ◌+◌, ◌≤◌, ◌<◌, Bool,
 use Rattle.std.proofs.lemmas.{List.drop_more, List.take_more, List.length-map, List.length_push, List.Sums.sum_by_push, Bool.Decides.nat_tests}
 use Rattle.std.proofs.Math.ListN.{get_or-map as default_map}
 use Rattle.taskscript.specs.declared.fault.EventFault.TheVariants.{BadLine, TooMany, OutOfMemory}
-use Rattle.taskscript.specs.Events.{event_of, is_skipped, events_on, events_of, steps, ticks, are_within, is_within, event_line_faults, event_faults, text_lines, script_of, JudgesLines, AreWithin}
-use Rattle.taskscript.specs.{declared.event.Event.Event, declared.fault.EventFault.EventFault}
+use Rattle.script.specs.Events.{steps, ticks, are_within, is_within, AreWithin}
+use Rattle.taskscript.specs.Events.{event_of, is_skipped, events_on, events_of, event_line_faults, event_faults, text_lines, script_of, JudgesLines}
+use Rattle.script.specs.declared.event.Event.{Event}
+use Rattle.taskscript.specs.declared.fault.EventFault.{EventFault}
 use Rattle.execlist.specs.Order.{first}
 use Rattle.taskscript.proofs.EventSizes.{events_some}
 

@@ -2,9 +2,10 @@
 use Rattle.std.proofs.Common.{◌≡◌, ℕ, ◌+◌, Bool, true, false, not, ◌&&◌, ◌||◌, cond, List, [], ◌∷◌, ◌++◌, bytes_eq, inl, inr, refl, sym, ap, ◌∙◌}
 use Rattle.std.specs.List.{list_any, list_all}
 use Rattle.std.proofs.lemmas.{Bool.cases_Bool, Slice.Eq.bytes_eq-Decides}
-use Rattle.taskscript.specs.declared.variable.Variable.TheVariants.{Private, Shared}
+use Rattle.script.specs.declared.variable.Variable.TheVariants.{Private, Shared}
 use Rattle.taskscript.specs.Numbering.{seen_after, number_in, Names, names_with, names_after, variable_in, is_within, have_room}
-use Rattle.taskscript.specs.{declared.variable.Variable.Variable, Lines.NamedVariableData}
+use Rattle.script.specs.declared.variable.Variable.{Variable}
+use Rattle.taskscript.specs.Lines.{NamedVariableData}
 
 -- a name among those seen
 abbrev pub is_among : List (List ℕ) → List ℕ → Bool

@@ -2,7 +2,8 @@
 use Rattle.std.proofs.Common.{◌≡◌, ℕ, List, [], map, All, None, sym, ap, subst, ◌∙◌, slice_index_or}
 use Rattle.std.proofs.lemmas.List.Elements.{All-map, All-weaker}
 use Rattle.execlist.specs.Order.{first}
-use Rattle.taskscript.specs.{declared.place.Owner.Owner, Commands.CommandData, Commands.CommandFits, Interrupting.Setting, Labels.place_at, Machines.QuotesOnce, Numbering.command_in, Code.commands_of, Code.names_of, Bodies.Reading, Bodies.nothing_read, Bodies.reading_after, Bodies.faults_after}
+use Rattle.script.specs.{Commands.CommandData, Commands.CommandFits, Machines.QuotesOnce}
+use Rattle.taskscript.specs.{declared.place.Owner.Owner, Interrupting.Setting, Labels.place_at, Numbering.command_in, Code.commands_of, Code.names_of, Bodies.Reading, Bodies.nothing_read, Bodies.reading_after, Bodies.faults_after}
 use Rattle.taskscript.proofs.{BodyReading.body_read, BodyReading.lines_judged, BodyReading.marks_from, CodeLaws.Stands, CodeLaws.command_fits, CodeLaws.lines_stand, OneName.once, OwnArguments.lines_have}
 
 -- the commands of what was read, with numbers and places for their names

@@ -3,9 +3,10 @@
 use Rattle.std.proofs.Common.{◌≡◌, ℕ, Bool, true, bytes_eq, List, [], ◌∷◌, ◌++◌, map, All, Option, Some, None, IfSome, option_map, refl, ap, ◌∙◌}
 use Rattle.std.specs.List.{list_all, list_any, cons_option}
 use Rattle.std.proofs.lemmas.{Bool.and_parts, List.Elements.All-nil, List.Elements.All-cons}
-use Rattle.taskscript.specs.declared.word.row.Kind.TheVariants.{Value, Label, Name, NameOrNone, Softint}
-use Rattle.taskscript.specs.{declared.word.row.Kind.Kind, Commands.ArgumentData, declared.place.Owner.Owner, Code.body_faults, Code.code_of, Interrupting.Setting, Interrupting.is_of_interrupt, Interrupting.softint_named, Interrupting.softints_among, Lines.NamedVariableData, Lines.NamedArgumentData, Lines.number, Lines.variable, Lines.label, Lines.quoted, Lines.NamedCommandData, Machines.IsShared, Machines.ReadsShared, Machines.IsOfInterrupt, Machines.softint_asked, Machines.softints_named, Machines.NamesSoftints, Numbering.Names, Numbering.variable_in, Numbering.argument_in, Numbering.command_in, Numbering.variables_of_target, Numbering.variables_of_arguments, Words.kinds}
-use Rattle.taskscript.specs.Commands as numbered
+use Rattle.script.specs.declared.word.row.Kind.TheVariants.{Value, Label, Name, NameOrNone, Softint}
+use Rattle.script.specs.{declared.word.row.Kind.Kind, Commands.ArgumentData, Machines.IsShared, Machines.ReadsShared, Machines.IsOfInterrupt, Machines.softint_asked, Machines.softints_named, Machines.NamesSoftints, Words.kinds}
+use Rattle.taskscript.specs.{declared.place.Owner.Owner, Code.body_faults, Code.code_of, Interrupting.Setting, Interrupting.is_of_interrupt, Interrupting.softint_named, Interrupting.softints_among, Lines.NamedVariableData, Lines.NamedArgumentData, Lines.number, Lines.variable, Lines.label, Lines.quoted, Lines.NamedCommandData, Numbering.Names, Numbering.variable_in, Numbering.argument_in, Numbering.command_in, Numbering.variables_of_target, Numbering.variables_of_arguments}
+use Rattle.script.specs.Commands as numbered
 use Rattle.execlist.specs.Order.{first}
 use Rattle.taskscript.proofs.CodeLaws.{each_command}
 

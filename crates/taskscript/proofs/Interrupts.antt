@@ -1,5 +1,5 @@
 -- What a body of an interrupt may have, and the software interrupts that a command names, one argument after another.
-use Rattle.std.proofs.Common.{◌≡◌, ℕ, ◌+◌, Bool, ◌&&◌, bytes_eq, List, [], ◌∷◌, ◌++◌, map, Option, option_map, refl, ap, ◌∙◌}
+use Rattle.std.proofs.Common.{◌≡◌, ℕ, Bool, ◌&&◌, bytes_eq, List, [], ◌∷◌, ◌++◌, map, Option, option_map, refl, ap, ◌∙◌}
 use Rattle.std.specs.List.{list_all, list_any}
 use Rattle.std.proofs.lemmas.List.Folds.{list_all-append}
 use Rattle.taskscript.specs.{declared.named.NamedArgument.NamedArgument, declared.variable.NamedVariable.NamedVariable, Interrupting.is_open, Lines.NamedVariableData, Lines.named_variable_view, Lines.named_argument_view, Numbering.variables_of_target, Numbering.variables_of_arguments}

@@ -2,7 +2,8 @@
 use Rattle.std.proofs.Common.{◌≡◌, ℕ, zero, suc, ◌≤◌, List, [], ◌∷◌, length, map, take, All, Option, Some, None, arith}
 use Rattle.std.specs.List.{position_or_len, cons_option}
 use Rattle.std.proofs.lemmas.{List.length-map, List.Elements.All-nil, List.Elements.All-cons}
-use Rattle.taskscript.specs.{Code.command_said, Code.commands_of, Code.is_label_of, Code.place_of, Code.names_of, Code.code_of, Meaning.says, Lines.NamedArgumentData, Lines.number, Lines.variable, Lines.label, Lines.quoted, Lines.NamedCommandData, Machines.JumpFits, Machines.JumpsFit, Numbering.Names, Numbering.argument_in, Numbering.command_in}
+use Rattle.script.specs.{Machines.JumpFits, Machines.JumpsFit}
+use Rattle.taskscript.specs.{Code.command_said, Code.commands_of, Code.is_label_of, Code.place_of, Code.names_of, Code.code_of, Meaning.says, Lines.NamedArgumentData, Lines.number, Lines.variable, Lines.label, Lines.quoted, Lines.NamedCommandData, Numbering.Names, Numbering.argument_in, Numbering.command_in}
 
 count_same : (o : Option NamedCommandData) (fewer more : List NamedCommandData) → length fewer ≤ length more → length (cons_option o fewer) ≤ length (cons_option o more)
 count_same None fewer more h = h

@@ -27,5 +27,4 @@ pub mod Readings
 pub mod Resolved
 pub mod Turns
 pub mod Whole
-pub mod WordGroups
 pub mod Worked

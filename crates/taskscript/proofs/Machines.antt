@@ -8,10 +8,12 @@ use Rattle.toml.specs.Data.{Data, string, integer, float, boolean, datetime, arr
 use Rattle.taskscript.specs.declared.fault.FileFault.TheVariants.{UnknownKey, BadValue, NameTwice, BadRegions, TooMany}
 use Rattle.taskscript.specs.declared.place.Owner.TheVariants.{Softint, Server, Task}
 use Rattle.taskscript.specs.declared.place.TablePlace.TheVariants.{Top, Item}
-use Rattle.taskscript.specs.File.{Judge, LibraryData, SoftintData, ServerData, TaskData, top_keys, library_keys, softint_keys, server_keys, task_keys, name_of, library_faults, softint_faults, server_faults, task_faults, named_faults, named_item_faults, item_names, libraries_in, libraries_faults, library_of, softints_in, servers_in, tasks_in, code_lines, setting_of, bodies_faults, with_bodies, shared_after_softints, shared_after_servers, names_before_servers, names_before_tasks, both_passes_faults, refusals, region_item_faults, regions_faults, regions_in, total_of, version_of, quantum_of, tick_micros_of, pool_of, settings_faults, softint_of, softints_of, server_of, servers_of, task_of, tasks_of, MachineData, machine_of}
-use Rattle.taskscript.specs.Machines.{IsCode, IsSoftintPri, IsLibrary, IsSoftint, IsServer, IsTask, IsMachine, library_names, softint_names, server_names, task_names}
+use Rattle.script.specs.File.{LibraryData, SoftintData, ServerData, TaskData, total_of, MachineData}
+use Rattle.taskscript.specs.File.{Judge, top_keys, library_keys, softint_keys, server_keys, task_keys, name_of, library_faults, softint_faults, server_faults, task_faults, named_faults, named_item_faults, item_names, libraries_in, libraries_faults, library_of, softints_in, servers_in, tasks_in, code_lines, setting_of, bodies_faults, with_bodies, shared_after_softints, shared_after_servers, names_before_servers, names_before_tasks, both_passes_faults, refusals, region_item_faults, regions_faults, regions_in, version_of, quantum_of, tick_micros_of, pool_of, settings_faults, softint_of, softints_of, server_of, servers_of, task_of, tasks_of, machine_of}
+use Rattle.script.specs.Machines.{IsCode, IsSoftintPri, IsLibrary, IsSoftint, IsServer, IsTask, IsMachine, library_names, softint_names, server_names, task_names}
 use Rattle.taskscript.specs.Tree.{required, optional, table_faults, keys_are_among, integer_faults, pri_faults, is_softint_pri, softint_pri_faults, source_faults, boolean_faults, name_faults, count_items, array_faults, are_strings, code_faults, integer_or, number_or, items_faults, of_items, string_or_nothing, items_or_none, members_or_none}
-use Rattle.taskscript.specs.{declared.fault.FileFault.FileFault, declared.place.Array.Array, declared.place.Owner.Owner, declared.place.Place.Place, declared.place.TablePlace.TablePlace, declared.refused.Refused.Refused, Places.array_at, Places.at, Places.item_at, Places.key_at, Places.limit, Places.unknown_key_at, Code.lines_in, Code.body_faults, Code.code_of, Code.shared_after, Faults.check, Interrupting.Setting, Names.is_name}
+use Rattle.script.specs.Names.{is_name}
+use Rattle.taskscript.specs.{declared.fault.FileFault.FileFault, declared.place.Array.Array, declared.place.Owner.Owner, declared.place.Place.Place, declared.place.TablePlace.TablePlace, declared.refused.Refused.Refused, Places.array_at, Places.at, Places.item_at, Places.key_at, Places.limit, Places.unknown_key_at, Code.lines_in, Code.body_faults, Code.code_of, Code.shared_after, Faults.check, Interrupting.Setting}
 use Rattle.taskscript.specs.declared.place.Array.TheVariants as arrays
 use Rattle.taskscript.specs.declared.place.Key.TheVariants as key
 use Rattle.execlist.specs.Order.{first}

@@ -3,7 +3,8 @@ use Rattle.std.proofs.Common.{◌≡◌, ℕ, suc, ◌+◌, ◌≤◌, arith, Bo
 use Rattle.std.specs.List.{list_any, position_or_len}
 use Rattle.std.proofs.lemmas.{Bool.Decides.nat_tests, List.map_push, Option.same_Some}
 use Rattle.arrayvec.specs.ArrayString.{ArrayString}
-use Rattle.taskscript.specs.Numbering.{seen_after, number_in, texts}
+use Rattle.script.specs.Names.{texts}
+use Rattle.taskscript.specs.Numbering.{seen_after, number_in}
 
 abbrev pub is : List ℕ → ArrayString → Bool
 is n k = bytes_eq n k.bytes

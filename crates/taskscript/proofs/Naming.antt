@@ -2,7 +2,7 @@
 use Rattle.std.proofs.Common.{◌≡◌, ℕ, ◌+◌, ◌<◌, ◌≤◌, arith, if◌then◌else◌, List, [], ◌∷◌, All, length, map, get_or, refl, sym, subst, ap, ◌∙◌, count_by}
 use Rattle.std.proofs.lemmas.{List.length-map, List.Elements.All-nil, List.Elements.All-cons, List.Sums.sum_by-cons}
 use Rattle.std.proofs.Math.ListN.{get_or-map as default_map}
-use Rattle.taskscript.specs.{Commands.ArgumentData, Commands.number, Commands.variable, Commands.quoted, Commands.place, Commands.IsNamed, Commands.first_name, Machines.is_quoted}
+use Rattle.script.specs.{Commands.ArgumentData, Commands.number, Commands.variable, Commands.quoted, Commands.place, Commands.IsNamed, Commands.first_name, Machines.is_quoted}
 
 -- one that is no name adds nothing to the count, and a name adds one
 count_more : (a : ArgumentData) (others : List ArgumentData) (n : ℕ) → count_by is_quoted (a ∷ others) ≤ n → count_by is_quoted others ≤ n

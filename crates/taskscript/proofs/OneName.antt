@@ -1,8 +1,9 @@
 -- At most one argument of a command is a name, since a command has its word's arguments and no word has two places for a name.
-use Rattle.std.proofs.Common.{ℕ, ◌+◌, ◌≡◌, ◌≤◌, arith, lit≤, Bool, true, false, if◌then◌else◌, List, [], ◌∷◌, All, count_by, slice_index_or}
+use Rattle.std.proofs.Common.{ℕ, ◌+◌, ◌≡◌, ◌≤◌, arith, lit≤, Bool, if◌then◌else◌, List, [], ◌∷◌, All, count_by, slice_index_or}
 use Rattle.std.proofs.lemmas.List.Sums.{sum_by-cons}
-use Rattle.taskscript.specs.declared.word.row.Kind.TheVariants.{Value, Label, Name, NameOrNone, Softint}
-use Rattle.taskscript.specs.{declared.word.Word.Word, declared.word.row.Kind.Kind, Commands.ArgumentData, Commands.number, Commands.variable, Commands.quoted, Commands.place, Commands.CommandData, Words.kinds, WordTable.may_be_name, WordTable.one_name, Machines.IsOfKind, Machines.AreOfKinds, Machines.HasItsArguments, Machines.is_quoted, Machines.QuotesOnce, Code.code_of}
+use Rattle.script.specs.declared.word.row.Kind.TheVariants.{Value, Label, Name, NameOrNone, Softint}
+use Rattle.script.specs.{declared.word.row.Kind.Kind, Commands.ArgumentData, Commands.number, Commands.variable, Commands.quoted, Commands.place, Commands.CommandData, Words.kinds, WordTable.may_be_name, WordTable.one_name, Machines.IsOfKind, Machines.AreOfKinds, Machines.HasItsArguments, Machines.is_quoted, Machines.QuotesOnce}
+use Rattle.taskscript.specs.Code.{code_of}
 use Rattle.taskscript.proofs.OwnArguments.{commands_have}
 
 -- the count of a first one and the others

@@ -2,8 +2,9 @@
 use Rattle.std.proofs.Common.{◌≡◌, ℕ, List, [], ◌∷◌, map, All, Option, Some, None, refl}
 use Rattle.std.specs.List.{cons_option}
 use Rattle.std.proofs.lemmas.List.Elements.{All-nil, All-cons}
-use Rattle.taskscript.specs.declared.word.row.Kind.TheVariants.{Value, Label, Name, NameOrNone, Softint}
-use Rattle.taskscript.specs.{declared.word.row.Kind.Kind, Code.command_said, Code.commands_of, Code.place_of, Code.names_of, Code.code_of, Lines.fields, Lines.NamedArgumentData, Lines.variable, Lines.number, Lines.label, Lines.quoted, Lines.NamedCommandData, Lines.LineData, Lines.label_line, Lines.command_line, Machines.IsOfKind, Machines.AreOfKinds, Machines.HasItsArguments, Meaning.says, Numbering.Names, Numbering.argument_in, Numbering.command_in, Says.IsArgument, Says.AreArguments, Says.IsLine, Words.kinds}
+use Rattle.script.specs.declared.word.row.Kind.TheVariants.{Value, Label, Name, NameOrNone, Softint}
+use Rattle.script.specs.{declared.word.row.Kind.Kind, Machines.IsOfKind, Machines.AreOfKinds, Machines.HasItsArguments, Words.kinds}
+use Rattle.taskscript.specs.{Code.command_said, Code.commands_of, Code.place_of, Code.names_of, Code.code_of, Lines.fields, Lines.NamedArgumentData, Lines.variable, Lines.number, Lines.label, Lines.quoted, Lines.NamedCommandData, Lines.LineData, Lines.label_line, Lines.command_line, Meaning.says, Numbering.Names, Numbering.argument_in, Numbering.command_in, Says.IsArgument, Says.AreArguments, Says.IsLine}
 use Rattle.taskscript.proofs.Readings.{is_said}
 
 argument_kind : (names : Names) (places : List ℕ → ℕ) (k : Kind) (f : List ℕ) (a : NamedArgumentData) → IsArgument k f a → IsOfKind k (argument_in names places a)

@@ -6,7 +6,8 @@ use Rattle.toml.specs.declared.value.Value.{Value}
 use Rattle.toml.specs.View.{view, items_view}
 use Rattle.toml.specs.Data.{Data, Items, no_items, item}
 use Rattle.toml.proofs.Views.{items_view-drop}
-use Rattle.taskscript.specs.{declared.place.Array.Array, declared.place.Owner.Owner, declared.refused.Refused.Refused, Code.body_faults, Code.shared_after, Faults.IsFirst, File.Judge, File.name_of, File.named_faults, File.named_item_faults, File.item_names, File.code_lines, File.bodies_faults, File.shared_after_bodies, File.with_bodies, Interrupting.Setting, Numbering.texts, Tree.of_items, Tree.count_items}
+use Rattle.script.specs.Names.{texts}
+use Rattle.taskscript.specs.{declared.place.Array.Array, declared.place.Owner.Owner, declared.refused.Refused.Refused, Code.body_faults, Code.shared_after, Faults.IsFirst, File.Judge, File.name_of, File.named_faults, File.named_item_faults, File.item_names, File.code_lines, File.bodies_faults, File.shared_after_bodies, File.with_bodies, Interrupting.Setting, Tree.of_items, Tree.count_items}
 use Rattle.execlist.specs.Order.{first}
 use Rattle.taskscript.proofs.{Firsts.first_none, Firsts.first_some, Keys.count_items_view}
 

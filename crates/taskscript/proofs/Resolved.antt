@@ -2,7 +2,8 @@
 use Rattle.std.proofs.Common.{◌≡◌, ℕ, ◌+◌, ◌<◌, ◌≤◌, Bool, true, false, ◌&&◌, List, [], ◌∷◌, ◌++◌, length, map, drop, take, get_or, Option, Some, All, arith, refl, ap, sym, subst, ◌∙◌, append_assoc, is_some, count_by, append-nil, set}
 use Rattle.std.proofs.lemmas.List.{drop_all, drop_more, take_more_set, map_push}
 use Rattle.arrayvec.specs.ArrayString.{ArrayString as Name}
-use Rattle.taskscript.specs.{declared.command.Argument.Argument, declared.fault.FileFault.FileFault, declared.fault.FileFault.TheVariants.BadLabel, declared.named.NamedArgument.NamedArgument, declared.named.NamedCommand.NamedCommand, declared.variable.Variable.Variable, declared.word.Word.Word, Commands.ArgumentData, Commands.CommandData, Commands.argument_view, Commands.IsNamed, Commands.first_name, declared.place.Owner.Owner, declared.refused.Refused.Refused, Faults.check, Places.at, Places.line_at, Places.refused, Labels.Mark, Labels.place_in, Labels.are_marked, Labels.jump_faults_in, Labels.jumps_faults_in, Lines.NamedArgumentData, Lines.number, Lines.variable, Lines.label, Lines.quoted, Lines.NamedCommandData, Lines.named_argument_view, Lines.named_command_view, Numbering.Names, Numbering.argument_in, Numbering.labels_of_arguments, Machines.is_quoted}
+use Rattle.script.specs.{declared.command.Argument.Argument, declared.variable.Variable.Variable, declared.word.Word.Word, Commands.ArgumentData, Commands.CommandData, Commands.argument_view, Commands.IsNamed, Commands.first_name, Machines.is_quoted}
+use Rattle.taskscript.specs.{declared.fault.FileFault.FileFault, declared.fault.FileFault.TheVariants.BadLabel, declared.named.NamedArgument.NamedArgument, declared.named.NamedCommand.NamedCommand, declared.place.Owner.Owner, declared.refused.Refused.Refused, Faults.check, Places.at, Places.line_at, Places.refused, Labels.Mark, Labels.place_in, Labels.are_marked, Labels.jump_faults_in, Labels.jumps_faults_in, Lines.NamedArgumentData, Lines.number, Lines.variable, Lines.label, Lines.quoted, Lines.NamedCommandData, Lines.named_argument_view, Lines.named_command_view, Numbering.Names, Numbering.argument_in, Numbering.labels_of_arguments}
 use Rattle.taskscript.specs.declared.named.NamedArgument.TheVariants as named
 use Rattle.execlist.specs.Order.{first}
 use Rattle.taskscript.proofs.{Firsts.first_none, Firsts.first_some, Naming.first_named}

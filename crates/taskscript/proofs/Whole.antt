@@ -1,7 +1,8 @@
 -- A whole file: what a tree without faults gives, and what a file that is refused has.
 use Rattle.std.proofs.Common.{◌≡◌, ℕ, List, Some, option_map, Result, Ok, Err, sym, ap, ◌∙◌, IfOk, MatchResult}
 use Rattle.toml.specs.Data.{Members}
-use Rattle.taskscript.specs.{declared.fault.FileFault.TheVariants.OutOfMemory, declared.listing.Listed.Listed, declared.refused.Refused.Refused, Faults.Judges, File.MachineData, File.refusals, File.machine_of, File.placed_file_of_document, File.placed_file_of, File.file_of, Listings.listing_in, Listings.listing_of, Places.without_place, Records.DocumentFault, Tree.document_of}
+use Rattle.script.specs.File.{MachineData}
+use Rattle.taskscript.specs.{declared.fault.FileFault.TheVariants.OutOfMemory, declared.listing.Listed.Listed, declared.refused.Refused.Refused, Faults.Judges, File.refusals, File.machine_of, File.placed_file_of_document, File.placed_file_of, File.file_of, Listings.listing_in, Listings.listing_of, Places.without_place, Records.DocumentFault, Tree.document_of}
 use Rattle.execlist.specs.Answers.{fault_or}
 
 pub refused : (bytes : List ℕ) (r : Refused) → DocumentFault r bytes → ¬ (r.fault ≡ OutOfMemory) → placed_file_of bytes ≡ Err r

@@ -5,7 +5,8 @@ use Rattle.std.specs.Str.{is_utf8, chars}
 use Rattle.toml.proofs.OnLiterals.{toml_on_literals}
 use Rattle.taskscript.specs.declared.fault.EventFault.TheVariants.{BadLine, TooMany}
 use Rattle.taskscript.specs.declared.fault.FileFault.TheVariants.{UnknownKey, MissingKey}
-use Rattle.taskscript.specs.{declared.event.Event.TheVariants.Run, Events.event_of, Events.script_of, declared.place.TablePlace.TheVariants.Item, File.file_of, File.placed_file_of, Places.key_at, Places.refused}
+use Rattle.script.specs.declared.event.Event.TheVariants.{Run}
+use Rattle.taskscript.specs.{Events.event_of, Events.script_of, declared.place.TablePlace.TheVariants.Item, File.file_of, File.placed_file_of, Places.key_at, Places.refused}
 use Rattle.taskscript.specs.declared.place.Array.TheVariants as array
 use Rattle.taskscript.specs.declared.place.Key.TheVariants as key
 

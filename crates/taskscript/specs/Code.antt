@@ -4,7 +4,8 @@ use Rattle.std.specs.{List.list_all, List.list_any, List.before_first, Option.op
 use Rattle.toml.specs.Data.{Data, string, Items, no_items, item as an_item}
 use Rattle.taskscript.specs.declared.fault.FileFault.TheVariants.{BadCommand, NotInInterrupt, BadLabel, TooMany}
 use Rattle.taskscript.specs.Numbering.{Names, names_after, variable_in, command_in, is_within, variables_of, labels_of_arguments}
-use Rattle.taskscript.specs.{declared.fault.FileFault.FileFault, declared.place.Owner.Owner, declared.refused.Refused.Refused, Commands.CommandData, Places.at, Places.line_at, Faults.check, Lines.NamedCommandData, Lines.LineData, Lines.label_line, Lines.command_line, Interrupting.Setting, Interrupting.may_stand, Interrupting.names_softints, Meaning.says}
+use Rattle.script.specs.Commands.{CommandData}
+use Rattle.taskscript.specs.{declared.fault.FileFault.FileFault, declared.place.Owner.Owner, declared.refused.Refused.Refused, Places.at, Places.line_at, Faults.check, Lines.NamedCommandData, Lines.LineData, Lines.label_line, Lines.command_line, Interrupting.Setting, Interrupting.may_stand, Interrupting.names_softints, Meaning.says}
 
 -- ---- lines
 

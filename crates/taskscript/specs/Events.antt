@@ -1,10 +1,12 @@
 -- The events of a text, or its first fault.
-use Rattle.std.specs.Prelude.{◌≡◌, ℕ, ◌+◌, ◌≤◌, Bool, true, ◌&&◌, nat_le, ◌==◌, bytes_eq, codes, All, List, [], ◌∷◌, ◌++◌, length, drop, take, sum_by, Option, Some, None, Result, Ok, Err, option_map, option_and_then, option_to_list, if◌then◌else◌}
+use Rattle.std.specs.Prelude.{◌≡◌, ℕ, ◌+◌, Bool, true, ◌&&◌, nat_le, ◌==◌, bytes_eq, codes, List, [], ◌∷◌, ◌++◌, length, drop, take, Option, Some, None, Result, Ok, Err, option_map, option_and_then, option_to_list, if◌then◌else◌}
 use Rattle.std.specs.List.{slice_split}
-use Rattle.taskscript.specs.declared.event.Event.TheVariants.{Run, Tick, Irq}
+use Rattle.script.specs.declared.event.Event.TheVariants.{Run, Tick, Irq}
 use Rattle.taskscript.specs.declared.fault.EventFault.TheVariants.{BadLine, TooMany, OutOfMemory}
-use Rattle.taskscript.specs.{Numbers.decimal_of, Sources.requested_source_of, declared.event.Event.Event, declared.fault.EventFault.EventFault}
+use Rattle.script.specs.{Sources.requested_source_of, declared.event.Event.Event}
+use Rattle.taskscript.specs.{Numbers.decimal_of, declared.fault.EventFault.EventFault}
 use Rattle.execlist.specs.{Order.first, Answers.fault_or}
+use Rattle.script.specs.Events.{is_within}
 
 -- ---- one line
 
@@ -32,26 +34,6 @@ event_of line =
 abbrev pub is_skipped : List ℕ → Bool
 is_skipped [] = true
 is_skipped (b ∷ bs) = b == 35
-
--- ---- limits
-
--- the steps that an event asks for
-abbrev pub steps : Event → ℕ
-steps (Run n) = n
-steps _ = 0
-
--- the ticks that the event asks for
-abbrev pub ticks : Event → ℕ
-ticks (Tick n) = n
-ticks _ = 0
-
--- steps, ticks and events are within the limits of a text
-abbrev pub are_within : ℕ → ℕ → ℕ → Bool
-are_within run tick count = (nat_le run 1000000 && nat_le tick 1000000) && nat_le count 100000
-
--- the sum of the steps and that of the ticks are at most 1,000,000, and there are at most 100,000 events
-abbrev pub is_within : List Event → Bool
-is_within events = are_within (sum_by steps events) (sum_by ticks events) (length events)
 
 -- ---- a text
 
@@ -93,16 +75,3 @@ script_of text = fault_or (first (event_faults [] (text_lines text))) (events_of
 abbrev pub JudgesLines : {X : Type 0} → Result X EventFault → List EventFault → (X → Type 0) → Type 0
 JudgesLines (Ok x) fs right = (first fs ≡ None) × right x
 JudgesLines (Err f) fs right = ¬ (f ≡ OutOfMemory) → first fs ≡ Some f
-
--- the turns that an event asks for; a request is one
-abbrev pub turns : Event → ℕ
-turns (Run n) = n
-turns (Tick n) = n
-turns (Irq source) = 1
-
--- what holds of the events of every text that is accepted: each asks for at least one turn, and they are within the limits
-pub record AreWithin (events : List Event) : Type 0 where
-  pub some : All (λ event. 1 ≤ turns event) events
-  pub steps : sum_by steps events ≤ 1000000
-  pub ticks : sum_by ticks events ≤ 1000000
-  pub count : length events ≤ 100000

@@ -1,59 +1,18 @@
 -- The machine that a file states, or its first fault.
-use Rattle.std.specs.Prelude.{is_none, nat_eq, if◌then◌else◌, ℕ, ◌+◌, ℤ, pos, Bool, true, false, codes, List, [], ◌∷◌, ◌++◌, Option, Some, None, Result, Err}
+use Rattle.std.specs.Prelude.{is_none, ℕ, ◌+◌, ℤ, pos, Bool, true, false, codes, List, [], ◌∷◌, ◌++◌, Option, Some, None, Result, Err}
 use Rattle.memlist.specs.{declared.region.Region.Region, Regions.regions_fault}
 use Rattle.toml.specs.Data.{Data, Items, no_items, item, Members, get_member}
 use Rattle.taskscript.specs.declared.fault.FileFault.TheVariants.{NotToml, UnknownKey, BadRegions}
 use Rattle.taskscript.specs.declared.place.Owner.TheVariants.{Softint, Server, Task}
 use Rattle.taskscript.specs.declared.place.TablePlace.TheVariants.{Top, Item}
 use Rattle.taskscript.specs.Tree.{document_of, required, optional, table_faults, of_items, keys_are_among, integer_faults, pri_faults, softint_pri_faults, source_faults, boolean_faults, name_faults, array_faults, items_faults, code_faults, pri_in, source_in, number_or, boolean_or, string_or_nothing, items_or_none, members_or_none}
-use Rattle.taskscript.specs.{declared.fault.FileFault.FileFault, declared.place.Array.Array, declared.place.Owner.Owner, declared.place.TablePlace.TablePlace, declared.refused.Refused.Refused, declared.source.Source.Source, Commands.CommandData, Faults.check, Interrupting.Setting, Places.array_at, Places.at, Places.item_at, Places.key_at, Places.refused, Places.unknown_key_at, Places.without_place, Code.lines_in, Code.body_faults, Code.code_of, Code.shared_after}
+use Rattle.script.specs.{declared.source.Source.Source}
+use Rattle.taskscript.specs.{declared.fault.FileFault.FileFault, declared.place.Array.Array, declared.place.Owner.Owner, declared.place.TablePlace.TablePlace, declared.refused.Refused.Refused, Faults.check, Interrupting.Setting, Places.array_at, Places.at, Places.item_at, Places.key_at, Places.refused, Places.unknown_key_at, Places.without_place, Code.lines_in, Code.body_faults, Code.code_of, Code.shared_after}
 use Rattle.taskscript.specs.declared.place.Array.TheVariants as array
 use Rattle.taskscript.specs.declared.place.Key.TheVariants as key
 use Rattle.taskscript.specs.declared.place.Place.TheVariants as a_place
 use Rattle.execlist.specs.{Order.first, Answers.fault_or}
-
--- ---- machines
-
--- a task: its name (1 to 31 characters), its priority (-128 to 127), whether it is added at the start, and its commands in the order of its lines
-pub record TaskData : Type 0 where
-  pub name : List ℕ
-  pub pri : ℤ
-  pub start : Bool
-  pub code : List CommandData
-
--- a library: its name, its version (0 to 65535), and the bytes of memory that it takes while it is loaded (8 to 65536)
-pub record LibraryData : Type 0 where
-  pub name : List ℕ
-  pub version : ℕ
-  pub size : ℕ
-
--- a software interrupt: its name, its priority (-32, -16, 0, 16 or 32), and its commands in the order of its lines
-pub record SoftintData : Type 0 where
-  pub name : List ℕ
-  pub pri : ℤ
-  pub code : List CommandData
-
--- a server: its name, the source that it serves, its priority (-128 to 127), whether it ends the chain of its source, and its commands in the
--- order of its lines
-pub record ServerData : Type 0 where
-  pub name : List ℕ
-  pub source : Source
-  pub pri : ℤ
-  pub claim : Bool
-  pub code : List CommandData
-
--- a machine: the version of its rules (1 or 2), the quantum in servings of VERTB (1 to 255), the microseconds of a tick (1 to 1,000,000), the number of objects of each kind that may live (1 to 1,024), and its regions of
--- memory, its libraries, its software interrupts, its servers and its tasks, each in the order of the file; the first task is task 1
-pub record MachineData : Type 0 where
-  pub version : ℕ
-  pub quantum : ℕ
-  pub tick_micros : ℕ
-  pub pool : ℕ
-  pub regions : List Region
-  pub libraries : List LibraryData
-  pub softints : List SoftintData
-  pub servers : List ServerData
-  pub tasks : List TaskData
+use Rattle.script.specs.File.{TaskData, LibraryData, SoftintData, ServerData, MachineData, total_of}
 
 -- ---- the first pass: the tree
 
@@ -104,10 +63,6 @@ regions_in tree = regions_of (items_or_none (get_member (codes "region") tree))
 -- the version of the rules, 1 if the file does not say it (project rule)
 abbrev pub version_of : Members → ℕ
 version_of tree = number_or 1 (get_member (codes "version") tree)
-
--- the bytes that all regions may have together: 1,048,576 in version 1, and 4,194,304 in version 2 (project rule)
-abbrev pub total_of : ℕ → ℕ
-total_of version = if nat_eq version 1 then 1048576 else 4194304
 
 -- the regions in their order, and after the last of them all together, which may have that many bytes in all
 abbrev pub regions_faults : ℕ → Members → List Refused

@@ -2,7 +2,8 @@
 use Rattle.std.specs.Prelude.{◌≡◌, ℕ, Bool, ◌==◌, List, map, Option, Some, None, option_map, Result, Ok, Err}
 use Rattle.std.specs.List.{slice_split}
 use Rattle.taskscript.specs.declared.fault.FileFault.TheVariants.{BadCommand, OutOfMemory}
-use Rattle.taskscript.specs.{declared.fault.FileFault.FileFault, declared.word.Word.Word, declared.variable.NamedVariable.NamedVariable, declared.named.NamedArgument.NamedArgument, declared.named.NamedCommand.NamedCommand, declared.named.Line.Line}
+use Rattle.script.specs.declared.word.Word.{Word}
+use Rattle.taskscript.specs.{declared.fault.FileFault.FileFault, declared.variable.NamedVariable.NamedVariable, declared.named.NamedArgument.NamedArgument, declared.named.NamedCommand.NamedCommand, declared.named.Line.Line}
 use Rattle.taskscript.specs.declared.named.NamedArgument.TheVariants as argument
 use Rattle.taskscript.specs.declared.named.Line.TheVariants as said
 

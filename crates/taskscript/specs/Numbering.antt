@@ -3,9 +3,11 @@ use Rattle.std.specs.Prelude.{◌≡◌, ℕ, Bool, true, false, ◌&&◌, nat_l
 use Rattle.std.specs.List.{list_any, position_or_len}
 use Rattle.arrayvec.specs.ArrayString.{ArrayString}
 use Rattle.taskscript.specs.declared.fault.FileFault.TheVariants.{TooMany, OutOfMemory}
-use Rattle.taskscript.specs.declared.variable.Variable.TheVariants.{Private, Shared}
-use Rattle.taskscript.specs.{declared.fault.FileFault.FileFault, declared.variable.Variable.Variable, Commands.ArgumentData, Commands.CommandData, Lines.NamedVariableData, Lines.NamedArgumentData, Lines.number, Lines.variable, Lines.label, Lines.quoted, Lines.NamedCommandData}
-use Rattle.taskscript.specs.Commands as numbered
+use Rattle.script.specs.declared.variable.Variable.TheVariants.{Private, Shared}
+use Rattle.script.specs.{declared.variable.Variable.Variable, Commands.ArgumentData, Commands.CommandData}
+use Rattle.taskscript.specs.{declared.fault.FileFault.FileFault, Lines.NamedVariableData, Lines.NamedArgumentData, Lines.number, Lines.variable, Lines.label, Lines.quoted, Lines.NamedCommandData}
+use Rattle.script.specs.Commands as numbered
+use Rattle.script.specs.Names.{texts}
 
 -- ---- names in the order of first sight
 
@@ -100,9 +102,6 @@ SeesAll (Ok x) before after variables = (have_room before variables ≡ true) ×
 SeesAll (Err fault) before after variables = ¬ (fault ≡ OutOfMemory) → (fault ≡ TooMany) × (have_room before variables ≡ false)
 
 -- ---- what the code holds
-
-abbrev pub texts : List ArrayString → List (List ℕ)
-texts names = map (λ n. n.bytes) names
 
 abbrev pub names_view : List ArrayString → List ArrayString → Names
 names_view private shared = record { private = texts private; shared = texts shared }

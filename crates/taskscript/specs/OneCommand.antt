@@ -1,8 +1,9 @@
 -- A line has at most one command.
 use Rattle.std.proofs.Common.{◌≡◌, ℕ, ◌≤◌, Bool, true, false, ◌||◌, cond, bytes_eq, codes, List, [], ◌∷◌, ◌++◌, Option, Some, None, refl, sym, ap, ◌∙◌, arith, inl, inr, nat_lt, length, get_or, option_map, ◌==◌}
 use Rattle.std.proofs.lemmas.{Bool.cases_Bool, Bool.Decides.nat_tests, Option.same_Some, Slice.Eq.bytes_eq-Decides}
-use Rattle.taskscript.specs.declared.word.row.Kind.TheVariants.{Value, Label, Name, NameOrNone, Softint}
-use Rattle.taskscript.specs.{declared.word.Word.Word, declared.word.row.Kind.Kind, Identifiers.is_identifier, Numbers.is_digit, Numbers.decimal_of, Numbers.number_of, Words.word_text, Words.answers, Words.kinds, Lines.NamedVariableData, Lines.NamedArgumentData, Lines.variable, Lines.number, Lines.label, Lines.quoted, Lines.NamedCommandData, Parsing.variable_of, Parsing.argument_of, Parsing.arguments_of, Parsing.target_of, Parsing.with_word, Parsing.cut_target, Parsing.command_of, Quotes.quoted_from, Variables.begins_small, Variables.variable_from, WordTable.word_known, Says.quote, Says.IsVariable, Says.IsArgument, Says.AreArguments, Says.IsTarget, Says.IsLine}
+use Rattle.script.specs.declared.word.row.Kind.TheVariants.{Value, Label, Name, NameOrNone, Softint}
+use Rattle.script.specs.{declared.word.Word.Word, declared.word.row.Kind.Kind, Words.word_text, Words.answers, Words.kinds, WordTable.word_known}
+use Rattle.taskscript.specs.{Identifiers.is_identifier, Numbers.is_digit, Numbers.decimal_of, Numbers.number_of, Lines.NamedVariableData, Lines.NamedArgumentData, Lines.variable, Lines.number, Lines.label, Lines.quoted, Lines.NamedCommandData, Parsing.variable_of, Parsing.argument_of, Parsing.arguments_of, Parsing.target_of, Parsing.with_word, Parsing.cut_target, Parsing.command_of, Quotes.quoted_from, Variables.begins_small, Variables.variable_from, Says.quote, Says.IsVariable, Says.IsArgument, Says.AreArguments, Says.IsTarget, Says.IsLine}
 
 same_bytes : (x y : List ℕ) → bytes_eq x y ≡ true → x ≡ y
 same_bytes x y h = (bytes_eq-Decides x y).0 h

@@ -2,8 +2,9 @@
 -- this reads exactly that is proved.
 use Rattle.std.specs.Prelude.{ℕ, ◌-◌, Bool, true, false, ◌&&◌, nat_le, ◌==◌, bytes_eq, codes, List, [], ◌∷◌, length, take, drop, slice_index, Option, Some, None, option_map, if◌then◌else◌}
 use Rattle.std.specs.Option.{option_or}
-use Rattle.taskscript.specs.declared.word.row.Kind.TheVariants.{Value, Label, Name, NameOrNone, Softint}
-use Rattle.taskscript.specs.{declared.word.row.Kind.Kind, Identifiers.identifier_in, Lines.NamedVariableData, Lines.NamedArgumentData, Lines.number, Lines.variable, Lines.label, Lines.quoted, Lines.NamedCommandData, Lines.LineData, Lines.label_line, Lines.command_line, Names.is_name, Numbers.number_of, Words.word_of, Words.answers, Words.kinds}
+use Rattle.script.specs.declared.word.row.Kind.TheVariants.{Value, Label, Name, NameOrNone, Softint}
+use Rattle.script.specs.{declared.word.row.Kind.Kind, Names.is_name, Words.word_of, Words.answers, Words.kinds}
+use Rattle.taskscript.specs.{Identifiers.identifier_in, Lines.NamedVariableData, Lines.NamedArgumentData, Lines.number, Lines.variable, Lines.label, Lines.quoted, Lines.NamedCommandData, Lines.LineData, Lines.label_line, Lines.command_line, Numbers.number_of}
 
 -- ---- variables
 

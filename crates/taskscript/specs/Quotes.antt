@@ -3,7 +3,8 @@ use Rattle.std.specs.Prelude.{◌≡◌, ℕ, suc, ◌+◌, ◌-◌, ◌<◌, �
 use Rattle.std.proofs.Common.{arith, length-append, sym, ap, ◌∙◌}
 use Rattle.std.proofs.lemmas.{Bool.and_parts, Bool.Decides.nat_tests, List.take-append-drop, List.drop_more, Option.same_Some}
 use Rattle.std.proofs.{Math.ListN.drop_of_length-le, Math.Seq.get_or-append_seam, Math.Seq.take-append_seam}
-use Rattle.taskscript.specs.{Names.is_name, Parsing.inside, Parsing.quoted_in, Says.quote}
+use Rattle.script.specs.Names.{is_name}
+use Rattle.taskscript.specs.{Parsing.inside, Parsing.quoted_in, Says.quote}
 
 -- a quoted field of that many bytes, by its parts
 quoted_field : (n : List ℕ) (k : ℕ) → k ≡ length n → is_name n ≡ true → let f : List ℕ = 34 ∷ (n ++ 34 ∷ []) in

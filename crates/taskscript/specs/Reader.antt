@@ -4,7 +4,8 @@ use Rattle.std.proofs.Common.{arith, length-append, inl, inr, sym, ap, subst, â—
 use Rattle.std.specs.Option.{option_or}
 use Rattle.std.proofs.lemmas.{Bool.and_parts, Bool.Decides.nat_tests, List.take-append-drop, List.drop_more, Option.same_Some}
 use Rattle.std.proofs.{Math.ListN.drop_of_length-le, Math.Seq.get_or-append_seam, Math.Seq.take-append_seam}
-use Rattle.taskscript.specs.{declared.word.Word.Word, Identifiers.is_identifier, Identifiers.identifier_in, Words.word_text, Lines.NamedCommandData, Lines.LineData, Lines.label_line, Lines.command_line, Parsing.command_of, Parsing.label_in, Parsing.label_of, Parsing.line_of, Says.IsLine, Says.IsLabel, Says.Says, Says.IsMeaning, Says.Meaning, OneCommand.line_has_command, Sound.command_is_line, WordTable.word_is_capital}
+use Rattle.script.specs.{declared.word.Word.Word, Words.word_text, WordTable.word_is_capital}
+use Rattle.taskscript.specs.{Identifiers.is_identifier, Identifiers.identifier_in, Lines.NamedCommandData, Lines.LineData, Lines.label_line, Lines.command_line, Parsing.command_of, Parsing.label_in, Parsing.label_of, Parsing.line_of, Says.IsLine, Says.IsLabel, Says.Says, Says.IsMeaning, Says.Meaning, OneCommand.line_has_command, Sound.command_is_line}
 
 -- ---- labels
 

@@ -2,25 +2,15 @@
 use Rattle.std.specs.Prelude.{◌≡◌, ℕ, List, [], ◌++◌, map, None}
 use Rattle.toml.specs.Data.{Data, Members}
 use Rattle.taskscript.specs.declared.fault.FileFault.TheVariants.{NotToml, OutOfMemory}
-use Rattle.taskscript.specs.File.{LibraryData, SoftintData, ServerData, TaskData, name_of, pri_of, server_source_of, start_of, claim_of, code_lines, softints_in, servers_in, tasks_in, item_names, names_before_tasks, shared_after_softints, shared_after_servers, softints_of, servers_of, tasks_of}
-use Rattle.taskscript.specs.{declared.place.Place.TheVariants.File, declared.refused.Refused.Refused, declared.file.LibraryRecord.LibraryRecord, declared.file.SoftintRecord.SoftintRecord, declared.file.ServerRecord.ServerRecord, declared.file.TaskRecord.TaskRecord, declared.heads.SoftintHead.SoftintHead, declared.heads.ServerHead.ServerHead, declared.heads.TaskHead.TaskHead, declared.owners.Heads.Heads, declared.owners.Owners.Owners, declared.interrupting.Setting.Setting as CodeSetting, Code.code_of, Commands.CommandData, Commands.command_view, Interrupting.Setting, Listings.listing_of, Numbering.texts, Places.refused, Tree.document_of, Tree.of_items}
+use Rattle.script.specs.File.{SoftintData, ServerData, TaskData}
+use Rattle.taskscript.specs.File.{name_of, pri_of, server_source_of, start_of, claim_of, code_lines, softints_in, servers_in, tasks_in, item_names, names_before_tasks, shared_after_softints, shared_after_servers, softints_of, servers_of, tasks_of}
+use Rattle.script.specs.{Commands.CommandData, Names.texts}
+use Rattle.taskscript.specs.{declared.place.Place.TheVariants.File, declared.refused.Refused.Refused, declared.heads.SoftintHead.SoftintHead, declared.heads.ServerHead.ServerHead, declared.heads.TaskHead.TaskHead, declared.owners.Heads.Heads, declared.owners.Owners.Owners, declared.interrupting.Setting.Setting as CodeSetting, Code.code_of, Interrupting.Setting, Listings.listing_of, Places.refused, Tree.document_of, Tree.of_items}
+use Rattle.script.specs.Records.{softint_view, server_view, task_view}
 
 -- why there is no tree
 abbrev pub DocumentFault : Refused → List ℕ → Type 0
 DocumentFault r bytes = ¬ (r.fault ≡ OutOfMemory) → (document_of bytes ≡ None) × (r ≡ refused File NotToml)
-
--- a library, a software interrupt, a server and a task, as its record has it
-abbrev pub library_view : LibraryRecord → LibraryData
-library_view l = record { name = l.name.bytes; version = l.version; size = l.size }
-
-abbrev pub softint_view : SoftintRecord → SoftintData
-softint_view i = record { name = i.name.bytes; pri = i.pri; code = map command_view i.code.items }
-
-abbrev pub server_view : ServerRecord → ServerData
-server_view s = record { name = s.name.bytes; source = s.source; pri = s.pri; claim = s.claim; code = map command_view s.code.items }
-
-abbrev pub task_view : TaskRecord → TaskData
-task_view t = record { name = t.name.bytes; pri = t.pri; start = t.start; code = map command_view t.code.items }
 
 -- ---- heads: what the first pass keeps of an item, which has no commands yet
 

@@ -1,7 +1,8 @@
 -- What a line says, as a relation between its fields and a label or a command.
 use Rattle.std.specs.Prelude.{◌≡◌, ℕ, Bool, true, codes, List, [], ◌∷◌, ◌++◌, Option, Some, None, if◌then◌else◌}
-use Rattle.taskscript.specs.declared.word.row.Kind.TheVariants.{Value, Label, Name, NameOrNone, Softint}
-use Rattle.taskscript.specs.{declared.word.row.Kind.Kind, Identifiers.is_identifier, Names.is_name, Numbers.number_of, Words.word_text, Words.answers, Words.kinds, Lines.NamedVariableData, Lines.NamedArgumentData, Lines.variable, Lines.number, Lines.label, Lines.quoted, Lines.NamedCommandData, Lines.LineData, Lines.label_line, Lines.command_line}
+use Rattle.script.specs.declared.word.row.Kind.TheVariants.{Value, Label, Name, NameOrNone, Softint}
+use Rattle.script.specs.{declared.word.row.Kind.Kind, Names.is_name, Words.word_text, Words.answers, Words.kinds}
+use Rattle.taskscript.specs.{Identifiers.is_identifier, Numbers.number_of, Lines.NamedVariableData, Lines.NamedArgumentData, Lines.variable, Lines.number, Lines.label, Lines.quoted, Lines.NamedCommandData, Lines.LineData, Lines.label_line, Lines.command_line}
 
 -- `"`
 abbrev pub quote : List ℕ

@@ -2,8 +2,9 @@
 use Rattle.std.proofs.Common.{◌≡◌, ℕ, Bool, true, false, cond, bytes_eq, codes, find, List, [], ◌∷◌, Option, Some, None, option_map, refl, sym, ap, subst}
 use Rattle.std.specs.Option.{option_or}
 use Rattle.std.proofs.lemmas.{Option.same_Some, Slice.Eq.bytes_eq-Decides}
-use Rattle.taskscript.specs.declared.word.row.Kind.TheVariants.{Value, Label, Name, NameOrNone, Softint}
-use Rattle.taskscript.specs.{declared.word.Word.Word, declared.word.row.Kind.Kind, Identifiers.is_identifier, Numbers.number_of, Words.word_text, Words.word_of, Words.all_words, Words.answers, Words.kinds, Lines.NamedVariableData, Lines.NamedArgumentData, Lines.variable, Lines.number, Lines.label, Lines.quoted, Lines.NamedCommandData, Parsing.◌>>=◌, Parsing.variable_of, Parsing.quoted_in, Parsing.argument_of, Parsing.arguments_of, Parsing.target_of, Parsing.with_word, Parsing.command_of, Quotes.quoted_back, Variables.variable_is, Says.IsArgument, Says.AreArguments, Says.IsTarget, Says.IsLine}
+use Rattle.script.specs.declared.word.row.Kind.TheVariants.{Value, Label, Name, NameOrNone, Softint}
+use Rattle.script.specs.{declared.word.Word.Word, declared.word.row.Kind.Kind, Words.word_text, Words.word_of, Words.all_words, Words.answers, Words.kinds}
+use Rattle.taskscript.specs.{Identifiers.is_identifier, Numbers.number_of, Lines.NamedVariableData, Lines.NamedArgumentData, Lines.variable, Lines.number, Lines.label, Lines.quoted, Lines.NamedCommandData, Parsing.◌>>=◌, Parsing.variable_of, Parsing.quoted_in, Parsing.argument_of, Parsing.arguments_of, Parsing.target_of, Parsing.with_word, Parsing.command_of, Quotes.quoted_back, Variables.variable_is, Says.IsArgument, Says.AreArguments, Says.IsTarget, Says.IsLine}
 
 pub bind_ok : {A B : Type 0} (o : Option A) (f : A → Option B) (y : B) → (o >>= f) ≡ Some y → (x : A) × (o ≡ Some x) × (f x ≡ Some y)
 bind_ok None f y h = absurd cc

@@ -1,6 +1,7 @@
 //! What holds of every text that is accepted, as laws over the definitions: functions without effect.
 ghost use Rattle.std.specs.Prelude.{◌≡◌, ℕ, List, Ok};
-ghost use Rattle.taskscript.specs.{Events.script_of, Events.AreWithin, File.MachineData, File.file_of, Machines.IsMachine, declared.event.Event.Event};
+ghost use Rattle.script.specs.{Events.AreWithin, File.MachineData, Machines.IsMachine, declared.event.Event.Event};
+ghost use Rattle.taskscript.specs.{Events.script_of, File.file_of};
 
 /// The machine of an accepted file has a version of 1 or 2, a quantum of 1 to 255, a pool of 1 to 1,024, regions of at most 1,048,576 bytes
 /// in all in version 1 and 4,194,304 in version 2, and at most 32 libraries, whose names differ among themselves, each with a version of 0

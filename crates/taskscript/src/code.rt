@@ -3,10 +3,10 @@
 ghost use Rattle.std.specs.List.{cons_option};
 ghost use Rattle.std.specs.Prelude.{◌≡◌, ◌<◌, ◌≤◌, ◌^◌, ◌+◌, ◌++◌, ◌∷◌, [], map, length, IfOk, OnOk, Some};
 ghost use Rattle.toml.specs.View.{view, items_view};
-ghost use Rattle.taskscript.specs.{Bodies.nothing_read, Bodies.reading_view, Bodies.reading_after, Bodies.faults_after, Bodies.ReadsOn, Meaning.says, Code.line_in, Code.lines_in, Code.body_faults, Code.code_of, Code.shared_after, Commands.command_view, Faults.Judges, Listings.body_listing, Listings.command_lines, Listings.number_said, Lines.label_line, Lines.command_line, Lines.named_command_view, Numbering.texts, Records.setting_view};
+ghost use Rattle.script.specs.{Commands.command_view, Names.texts};
+ghost use Rattle.taskscript.specs.{Bodies.nothing_read, Bodies.reading_view, Bodies.reading_after, Bodies.faults_after, Bodies.ReadsOn, Meaning.says, Code.line_in, Code.lines_in, Code.body_faults, Code.code_of, Code.shared_after, Faults.Judges, Listings.body_listing, Listings.command_lines, Listings.number_said, Lines.label_line, Lines.command_line, Lines.named_command_view, Records.setting_view};
 
 use crate::body::Body;
-use crate::command::Command;
 use crate::fault::FileFault;
 use crate::interrupting::{Setting, judge_command};
 use crate::label::LabelName;
@@ -19,6 +19,7 @@ use crate::refused::{Refused, at_line};
 use crate::resolving::commands_in;
 use crate::variable::VariableName;
 use indexmap::{IndexMap, IndexSet};
+use script::Command;
 use std::alloc::Global;
 use toml::Value;
 

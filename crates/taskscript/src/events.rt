@@ -1,11 +1,11 @@
 //! Reading an event text: bytes, cut at line feeds and never decoded.
 ghost use Rattle.std.specs.Prelude.{◌≡◌, map, [], IfOk, Ok, Err, MatchResult};
-ghost use Rattle.taskscript.specs.{Events.turns_of, Events.event_of, Events.is_skipped, Events.are_within, Events.text_lines, Events.event_faults, Events.events_of, Events.script_of, Events.JudgesLines, Sources.requested_source_of, declared.fault.EventFault.TheVariants.OutOfMemory};
+ghost use Rattle.script.specs.{Events.are_within, Sources.requested_source_of};
+ghost use Rattle.taskscript.specs.{Events.turns_of, Events.event_of, Events.is_skipped, Events.text_lines, Events.event_faults, Events.events_of, Events.script_of, Events.JudgesLines, declared.fault.EventFault.TheVariants.OutOfMemory};
 
-use crate::event::{Event, Events};
 use crate::fault::EventFault;
 use crate::number::decimal_of;
-use crate::source::Source;
+use script::{Event, Events, Source};
 use std::alloc::{AllocError, Global};
 
 fn turns_of(digits: &[u8]) -> Option<u32>

@@ -3,20 +3,22 @@
 ghost use Rattle.std.specs.Prelude.{◌≡◌, ◌++◌, ◌∷◌, [], Some, None, ℕ, List, codes, map, OnOk};
 ghost use Rattle.toml.specs.Data.{Data, Members, table as a_table, get_member};
 ghost use Rattle.toml.specs.View.{table_view, view, items_view};
-ghost use Rattle.taskscript.specs.Records.{library_view, softint_view, server_view, task_view, softint_head_view, server_head_view, task_head_view, softint_head_of, server_head_of, task_head_of, softint_with, server_with, task_with};
-ghost use Rattle.taskscript.specs.{Commands.CommandData, Commands.command_view, Faults.Judges, File.LibraryData, File.SoftintData, File.ServerData, File.TaskData, File.library_faults, File.library_of, File.softint_faults, File.server_faults, File.task_faults, File.named_faults, File.named_item_faults, File.name_of, File.item_names, Numbering.texts, Tree.required, Tree.optional, Tree.name_faults, Tree.string_or_nothing, Tree.code_faults, Tree.array_faults, Tree.items_or_none, Tree.of_items, Places.array_key, Places.at, Places.key_at, declared.place.TablePlace.TablePlace, declared.refused.Refused.Refused};
+ghost use Rattle.script.specs.Records.{library_view, softint_view, server_view, task_view};
+ghost use Rattle.taskscript.specs.Records.{softint_head_view, server_head_view, task_head_view, softint_head_of, server_head_of, task_head_of, softint_with, server_with, task_with};
+ghost use Rattle.script.specs.{Commands.CommandData, Commands.command_view, File.LibraryData, File.SoftintData, File.ServerData, File.TaskData, Names.texts};
+ghost use Rattle.taskscript.specs.{Faults.Judges, File.library_faults, File.library_of, File.softint_faults, File.server_faults, File.task_faults, File.named_faults, File.named_item_faults, File.name_of, File.item_names, Tree.required, Tree.optional, Tree.name_faults, Tree.string_or_nothing, Tree.code_faults, Tree.array_faults, Tree.items_or_none, Tree.of_items, Places.array_key, Places.at, Places.key_at, declared.place.TablePlace.TablePlace, declared.refused.Refused.Refused};
 ghost use Rattle.taskscript.specs.declared.place.Key.TheVariants as a_key;
 
-use crate::command::Command;
 use crate::fault::FileFault;
-use crate::file::{LibraryRecord, ServerRecord, SoftintRecord, TaskRecord};
-use crate::name::{Name, is_among, is_name};
+use crate::name::is_among;
 use crate::place::{Array, Key, TablePlace};
 use crate::refused::{Refused, at_array, at_key, no_table, unknown_key};
-use crate::source::Source;
 use crate::tree::{
     are_strings, has_only, member, optional_boolean, optional_pri, required_number,
     required_source, softint_pri,
+};
+use script::{
+    Command, LibraryRecord, Name, ServerRecord, SoftintRecord, Source, TaskRecord, is_name,
 };
 use std::alloc::Global;
 use toml::{Table, Value};

@@ -2,14 +2,16 @@
 //! names a software interrupt names one of the file.
 ghost use Rattle.std.specs.Prelude.{◌≡◌, ◌++◌, ◌∷◌, [], bytes_eq, length, map, option_map};
 ghost use Rattle.std.specs.List.{list_all, list_any};
-ghost use Rattle.taskscript.specs.Interrupting.{is_of_interrupt, is_open, is_word_of_interrupt, may_stand, names_softints, softints_among};
-ghost use Rattle.taskscript.specs.{Faults.check, Faults.JudgesLine, Lines.named_argument_view, Lines.named_command_view, Lines.named_variable_view, Numbering.texts, Numbering.variables_of_target, Records.setting_view};
+ghost use Rattle.script.specs.Interrupting.{is_word_of_interrupt};
+ghost use Rattle.taskscript.specs.Interrupting.{is_of_interrupt, is_open, may_stand, names_softints, softints_among};
+ghost use Rattle.script.specs.Names.{texts};
+ghost use Rattle.taskscript.specs.{Faults.check, Faults.JudgesLine, Lines.named_argument_view, Lines.named_command_view, Lines.named_variable_view, Numbering.variables_of_target, Records.setting_view};
 
 use crate::fault::FileFault;
-use crate::name::{Name, is_among};
+use crate::name::is_among;
 use crate::named::{NamedArgument, NamedCommand};
 use crate::variable::NamedVariable;
-use crate::word::{Kind, PlainWord, PortWord, SignalWord, Word};
+use script::{Kind, Name, is_word_of_interrupt};
 
 /// What a body is judged by, beside its lines.
 #[derive(Clone, Copy)]
@@ -18,30 +20,6 @@ pub struct Setting<'a> {
     pub of_interrupt: bool,
     /// The names of the software interrupts of the file.
     pub softints: &'a [Name],
-}
-
-/// Whether the body of a software interrupt or of a server may have the word.
-///
-/// Source: project rule.
-pub fn is_word_of_interrupt(word: Word) -> bool
-    ensures { result ≡ is_word_of_interrupt word }
-{
-    match word {
-        Word::Plain(word) => match word {
-            PlainWord::Jump | PlainWord::JumpZ | PlainWord::JumpNZ => false,
-            _ => true,
-        },
-        Word::Signals(word) => match word {
-            SignalWord::Signal => true,
-            _ => false,
-        },
-        Word::Ports(word) => match word {
-            PortWord::PutMsg | PortWord::GetMsg | PortWord::ReplyMsg => true,
-            _ => false,
-        },
-        Word::Interrupts(_) => true,
-        _ => false,
-    }
 }
 
 // An argument that is no private variable.

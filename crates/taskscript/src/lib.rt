@@ -4,11 +4,8 @@
 mod accepted;
 mod body;
 mod code;
-mod command;
-mod event;
 mod events;
 mod fault;
-mod file;
 mod heads;
 mod identifier;
 mod interrupting;
@@ -27,20 +24,14 @@ mod reading;
 mod refused;
 mod regions;
 mod resolving;
-mod source;
 mod tree;
 mod variable;
-mod word;
 
 pub use accepted::{accepted_events_are_within, accepted_file_is_machine};
 pub use code::{LINE_LIMIT, line_in};
-pub use command::{Argument, Command};
-pub use event::{Event, Events};
 pub use events::read_events;
 pub use fault::{EventFault, FileFault};
-pub use file::{LibraryRecord, MachineFile, ServerRecord, SoftintRecord, TaskRecord};
 pub use identifier::is_identifier;
-pub use interrupting::is_word_of_interrupt;
 pub use label::label_in;
 pub use laws::{
     one_command, one_meaning, one_reading, read_line_is_said, refused_line_says_nothing,
@@ -48,7 +39,6 @@ pub use laws::{
 };
 pub use line::fields_of;
 pub use listing::{BodyListing, Listed, Listing};
-pub use name::{Name, is_name};
 pub use number::number_of;
 pub use numbering::{PRIVATE_LIMIT, SHARED_LIMIT};
 pub use owners::lines_of;
@@ -57,10 +47,11 @@ pub use quoted::quoted_in;
 pub use reading::{read_listed, read_machine, read_placed};
 pub use refused::Refused;
 pub use regions::{regions_at, total_of};
-pub use source::Source;
-pub use tree::{are_strings, is_softint_pri, items_at, member};
-pub use variable::{NamedVariable, Variable, VariableName, variable_of};
-pub use word::{
-    InterruptWord, Kind, LibraryWord, ListWord, MemoryWord, NestingWord, PlainWord, PortWord,
-    RequestWord, SemaphoreWord, SignalWord, TaskWord, Word, word_of, words,
+pub use script::{
+    Argument, Command, Event, Events, InterruptWord, Kind, LibraryRecord, LibraryWord, ListWord,
+    MachineFile, MemoryWord, Name, NestingWord, PlainWord, PortWord, RequestWord, SemaphoreWord,
+    ServerRecord, SignalWord, SoftintRecord, Source, TaskRecord, TaskWord, Variable, Word, is_name,
+    is_word_of_interrupt, word_of, words,
 };
+pub use tree::{are_strings, is_softint_pri, items_at, member};
+pub use variable::{NamedVariable, VariableName, variable_of};

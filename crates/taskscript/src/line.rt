@@ -9,7 +9,7 @@ use crate::named::{Line, NamedArgument, NamedCommand};
 use crate::number::number_of;
 use crate::quoted::quoted_in;
 use crate::variable::{NamedVariable, variable_of};
-use crate::word::{Kind, word_of};
+use script::{Kind, word_of};
 use std::alloc::{AllocError, Global};
 
 /// The parts of a line between single spaces. Two spaces in a row, or one at an end, make an empty part (project rule).

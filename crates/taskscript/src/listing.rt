@@ -1,10 +1,11 @@
 //! Where the commands of a machine file were written, and what its variables were named.
 ghost use Rattle.std.specs.Prelude.{◌≡◌, option_map, slice_get};
-ghost use Rattle.taskscript.specs.{Listings.BodyListingData, Listings.ListingData, Numbering.texts};
+ghost use Rattle.script.specs.Names.{texts};
+ghost use Rattle.taskscript.specs.{Listings.BodyListingData, Listings.ListingData};
 
-use crate::file::MachineFile;
 use crate::variable::VariableName;
 use indexmap::IndexSet;
+use script::MachineFile;
 use std::marker::Model;
 
 /// The lines of the commands of one body, and the names of its private variables.
@@ -15,7 +16,8 @@ pub struct BodyListing {
 }
 
 impl Model for BodyListing {
-    ghost use Rattle.taskscript.specs.{Listings.BodyListingData, Numbering.texts};
+    ghost use Rattle.script.specs.Names.{texts};
+    ghost use Rattle.taskscript.specs.Listings.{BodyListingData};
 
     ghost Value = { BodyListingData };
 
@@ -62,7 +64,8 @@ pub struct Listing {
 }
 
 impl Model for Listing {
-    ghost use Rattle.taskscript.specs.{Listings.ListingData, Numbering.texts};
+    ghost use Rattle.script.specs.Names.{texts};
+    ghost use Rattle.taskscript.specs.Listings.{ListingData};
 
     ghost Value = { ListingData };
 

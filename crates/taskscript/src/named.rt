@@ -1,11 +1,10 @@
 //! What a line says, with names for variables and labels.
 ghost use Rattle.std.specs.Prelude.{◌≡◌, length};
-ghost use Rattle.taskscript.specs.Words.{kinds};
+ghost use Rattle.script.specs.Words.{kinds};
 
 use crate::label::LabelName;
-use crate::name::Name;
 use crate::variable::NamedVariable;
-use crate::word::Word;
+use script::{Name, Word};
 
 /// An argument, as a line names it.
 #[derive(Clone, Copy)]

@@ -1,13 +1,16 @@
 //! Numbers for the names of variables, in the order of first sight: a name is seen, and then it has a
 //! number.
 ghost use Rattle.std.specs.Prelude.{◌≡◌, [], ◌∷◌, nat_lt, map, option_map, IfSome, OnOk};
-ghost use Rattle.taskscript.specs.Numbering.{names_view, number_in, seen_after, texts, variable_in, variables_of, variables_of_arguments, variables_of_target, Sees, SeesAll};
-ghost use Rattle.taskscript.specs.{Commands.VariableFits, Lines.named_variable_view, Lines.named_argument_view, Lines.named_command_view};
+ghost use Rattle.script.specs.Names.{texts};
+ghost use Rattle.taskscript.specs.Numbering.{names_view, number_in, seen_after, variable_in, variables_of, variables_of_arguments, variables_of_target, Sees, SeesAll};
+ghost use Rattle.script.specs.Commands.{VariableFits};
+ghost use Rattle.taskscript.specs.{Lines.named_variable_view, Lines.named_argument_view, Lines.named_command_view};
 
 use crate::fault::FileFault;
 use crate::named::{NamedArgument, NamedCommand};
-use crate::variable::{NamedVariable, Variable, VariableName};
+use crate::variable::{NamedVariable, VariableName};
 use indexmap::IndexSet;
+use script::Variable;
 
 /// The greatest number of private variables of one body.
 pub const PRIVATE_LIMIT: usize = 32;

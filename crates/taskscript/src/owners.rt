@@ -2,19 +2,19 @@
 //! second one reads their bodies, in the order of the file.
 ghost use Rattle.std.specs.Prelude.{◌≡◌, ◌≤◌, length, take, map, IfOk, OnOk};
 ghost use Rattle.toml.specs.View.{table_view, view, items_view};
-ghost use Rattle.taskscript.specs.{Code.lines_in, Code.body_faults, Code.shared_after, Faults.Judges, File.code_lines, File.bodies_faults, File.with_bodies, File.shared_after_bodies, File.owners_faults, File.lines_of_all_faults, File.both_passes_faults, Listings.owner_listing, Numbering.texts, Records.setting_view, Records.made_of, Records.AreHeads, Records.AreOwners, Tree.of_items};
+ghost use Rattle.script.specs.Names.{texts};
+ghost use Rattle.taskscript.specs.{Code.lines_in, Code.body_faults, Code.shared_after, Faults.Judges, File.code_lines, File.bodies_faults, File.with_bodies, File.shared_after_bodies, File.owners_faults, File.lines_of_all_faults, File.both_passes_faults, Listings.owner_listing, Records.setting_view, Records.made_of, Records.AreHeads, Records.AreOwners, Tree.of_items};
 
 use crate::code::read_code;
-use crate::file::{ServerRecord, SoftintRecord, TaskRecord};
 use crate::heads::{Head, ServerHead, SoftintHead, TaskHead, heads_at};
 use crate::interrupting::Setting;
 use crate::listing::{BodyListing, Listing};
-use crate::name::Name;
 use crate::place::{Array, Owner};
 use crate::refused::Refused;
 use crate::tree::items_at;
 use crate::variable::VariableName;
 use indexmap::IndexSet;
+use script::{Name, ServerRecord, SoftintRecord, TaskRecord};
 use std::alloc::Global;
 use toml::{Table, Value};
 

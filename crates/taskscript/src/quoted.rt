@@ -2,7 +2,7 @@
 ghost use Rattle.std.specs.Prelude.{◌≡◌, option_map};
 ghost use Rattle.taskscript.specs.Parsing.{quoted_in};
 
-use crate::name::{Name, is_name};
+use script::{Name, is_name};
 
 /// The name between double quotes, if the field is one (project rule).
 pub fn quoted_in(field: &str) -> Option<Name>

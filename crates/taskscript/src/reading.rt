@@ -1,10 +1,10 @@
 //! Reading a machine file.
 ghost use Rattle.std.specs.Prelude.{◌≡◌, map, Ok, Err, Some, IfOk, MatchResult};
 ghost use Rattle.toml.specs.View.{table_view};
-ghost use Rattle.taskscript.specs.{Faults.Judges, Listings.listing_in, Listings.listing_of, Records.library_view, Tree.of_items, File.libraries_faults, File.libraries_in, File.library_of, File.settings_faults, File.version_of, File.quantum_of, File.tick_micros_of, File.pool_of, File.refusals, File.machine_of, File.file_of, File.placed_file_of};
+ghost use Rattle.script.specs.Records.{library_view};
+ghost use Rattle.taskscript.specs.{Faults.Judges, Listings.listing_in, Listings.listing_of, Tree.of_items, File.libraries_faults, File.libraries_in, File.library_of, File.settings_faults, File.version_of, File.quantum_of, File.tick_micros_of, File.pool_of, File.refusals, File.machine_of, File.file_of, File.placed_file_of};
 
 use crate::fault::FileFault;
-use crate::file::{LibraryRecord, MachineFile};
 use crate::heads::heads_at;
 use crate::listing::Listed;
 use crate::owners::owners_at;
@@ -12,6 +12,7 @@ use crate::place::{Array, Key, TablePlace};
 use crate::refused::{Refused, unknown_key};
 use crate::regions::{regions_at, total_of};
 use crate::tree::{document, has_only, optional_number};
+use script::{LibraryRecord, MachineFile};
 use std::alloc::Global;
 use toml::Table;
 
@@ -71,17 +72,17 @@ fn machine_of(alloc: Global, table: &Table) -> Result<Listed, Refused>
     let regions = regions_at(alloc, table, total_of(settings.version))?;
     let libraries = libraries_at(alloc, table)?;
     let owners = owners_at(alloc, table)?;
-    let machine = MachineFile {
-        version: settings.version,
-        quantum: settings.quantum,
-        tick_micros: settings.tick_micros,
-        pool: settings.pool,
+    let machine = MachineFile::new(
+        settings.version,
+        settings.quantum,
+        settings.tick_micros,
+        settings.pool,
         regions,
         libraries,
-        softints: owners.softints,
-        servers: owners.servers,
-        tasks: owners.tasks,
-    };
+        owners.softints,
+        owners.servers,
+        owners.tasks,
+    );
     Ok(Listed {
         machine,
         listing: owners.listing,

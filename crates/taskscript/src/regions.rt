@@ -3,7 +3,8 @@ ghost use Rattle.std.specs.Prelude.{◌≡◌, codes, is_none};
 ghost use Rattle.memlist.specs.Regions.{regions_fault};
 ghost use Rattle.toml.specs.Data.{table as a_table, get_member};
 ghost use Rattle.toml.specs.View.{table_view, view, items_view};
-ghost use Rattle.taskscript.specs.{Faults.Judges, File.region_faults, File.region_item_faults, File.region_of, File.regions_of, File.regions_faults, File.regions_in, File.total_of, Tree.optional, Tree.array_faults, Tree.items_faults};
+ghost use Rattle.script.specs.File.{total_of};
+ghost use Rattle.taskscript.specs.{Faults.Judges, File.region_faults, File.region_item_faults, File.region_of, File.regions_of, File.regions_faults, File.regions_in, Tree.optional, Tree.array_faults, Tree.items_faults};
 ghost use Rattle.taskscript.specs.declared.place.Array.TheVariants as array;
 
 use crate::fault::FileFault;

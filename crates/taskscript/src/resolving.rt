@@ -1,17 +1,17 @@
 //! Commands with numbers and places for their names, once the whole body was read.
 ghost use Rattle.std.specs.Prelude.{◌≡◌, ◌≤◌, ℕ, List, [], ◌∷◌, All, length, map, take};
-ghost use Rattle.taskscript.specs.{Commands.argument_view, Commands.command_view, Commands.first_name, Commands.ArgumentFits, Commands.CommandFits, Commands.IsNamed, Faults.Judges, Labels.are_marked, Labels.jumps_faults_in, Labels.marks_view, Labels.place_at, Labels.Resolves, Lines.named_argument_view, Lines.named_command_view, Machines.QuotesOnce, Numbering.argument_in, Numbering.command_in, Numbering.labels_of_arguments, Numbering.names_view, Numbering.Names};
+ghost use Rattle.script.specs.{Commands.argument_view, Commands.command_view, Commands.first_name, Commands.ArgumentFits, Commands.CommandFits, Commands.IsNamed, Machines.QuotesOnce};
+ghost use Rattle.taskscript.specs.{Faults.Judges, Labels.are_marked, Labels.jumps_faults_in, Labels.marks_view, Labels.place_at, Labels.Resolves, Lines.named_argument_view, Lines.named_command_view, Numbering.argument_in, Numbering.command_in, Numbering.labels_of_arguments, Numbering.names_view, Numbering.Names};
 
-use crate::command::{Argument, Command};
 use crate::fault::FileFault;
 use crate::label::LabelName;
-use crate::name::Name;
 use crate::named::{NamedArgument, NamedCommand};
 use crate::numbering::{target_in, variable_in};
 use crate::place::Owner;
 use crate::refused::{Refused, at_line};
 use crate::variable::VariableName;
 use indexmap::{IndexMap, IndexSet};
+use script::{Argument, Command, Name};
 use std::alloc::Global;
 
 // An argument with the number of its variable, or the place of its label, and without its name.

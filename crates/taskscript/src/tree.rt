@@ -10,7 +10,7 @@ ghost use Rattle.taskscript.specs.declared.place.Key.TheVariants as a_key;
 use crate::fault::FileFault;
 use crate::place::{Key, TablePlace};
 use crate::refused::{Refused, at_file, at_key};
-use crate::source::Source;
+use script::Source;
 use std::alloc::Global;
 use toml::{Table, Value};
 

@@ -1,4 +1,4 @@
-//! Variables: by their names in a line, and by their numbers in a command.
+//! Variables, by their names in a line.
 ghost use Rattle.std.specs.Prelude.{◌≡◌, option_map};
 ghost use Rattle.taskscript.specs.{Lines.named_variable_view, Parsing.named, Parsing.variable_of};
 
@@ -6,15 +6,6 @@ use crate::identifier::{Identifier, identifier_of};
 
 /// The name of a variable, the `@` of a shared one left out.
 pub type VariableName = Identifier;
-
-/// A variable, by its number in the order of first sight.
-#[derive(Clone, Copy, PartialEq, Eq)]
-pub enum Variable {
-    /// Private to its body: the order is that of the body.
-    Private(u8),
-    /// Shared by all bodies: the order is that of the file.
-    Shared(u8),
-}
 
 /// A variable, as a line names it.
 #[derive(Clone, Copy)]

@@ -2,7 +2,7 @@
 use Rattle.std.proofs.Common.{◌≡◌, ◌∙◌, ℕ, zero, suc, true, false, ◌+◌, ◌*◌, ◌/◌, ◌-◌, ◌≤◌, List, [], ◌∷◌, ◌++◌, length, take, drop, map, if◌then◌else◌, refl, ap, ap₂, sym, arith, bytes_eq, mul-div_cancel, mul-suc, mul-zero, div-mul-le_self, take_all}
 use Rattle.std.proofs.Math.Nat.{zero-div}
 use Rattle.std.proofs.lemmas.Nat.{le-div}
-use Rattle.taskscript.specs.declared.event.Event.{Event}
+use Rattle.script.specs.declared.event.Event.{Event}
 use Rattle.ways.specs.{Tables.Entry, Tables.added, Tables.merged, Tables.table_of, Ways.part_of}
 use Rattle.ways.proofs.Merging.{sum_of_parts}
 use Rattle.wayreport.specs.{Parts.part_numbered, Reports.told, Sums.outcomes_in, Sums.summed, declared.report.Report.Report}

@@ -1,6 +1,6 @@
 -- What a report has in it, and its text.
 use Rattle.std.specs.Prelude.{◌≡◌, ℕ, ◌+◌, ◌==◌, ◌++◌, Bool, true, List, [], ◌∷◌, Option, None, Some, codes, length, map, if◌then◌else◌, decimal, string_bytes}
-use Rattle.taskscript.specs.declared.event.Event.{Event}
+use Rattle.script.specs.declared.event.Event.{Event}
 use Rattle.ways.specs.{Grouping.grouped, Tables.Entry}
 use Rattle.wayreport.specs.{Events.listed, declared.report.Found.Found, declared.report.Part.Part, declared.report.Report.Report}
 

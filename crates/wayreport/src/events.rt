@@ -3,8 +3,8 @@ ghost use Rattle.std.specs.Prelude.{◌≡◌, ◌++◌, IfOk, OnOk, codes, flat
 ghost use Rattle.ways.specs.Grouping.{grouped};
 ghost use Rattle.wayreport.specs.Events.{event_line, event_text, listed, marked_event};
 
+use script::Event;
 use std::alloc::{AllocError, Global};
-use taskscript::Event;
 use ways::events_for;
 
 /// An event, as an event text has it.

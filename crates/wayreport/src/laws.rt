@@ -1,6 +1,6 @@
 //! Laws of the sums of reports.
 ghost use Rattle.std.specs.Prelude.{◌≡◌, ◌≤◌, [], ℕ, List, map};
-ghost use Rattle.taskscript.specs.declared.event.Event.{Event};
+ghost use Rattle.script.specs.declared.event.Event.{Event};
 ghost use Rattle.ways.specs.Tables.{table_of};
 ghost use Rattle.wayreport.specs.{Parts.part_numbered, Reports.told, Sums.outcomes_in, Sums.summed, declared.report.Report.Report};
 

@@ -5,8 +5,9 @@ ghost use Rattle.wayreport.specs.Reports.{IsFirst, report_view, text_of};
 use crate::events::first_text;
 use crate::report::{Found, Part, Report};
 use crate::text::report_text;
+use script::Event;
 use std::alloc::{AllocError, AllocFailed, Global};
-use taskscript::{Event, EventFault, read_events};
+use taskscript::{EventFault, read_events};
 use ways::actions_of;
 
 /// How many actions a way may have: those of the longest event text and a few more.

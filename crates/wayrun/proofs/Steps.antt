@@ -2,7 +2,7 @@
 use Rattle.std.proofs.Common.{◌≡◌, ◌≢◌, ◌∙◌, ℕ, ◌+◌, ◌*◌, ◌^◌, ◌<◌, ◌≤◌, Bool, true, false, List, [], ◌∷◌, ◌++◌, take, drop, get_or, length, refl, ap, ap₂, sym, subst, append_assoc, arith, sum_by, Result, Ok, Err, IsOk, Option, Some, append-nil, take_all}
 use Rattle.std.proofs.lemmas.{List.take_more, List.drop_more, List.Sums.sum_by-cons}
 use Rattle.exectrace.specs.{Sink.Tape, Sink.TakesAll, Trace.TraceLine, Trace.printed, declared.sinks.WriteFault.WriteFault, declared.sinks.SinkState.SinkState, declared.sinks.SinkState.TheVariants.Good}
-use Rattle.taskscript.specs.{File.MachineData, Events.ticks as ticks_of, declared.event.Event.Event}
+use Rattle.script.specs.{File.MachineData, Events.ticks as ticks_of, declared.event.Event.Event}
 use Rattle.execmodel.specs.{State.State, State.Outcome, State.Mark, State.quiet, State.andthen, State.booted, Step.starts, Step.event, Step.events, Step.run}
 use Rattle.execmodel.proofs.Moments.{events_more}
 use Rattle.execsim.specs.{Agreement.Seen, Agreement.Agrees, Time.HasTimeFor, Headline.Shown, Headline.Acts, Headline.flow_of, declared.machine.Flow.Flow}

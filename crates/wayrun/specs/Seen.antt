@@ -2,7 +2,7 @@
 -- one, at the end; any other has who runs, and the line of the call of each task that waits.
 use Rattle.std.specs.Prelude.{ℕ, Bool, true, false, List, [], ◌∷◌, ◌++◌}
 use Rattle.exectrace.specs.Trace.{printed}
-use Rattle.taskscript.specs.{File.MachineData, declared.event.Event.Event}
+use Rattle.script.specs.{File.MachineData, declared.event.Event.Event}
 use Rattle.scheduler.specs.Schedule.{Schedule}
 use Rattle.execmodel.specs.{State.Outcome, State.Scripts, Step.run}
 use Rattle.execsim.specs.Standing.{standing_text}

@@ -1,6 +1,6 @@
 -- The run of the first events.
 use Rattle.std.specs.Prelude.{Bool, true, false, List}
-use Rattle.taskscript.specs.{File.MachineData, declared.event.Event.Event}
+use Rattle.script.specs.{File.MachineData, declared.event.Event.Event}
 use Rattle.execmodel.specs.{State.Outcome, State.andthen, State.booted, Step.starts, Step.events}
 use Rattle.execsim.specs.declared.machine.Flow.TheVariants.{Going, Alerted}
 use Rattle.execsim.specs.declared.machine.Flow.{Flow}

@@ -1,7 +1,7 @@
 //! One way, run from the first state of its machine, of which what is seen is kept. The machine is kept from way to way, and reset before each.
 ghost use Rattle.std.specs.Prelude.{◌≡◌, ◌≤◌, ◌++◌, false, IfOk, OnOk, sum_by};
 ghost use Rattle.exectrace.specs.declared.sinks.SinkState.{SinkState};
-ghost use Rattle.taskscript.specs.Events.{ticks as ticks_of};
+ghost use Rattle.script.specs.Events.{ticks as ticks_of};
 ghost use Rattle.execmodel.specs.{State.booted, Step.run};
 ghost use Rattle.execsim.specs.{Agreement.Agrees, Headline.flow_of, Standing.standing_text, Time.HasTimeFor};
 ghost use Rattle.wayrun.specs.{Seen.alert_text, Seen.ending, Seen.seen_of, SoFar.stops};
@@ -12,8 +12,8 @@ use crate::see::See;
 use execlist::link::LinkSpace;
 use execsim::{Flow, Machine};
 use exectrace::SinkState;
+use script::{Event, MachineFile};
 use std::alloc::{AllocError, Global};
-use taskscript::{Event, MachineFile};
 
 /// Adds the line of the alert that ends a run, unless all lines are kept.
 fn push_alert(see: See, last: &[u8], kept: &mut Vec<u8>) -> Result<(), AllocError>

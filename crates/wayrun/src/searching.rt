@@ -1,15 +1,15 @@
 //! The search: each way of a part is run from the first state of the machine, and what is seen of it is noted.
 ghost use Rattle.std.specs.Prelude.{◌≡◌, ◌≤◌, ◌+◌, [], true, IfOk, OnOk, List, ℕ, length, sum_by};
-ghost use Rattle.taskscript.specs.Events.{ticks as ticks_of};
+ghost use Rattle.script.specs.Events.{ticks as ticks_of};
 ghost use Rattle.ways.specs.{Ways.ways as ways_of, Ways.part_of, Tables.number_where, Tables.table_of};
 ghost use Rattle.wayrun.specs.{Seen.is_alerted, Seen.seen_of, SoFar.stops};
 
 use crate::running::{Bench, run_way};
 use crate::see::See;
 use execsim::Flow;
+use script::{Event, MachineFile};
 use std::alloc::Global;
 use std::marker::Model;
-use taskscript::{Event, MachineFile};
 use ways::{SearchFault, Show, Sizes, Tabler, Watcher, Window, table_of_part};
 
 /// How many ticks a way may have.

@@ -1,6 +1,6 @@
 -- What notes ways is after many of them.
 use Rattle.std.proofs.Common.{◌≡◌, ◌∙◌, ℕ, ◌+◌, Bool, List, [], ◌∷◌, refl, ap, arith, fold}
-use Rattle.taskscript.specs.declared.event.Event.{Event}
+use Rattle.script.specs.declared.event.Event.{Event}
 use Rattle.ways.specs.{Tables.Entry, Tables.noted, Tables.number_where, Tables.one_if, Tables.table_of, Tabled.Tabled}
 
 abbrev next : {S : Type 0} → (S → List Event → List ℕ) → (S → List Event → Bool) → Tabled S → List Event → Tabled S

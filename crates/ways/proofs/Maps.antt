@@ -3,7 +3,7 @@ use Rattle.std.proofs.Common.{◌≡◌, ◌∙◌, ℕ, Bool, true, false, cond
 use Rattle.std.specs.{Global.Vec, Map.lookup, Map.set_value}
 use Rattle.std.proofs.lemmas.{Slice.Eq.bytes_eq-Decides, Option.none-some, Option.same_Some}
 use Rattle.indexmap.specs.IndexMap.{insert_entry}
-use Rattle.taskscript.specs.declared.event.Event.{Event}
+use Rattle.script.specs.declared.event.Event.{Event}
 use Rattle.ways.specs.{Tables.Entry, Tables.noted, Entries.entry_in, Entries.entries_in, declared.table.Tally.Tally}
 use Rattle.ways.proofs.Merging.{either, noted-hit, noted-miss}
 

@@ -1,7 +1,7 @@
 -- The entries that outcomes and tallies represent.
 use Rattle.std.specs.Prelude.{ℕ, List, map}
 use Rattle.std.specs.Global.{Vec}
-use Rattle.taskscript.specs.declared.event.Event.{Event}
+use Rattle.script.specs.declared.event.Event.{Event}
 use Rattle.ways.specs.{Tables.Entry, declared.table.Outcome.Outcome, declared.table.Tally.Tally}
 
 abbrev pub entry_of : Outcome → Entry (List Event)

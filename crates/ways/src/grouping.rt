@@ -2,8 +2,8 @@
 ghost use Rattle.std.specs.Prelude.{◌≡◌, ◌+◌, ◌++◌, IfOk, OnOk, replicate};
 ghost use Rattle.ways.specs.{Ways.actions, Ways.actions_in, Grouping.Joins, Grouping.grouped, Grouping.joined};
 
+use script::Event;
 use std::alloc::{AllocError, Global};
-use taskscript::Event;
 
 /// Adds an action that many times.
 fn push_times(actions: &mut Vec<Event>, action: Event, times: u32) -> Result<(), AllocError>

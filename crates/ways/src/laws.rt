@@ -1,6 +1,6 @@
 //! Laws of the ways and of their tables.
 ghost use Rattle.std.specs.Prelude.{◌≡◌, ◌+◌, ◌*◌, ◌^◌, ◌++◌, ℕ, List, [], length};
-ghost use Rattle.taskscript.specs.declared.event.Event.{Event};
+ghost use Rattle.script.specs.declared.event.Event.{Event};
 ghost use Rattle.ways.specs.{Ways.exactly, Ways.choose, Tables.table_of, Tables.merged, Tables.total, Tables.count_in, Tables.first_in, Tables.showing, Tables.first_showing};
 
 /// How many ways have exactly that many extras.

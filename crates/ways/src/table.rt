@@ -1,13 +1,13 @@
 //! The table of what is seen: an outcome for each different text, in the order in which they are first seen.
 ghost use Rattle.std.specs.Prelude.{◌≡◌, [], ℕ, length, OnOk, IfOk};
-ghost use Rattle.taskscript.specs.declared.event.Event.{Event};
+ghost use Rattle.script.specs.declared.event.Event.{Event};
 ghost use Rattle.ways.specs.{Tables.noted, Entries.entries_in, Entries.entries_of};
 
 use crate::fault::SearchFault;
 use indexmap::IndexMap;
+use script::Event;
 use std::alloc::{AllocError, Global};
 use std::marker::Model;
-use taskscript::Event;
 
 /// How many outcomes a table may have.
 pub const MOST_OUTCOMES: usize = 65_536;
@@ -36,7 +36,7 @@ pub struct Table {
 impl Model for Table {
     ghost use Rattle.ways.specs.{Entries.entries_in, Tables.Entry};
     ghost use Rattle.std.specs.Prelude.{List};
-    ghost use Rattle.taskscript.specs.declared.event.Event.{Event};
+    ghost use Rattle.script.specs.declared.event.Event.{Event};
 
     ghost Value = { List (Entry (List Event)) };
 

@@ -1,15 +1,15 @@
 //! Shows each way, and notes what is seen.
 ghost use Rattle.std.specs.Prelude.{◌≡◌, ◌≤◌, ◌+◌, [], Bool, IfOk, OnOk, List, ℕ, length};
-ghost use Rattle.taskscript.specs.declared.event.Event.{Event};
+ghost use Rattle.script.specs.declared.event.Event.{Event};
 ghost use Rattle.ways.specs.{Ways.ways as ways_of, Ways.part_of, Tables.noted, Tables.number_where, Tables.one_if, Tables.table_of, Entries.entries_of, Tabled.Tabled};
 
 use crate::fault::SearchFault;
 use crate::sizes::Sizes;
 use crate::table::{Outcome, Table};
 use crate::visiting::{Visitor, Window, visit_part};
+use script::Event;
 use std::alloc::{AllocError, Global};
 use std::marker::Model;
-use taskscript::Event;
 
 /// What shows a way as a text.
 pub trait Show {

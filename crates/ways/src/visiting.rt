@@ -1,12 +1,12 @@
 //! Visits each way of a part once, in their order, with no list of ways in memory.
 ghost use Rattle.std.specs.Prelude.{◌≡◌, ◌++◌, ◌≤◌, ◌<◌, List, map, drop, length, OnOk, fold};
-ghost use Rattle.taskscript.specs.declared.event.Event.{Event};
+ghost use Rattle.script.specs.declared.event.Event.{Event};
 ghost use Rattle.ways.specs.{Ways.exactly, Ways.with_each, Ways.ways, Ways.passes, Ways.part_of, Windows.passing};
 
 use crate::fault::SearchFault;
 use crate::sizes::Sizes;
+use script::Event;
 use std::alloc::Global;
-use taskscript::Event;
 
 /// What is reported each way.
 pub trait Visitor {

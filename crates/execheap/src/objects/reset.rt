@@ -1,13 +1,13 @@
 //! How the objects of a memory that was used are put back to their first state.
 ghost use Rattle.std.specs.Prelude.{◌≡◌, ◌↔◌, [], map, true};
-ghost use Rattle.taskscript.specs.Records.{library_view};
+ghost use Rattle.script.specs.Records.{library_view};
 ghost use Rattle.timerdev.specs.Timing.{new_timer};
 ghost use Rattle.execheap.specs.{Numbered.shown_library, Numbered.shown_memory, Resetting.IsAsLarge};
 
 use crate::objects::Objects;
 use execlist::space::ListSpace;
 use memlist::Region;
-use taskscript::LibraryRecord;
+use script::LibraryRecord;
 
 impl<S: ListSpace> Objects<S> {
     /// Whether the memory has these regions, room for that many objects of each kind and for that many tasks, and these libraries.

@@ -3,7 +3,7 @@ use super::records::Process;
 use crate::deeds::{Aim, Deed, Doer, Means};
 use crate::page::Page;
 use crate::page::Value::{Count, Number, Plain};
-use taskscript::Source;
+use script::Source;
 
 /// The track of the software interrupts.
 pub(super) const SOFTINT_TRACK: usize = 4;

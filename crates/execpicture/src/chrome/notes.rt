@@ -6,7 +6,7 @@ use crate::film::Point;
 use crate::lines::{TraceLine, read_line};
 use crate::page::Page;
 use crate::page::Value::{Count, Json, Millis, Number, Plain};
-use taskscript::{MachineFile, Source};
+use script::{MachineFile, Source};
 
 /// An instant.
 const INSTANT: &str =

@@ -7,9 +7,10 @@ use crate::page::Page;
 use crate::page::Value::{Json, Number};
 use crate::seen::{Awaits, Kind, ObjectSeen, TaskSeen, object_seen, task_seen};
 use crate::words::{write_state, write_time};
+use script::Source;
 use std::alloc::{AllocError, Global};
 use taskq::TaskState;
-use taskscript::{Listed, Source};
+use taskscript::Listed;
 
 /// What is shown of a task from a number on.
 #[derive(Clone, Copy)]

@@ -6,8 +6,8 @@ use crate::lines::{TraceLine, read_line};
 use crate::page::Page;
 use crate::page::Value::Xml;
 use crate::scene::{Column, Scene};
+use script::Source;
 use softint::latches::Latches;
-use taskscript::Source;
 
 /// How the line is drawn from where a source was requested to where it is served.
 const DASHES: &str = " stroke-width=\"1.3\" stroke-dasharray=\"2 2\"";

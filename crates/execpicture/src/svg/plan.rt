@@ -3,8 +3,8 @@ use crate::film::Turn;
 use crate::forms::{Px, count, width_of};
 use crate::scene::Scene;
 use crate::seen::{Kind, ObjectSeen};
+use script::Source;
 use std::alloc::{AllocError, Global};
-use taskscript::Source;
 
 /// From how many tasks on their rows are dense.
 const MANY_TASKS: usize = 13;

@@ -6,7 +6,7 @@ use crate::forms::{Px, width_of};
 use crate::page::Page;
 use crate::page::Value::{Millis, Number, Plain};
 use crate::scene::Scene;
-use taskscript::Event;
+use script::Event;
 
 /// How far the labels reach in each of three lines of labels.
 #[derive(Clone, Copy)]

@@ -1,8 +1,9 @@
 //! Machine files: what an accepted one holds. Files of text that are refused are whole runs.
 use super::comparing::same;
 use memlist::Region;
+use script::{SignalWord, Source, Word};
 use std::test::*;
-use taskscript::{FileFault, SignalWord, Source, Word, read_machine};
+use taskscript::{FileFault, read_machine};
 
 /// A machine file with a part of each kind.
 static FILE: &str = "version = 2\nquantum = 255\ntick_micros = 1000000\npool = 1024\n\

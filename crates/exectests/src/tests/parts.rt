@@ -1,9 +1,9 @@
 //! What a part of a machine file is, by itself: names, numbers, words, and members of a table.
 use super::comparing::same;
+use script::{Word, is_name, is_word_of_interrupt, word_of, words};
 use std::test::*;
 use taskscript::{
-    Word, are_strings, is_identifier, is_name, is_softint_pri, is_word_of_interrupt, items_at,
-    line_in, lines_of, member, number_of, word_of, words,
+    are_strings, is_identifier, is_softint_pri, items_at, line_in, lines_of, member, number_of,
 };
 
 #[test]

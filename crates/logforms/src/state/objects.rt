@@ -10,8 +10,8 @@ use execsim::{DueTime, LibraryView, Machine, ObjectView, PortView};
 use iorequest::request::{ReqState, Request};
 use msgport::action::PortAction;
 use msgport::message::{Message, NT_FREEMSG, NT_MESSAGE, NT_REPLYMSG};
+use script::{Argument, Command};
 use sigsem::semaphore::Sem;
-use taskscript::{Argument, Command};
 
 /// The most objects or tasks that are shown of a list, a port or a semaphore; none has more.
 const MOST: usize = 1_024;

@@ -2,9 +2,10 @@
 use execlist::link::LinkSpace;
 use execsim::Machine;
 use exectrace::WriteSink;
+use script::MachineFile;
 use std::alloc::{AllocError, Global};
 use std::test::*;
-use taskscript::{MachineFile, read_machine};
+use taskscript::read_machine;
 
 /// How many steps that print nothing a started machine does after each of its next two steps that may print; at most 5 each. None if a write
 /// fails.

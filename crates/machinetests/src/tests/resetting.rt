@@ -1,9 +1,10 @@
 //! A machine is reset by the file that it was made of, and by no smaller one.
 use execlist::link::LinkSpace;
 use execsim::Machine;
+use script::MachineFile;
 use std::alloc::{AllocError, Global};
 use std::test::*;
-use taskscript::{MachineFile, read_machine};
+use taskscript::read_machine;
 
 /// Whether a machine of one file can be reset by another.
 fn is_reset_by(alloc: Global, made_of: &MachineFile, by: &MachineFile) -> Result<bool, AllocError> {

@@ -1,7 +1,7 @@
 -- One more library is the same.
 use Rattle.std.proofs.Common.{◌≡◌, ◌<◌, true, false, length, map, slice_get, Some, refl, ap, arith, sym, ◌∙◌, option_map}
 use Rattle.std.proofs.lemmas.Option.{slice_get_read, slice_get-map}
-use Rattle.taskscript.specs.Records.{library_view}
+use Rattle.script.specs.Records.{library_view}
 use Rattle.execlib.specs.Libraries.{description_of}
 use Rattle.execheap.specs.Numbered.{shown_library}
 use Rattle.execheap.proofs.{Alike.same_more, Entries.some_same}

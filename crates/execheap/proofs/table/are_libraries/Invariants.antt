@@ -1,6 +1,6 @@
 -- The libraries so far are those of the file.
 use Rattle.std.proofs.Common.{◌≡◌, map, take}
-use Rattle.taskscript.specs.Records.{library_view}
+use Rattle.script.specs.Records.{library_view}
 use Rattle.execlib.specs.Libraries.{description_of}
 use Rattle.execheap.specs.Numbered.{shown_library}
 use Rattle.execheap.proofs.table.are_libraries.Given as goal

@@ -1,7 +1,7 @@
 -- The proof of `advance_all`: does some events, one step and one tick at a time.
 use Rattle.std.proofs.Common.{ℕ, refl, subst, ◌∙◌, ap, arith}
 use Rattle.std.proofs.lemmas.List.Sums.{sum_by-drop_more}
-use Rattle.taskscript.specs.Events.{ticks as ticks_of}
+use Rattle.script.specs.Events.{ticks as ticks_of}
 use Rattle.execsim.specs.Time.{HasTimeFor}
 use Rattle.execlog.proofs.Logging.{few_turns, logs_next, logs_none, logs_turn, time_for_one, turns_more}
 use Rattle.execlog.proofs.log.advance_all.Goals as goal

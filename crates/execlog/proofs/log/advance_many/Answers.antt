@@ -1,6 +1,6 @@
 -- The proof of `advance_many`: does one step, tick or request that many times.
 use Rattle.std.proofs.Common.{◌+◌, ◌*◌, ◌≤◌, ℕ, ap, refl, subst, ◌∙◌, arith, mul-le-mul_right}
-use Rattle.taskscript.specs.Events.{ticks as ticks_of}
+use Rattle.script.specs.Events.{ticks as ticks_of}
 use Rattle.execsim.specs.Time.{HasTimeFor}
 use Rattle.execsim.proofs.Clock.{time_for_fewer}
 use Rattle.execlog.proofs.Logging.{logs_again, logs_next, logs_none, more_time}

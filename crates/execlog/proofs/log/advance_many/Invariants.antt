@@ -1,7 +1,7 @@
 -- The rows of each event so far were put.
 use Rattle.std.proofs.Common.{◌≡◌, ◌+◌, ◌*◌, ℕ, false, replicate}
 use Rattle.exectrace.specs.declared.sinks.SinkState.TheVariants.{Good}
-use Rattle.taskscript.specs.Events.{ticks as ticks_of}
+use Rattle.script.specs.Events.{ticks as ticks_of}
 use Rattle.execsim.specs.Time.{HasTimeFor}
 use Rattle.execlog.specs.Runs.{Logs}
 use Rattle.execlog.proofs.log.advance_many.Given as goal

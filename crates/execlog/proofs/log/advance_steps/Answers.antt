@@ -1,6 +1,6 @@
 -- The proof of `advance_steps`: does that many steps.
 use Rattle.std.proofs.Common.{◌+◌, ap, refl, ◌∙◌, arith}
-use Rattle.taskscript.specs.declared.event.Event.TheVariants.{Run}
+use Rattle.script.specs.declared.event.Event.TheVariants.{Run}
 use Rattle.execlog.proofs.Logging.{logs_further, logs_next, logs_none}
 use Rattle.execlog.proofs.log.advance_steps.Goals as goal
 

@@ -1,7 +1,7 @@
 -- The rows of the steps so far were put.
 use Rattle.std.proofs.Common.{◌≡◌, ◌+◌, ◌-◌, ◌≤◌, ℕ, false, replicate}
 use Rattle.exectrace.specs.declared.sinks.SinkState.TheVariants.{Good}
-use Rattle.taskscript.specs.declared.event.Event.TheVariants.{Run}
+use Rattle.script.specs.declared.event.Event.TheVariants.{Run}
 use Rattle.execsim.specs.Time.{HasTimeFor}
 use Rattle.execlog.specs.Runs.{Logs}
 use Rattle.execlog.proofs.log.advance_steps.Given as goal

@@ -1,7 +1,7 @@
 -- The proof of `turn_all`: each event takes its own time.
 use Rattle.std.proofs.Common.{ℕ, subst}
 use Rattle.std.proofs.lemmas.List.Sums.{sum_by-drop_more}
-use Rattle.taskscript.specs.Events.{ticks as ticks_of}
+use Rattle.script.specs.Events.{ticks as ticks_of}
 use Rattle.execsim.specs.Time.{HasTimeFor}
 use Rattle.execpicture.proofs.Turns.{time_for_one}
 use Rattle.execpicture.proofs.film.turn_all.Goals as goal

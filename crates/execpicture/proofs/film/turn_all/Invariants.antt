@@ -1,6 +1,6 @@
 -- The machine has not failed, and has time for the events that are left.
 use Rattle.std.proofs.Common.{◌≡◌, false, drop, sum_by}
-use Rattle.taskscript.specs.Events.{ticks as ticks_of}
+use Rattle.script.specs.Events.{ticks as ticks_of}
 use Rattle.execsim.specs.Time.{HasTimeFor}
 use Rattle.execpicture.proofs.film.turn_all.Given as goal
 

@@ -1,6 +1,6 @@
 -- The proof of `turn_many`: each turn takes its own time.
 use Rattle.std.proofs.Common.{◌+◌, ◌*◌, ◌≤◌, ℕ, subst, arith, mul-le-mul_right}
-use Rattle.taskscript.specs.Events.{ticks as ticks_of}
+use Rattle.script.specs.Events.{ticks as ticks_of}
 use Rattle.execsim.specs.Time.{HasTimeFor}
 use Rattle.execsim.proofs.Clock.{time_for_fewer}
 use Rattle.execpicture.proofs.Turns.{more_time}

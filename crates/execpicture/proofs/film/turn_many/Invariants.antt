@@ -1,6 +1,6 @@
 -- The machine has not failed, and has the time that the turns so far leave.
 use Rattle.std.proofs.Common.{◌≡◌, ◌+◌, ◌*◌, ℕ, false}
-use Rattle.taskscript.specs.Events.{ticks as ticks_of}
+use Rattle.script.specs.Events.{ticks as ticks_of}
 use Rattle.execsim.specs.Time.{HasTimeFor}
 use Rattle.execpicture.proofs.film.turn_many.Given as goal
 

@@ -1,6 +1,6 @@
 -- The proof of `turn_once`: what has time for one more, has time for the rest without it.
 use Rattle.std.proofs.Common.{◌+◌, ℕ, arith}
-use Rattle.taskscript.specs.Events.{ticks as ticks_of}
+use Rattle.script.specs.Events.{ticks as ticks_of}
 use Rattle.execsim.proofs.Clock.{time_for_fewer}
 use Rattle.execpicture.proofs.film.turn_once.Goals as goal
 

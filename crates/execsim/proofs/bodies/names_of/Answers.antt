@@ -1,7 +1,7 @@
 -- A name that differs from all before it is put in after them.
 use Rattle.std.proofs.Common.{◌≡◌, ◌+◌, List, ap, refl, sym, ◌∙◌, ◌≢◌, map, take, subst, ℕ, AllPairs}
 use Rattle.arrayvec.specs.ArrayString.{ArrayString}
-use Rattle.taskscript.specs.{declared.file.SoftintRecord.SoftintRecord, File.SoftintData, Numbering.texts, Records.softint_view}
+use Rattle.script.specs.{declared.file.SoftintRecord.SoftintRecord, File.SoftintData, Names.texts, Records.softint_view}
 use Rattle.execsim.proofs.{BodyNames.name_put_in, Calling.map-map_as}
 use Rattle.execsim.proofs.bodies.names_of.Goals as goal
 

@@ -1,6 +1,6 @@
 -- the names so far are put in
 use Rattle.std.proofs.Common.{◌≡◌, map, take}
-use Rattle.taskscript.specs.{Machines.softint_names, Numbering.texts, Records.softint_view}
+use Rattle.script.specs.{Machines.softint_names, Names.texts, Records.softint_view}
 use Rattle.execsim.proofs.bodies.names_of.Given as goal
 
 abbrev pub invariant-loop-softint : goal.invariant-loop-softint

@@ -1,6 +1,6 @@
 -- One more server is that of the file; its source and its priority stay.
 use Rattle.std.proofs.Common.{◌≡◌, ◌<◌, length, ap, arith, ◌∙◌, length-set}
-use Rattle.taskscript.specs.Records as records
+use Rattle.script.specs.Records as records
 use Rattle.execmodel.specs.Pending.{source_named}
 use Rattle.execsim.specs.{declared.bodies.Server.Server, Views.interrupting, Views.server_view}
 use Rattle.execsim.proofs.Written.{one_more_seen, seen_kept}

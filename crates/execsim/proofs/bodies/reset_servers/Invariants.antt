@@ -1,6 +1,6 @@
 -- the servers so far are those of the file, and their sources and priorities stay
 use Rattle.std.proofs.Common.{◌≡◌, length, map, take}
-use Rattle.taskscript.specs.Records as records
+use Rattle.script.specs.Records as records
 use Rattle.execsim.specs.Views.{interrupting, server_view}
 use Rattle.execsim.proofs.bodies.reset_servers.Given as goal
 

@@ -1,7 +1,7 @@
 -- One more software interrupt is that of the file; its name and its priority stay.
 use Rattle.std.proofs.Common.{◌<◌, length, ap, arith, ◌∙◌, length-set}
-use Rattle.taskscript.specs.File.{SoftintData}
-use Rattle.taskscript.specs.Records as records
+use Rattle.script.specs.File.{SoftintData}
+use Rattle.script.specs.Records as records
 use Rattle.execsim.specs.{declared.bodies.Softint.Softint, Views.softint_view}
 use Rattle.execsim.proofs.Written.{one_more_seen, seen_kept}
 use Rattle.execsim.proofs.bodies.reset_softints.Goals as goal

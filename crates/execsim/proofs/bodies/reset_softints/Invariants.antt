@@ -1,7 +1,7 @@
 -- the software interrupts so far are those of the file, and their names and priorities stay
 use Rattle.std.proofs.Common.{◌≡◌, length, map, take}
-use Rattle.taskscript.specs.Machines.{softint_names}
-use Rattle.taskscript.specs.Records as records
+use Rattle.script.specs.Machines.{softint_names}
+use Rattle.script.specs.Records as records
 use Rattle.execsim.specs.Views.{softint_view}
 use Rattle.execsim.proofs.bodies.reset_softints.Given as goal
 

@@ -1,6 +1,6 @@
 -- the servers so far are made
 use Rattle.std.proofs.Common.{◌≡◌, map, take}
-use Rattle.taskscript.specs.Records as records
+use Rattle.script.specs.Records as records
 use Rattle.execsim.specs.Views.{server_view}
 use Rattle.execsim.proofs.bodies.servers_of.Given as goal
 

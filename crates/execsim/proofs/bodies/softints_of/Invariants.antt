@@ -1,6 +1,6 @@
 -- the software interrupts so far are made
 use Rattle.std.proofs.Common.{◌≡◌, map, take}
-use Rattle.taskscript.specs.Records as records
+use Rattle.script.specs.Records as records
 use Rattle.execsim.specs.Views.{softint_view}
 use Rattle.execsim.proofs.bodies.softints_of.Given as goal
 

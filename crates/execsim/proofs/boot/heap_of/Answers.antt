@@ -2,7 +2,7 @@
 -- the file is of version 2.
 use Rattle.std.proofs.Common.{◌≡◌, length, sym, ap, ◌∙◌}
 use Rattle.std.proofs.lemmas.List.{length-map}
-use Rattle.taskscript.specs.Records.{task_view}
+use Rattle.script.specs.Records.{task_view}
 use Rattle.execsim.proofs.boot.heap_of.Goals as goal
 
 pub returns : goal.returns

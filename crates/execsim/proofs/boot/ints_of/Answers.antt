@@ -1,7 +1,7 @@
 -- The priorities and the sources are those of the records.
 use Rattle.std.proofs.Common.{All, sym, subst}
 use Rattle.softint.specs.{Interrupts.IsPriority, declared.interrupt.Soft.Soft}
-use Rattle.taskscript.specs.{declared.file.SoftintRecord.SoftintRecord, File.SoftintData, Records.softint_view}
+use Rattle.script.specs.{declared.file.SoftintRecord.SoftintRecord, File.SoftintData, Records.softint_view}
 use Rattle.execsim.proofs.{Accepted.all_shown, Accepted.all_under, Calling.map-map_as}
 use Rattle.execsim.proofs.boot.ints_of.Goals as goal
 

@@ -1,6 +1,6 @@
 -- What holds in the loops of `libraries_of`: the libraries, in the order of the file.
 use Rattle.std.proofs.Common.{◌≡◌, map, take}
-use Rattle.taskscript.specs.Records.{library_view}
+use Rattle.script.specs.Records.{library_view}
 use Rattle.execlib.specs.Libraries.{description_of}
 use Rattle.execheap.specs.Numbered.{shown_library}
 use Rattle.execsim.proofs.boot.libraries_of.Given as goal

@@ -1,6 +1,6 @@
 -- What holds in the loops of `programs_of`: the programs of the tasks, in the order of the file.
 use Rattle.std.proofs.Common.{◌≡◌, map, take}
-use Rattle.taskscript.specs.Records.{task_view}
+use Rattle.script.specs.Records.{task_view}
 use Rattle.execmodel.specs.State.{begun}
 use Rattle.execsim.proofs.boot.programs_of.Given as goal
 

@@ -1,6 +1,6 @@
 -- What holds in the loops of `sources_of`: the sources and priorities of the servers, in the order of the file.
 use Rattle.std.proofs.Common.{◌≡◌, map, take}
-use Rattle.taskscript.specs.Records.{server_view}
+use Rattle.script.specs.Records.{server_view}
 use Rattle.execsim.specs.Views.{interrupting}
 use Rattle.execsim.proofs.boot.sources_of.Given as goal
 

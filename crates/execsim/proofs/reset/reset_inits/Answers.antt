@@ -2,7 +2,7 @@
 use Rattle.std.proofs.Common.{rules, ◌<◌, length, arith, refl, ◌∙◌, length-set}
 use Rattle.std.proofs.lemmas.Int.{to_z-of_z}
 use Rattle.taskq.specs.declared.TaskInit.{TaskInit}
-use Rattle.taskscript.specs.declared.file.TaskRecord.{TaskRecord}
+use Rattle.script.specs.declared.file.TaskRecord.{TaskRecord}
 use Rattle.execsim.proofs.Written.{one_more_seen}
 use Rattle.execsim.proofs.reset.reset_inits.Goals as goal
 use mir.Syntax.{w8}

@@ -1,7 +1,7 @@
 -- One more program is that of its task.
 use Rattle.std.proofs.Common.{◌≡◌, ◌<◌, length, map, ap, arith, refl, sym, ◌∙◌, slice_index_or, List, ℕ, length-set}
 use Rattle.std.proofs.lemmas.List.{get_or-map, length-map}
-use Rattle.taskscript.specs.{declared.file.TaskRecord.TaskRecord, Commands.command_view, File.TaskData, Records.task_view}
+use Rattle.script.specs.{declared.file.TaskRecord.TaskRecord, Commands.command_view, File.TaskData, Records.task_view}
 use Rattle.execmodel.specs.State.{begun, begun_with}
 use Rattle.execsim.proofs.Written.{one_more}
 use Rattle.execsim.proofs.reset.reset_programs.Goals as goal

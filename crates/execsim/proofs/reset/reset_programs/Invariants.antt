@@ -1,6 +1,6 @@
 -- the programs so far are those of the tasks
 use Rattle.std.proofs.Common.{◌≡◌, length, map, take}
-use Rattle.taskscript.specs.Records.{task_view}
+use Rattle.script.specs.Records.{task_view}
 use Rattle.execmodel.specs.State.{begun}
 use Rattle.execsim.proofs.reset.reset_programs.Given as goal
 

@@ -1,6 +1,6 @@
 -- The proof of `run_events`: one event after another.
 use Rattle.std.proofs.Common.{◌≡◌, ◌+◌, ℕ, drop, get_or, subst, refl, arith, sum_by}
-use Rattle.taskscript.specs.{Events.ticks as ticks_of, declared.event.Event.TheVariants.Run}
+use Rattle.script.specs.{Events.ticks as ticks_of, declared.event.Event.TheVariants.Run}
 use Rattle.execsim.specs.Time.{HasTimeFor}
 use Rattle.execsim_c.proofs.Steps.{does_none, does_more, ticks_left}
 use Rattle.execsim_c.proofs.session.run_events.Goals as goal

@@ -1,7 +1,7 @@
 -- The events so far, and the time of those that are left.
 use Rattle.std.proofs.Common.{◌≡◌, ◌+◌, ℕ, take, drop, false, sum_by}
 use Rattle.exectrace.specs.declared.sinks.SinkState.TheVariants.{Good}
-use Rattle.taskscript.specs.Events.{ticks as ticks_of}
+use Rattle.script.specs.Events.{ticks as ticks_of}
 use Rattle.execmodel.specs.Step.{events}
 use Rattle.execsim.specs.Time.{HasTimeFor}
 use Rattle.execsim_c.specs.Stepping.{Does}

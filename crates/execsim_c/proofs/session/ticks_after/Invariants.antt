@@ -1,6 +1,6 @@
 -- The ticks so far, and those that are left.
 use Rattle.std.proofs.Common.{◌≡◌, ◌+◌, take, sum_by}
-use Rattle.taskscript.specs.Events.{ticks as ticks_of}
+use Rattle.script.specs.Events.{ticks as ticks_of}
 use Rattle.execsim_c.proofs.session.ticks_after.Given as goal
 
 abbrev pub invariant-loop-event : goal.invariant-loop-event

@@ -1,6 +1,6 @@
 -- The proof of `execsim_events`: the machine of the handle has done the events.
 use Rattle.std.proofs.Common.{◌∙◌, List, Some, ap, subst, sym}
-use Rattle.taskscript.specs.declared.event.Event.{Event}
+use Rattle.script.specs.declared.event.Event.{Event}
 use Rattle.execmodel.specs.Step.{events}
 use Rattle.execsim_c.specs.{Stepping.Does, declared.session.Session.Session}
 use Rattle.execsim_c.proofs.stepping.execsim_events.Goals as goal

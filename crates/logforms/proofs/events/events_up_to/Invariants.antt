@@ -1,6 +1,6 @@
 -- The sums of what is taken.
 use Rattle.std.proofs.Common.{◌≡◌, ◌≤◌, sum_by}
-use Rattle.taskscript.specs.Events.{ticks as ticks_of}
+use Rattle.script.specs.Events.{ticks as ticks_of}
 use Rattle.execlog.specs.Log.{turns}
 use Rattle.logforms.proofs.events.events_up_to.Given as goal
 

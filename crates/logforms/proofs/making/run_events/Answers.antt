@@ -1,6 +1,6 @@
 -- There is time for the ticks of the events.
 use Rattle.std.proofs.Common.{arith, sum_by}
-use Rattle.taskscript.specs.Events.{ticks as ticks_of}
+use Rattle.script.specs.Events.{ticks as ticks_of}
 use Rattle.execsim.proofs.Clock.{time_for_fewer}
 use Rattle.execlog.specs.Log.{turns}
 use Rattle.logforms.proofs.making.run_events.Goals as goal

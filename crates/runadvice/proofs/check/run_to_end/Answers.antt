@@ -1,7 +1,7 @@
 -- The proof of `run_to_end`: what the machine shows is the state in which the run ends, and the room has the end of its trace.
 use Rattle.std.proofs.Common.{List, subst}
 use Rattle.exectrace.specs.Trace.{printed}
-use Rattle.taskscript.specs.declared.event.Event.{Event}
+use Rattle.script.specs.declared.event.Event.{Event}
 use Rattle.execmodel.specs.Step.{run}
 use Rattle.execsim.proofs.Clock.{time_for_fewer}
 use Rattle.runadvice.specs.Going.{EndsWith}

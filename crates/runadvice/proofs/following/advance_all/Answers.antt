@@ -1,7 +1,7 @@
 -- The proof of `advance_all`: does some events.
 use Rattle.std.proofs.Common.{ℕ, subst}
 use Rattle.std.proofs.lemmas.List.Sums.{sum_by-drop_more}
-use Rattle.taskscript.specs.Events.{ticks as ticks_of}
+use Rattle.script.specs.Events.{ticks as ticks_of}
 use Rattle.execsim.specs.Time.{HasTimeFor}
 use Rattle.runadvice.proofs.Follows.{goes_none, goes_turn, time_for_one}
 use Rattle.runadvice.proofs.following.advance_all.Goals as goal

@@ -1,7 +1,7 @@
 -- The machine has gone on over each event so far.
 use Rattle.std.proofs.Common.{◌≡◌, false, take, drop, sum_by}
 use Rattle.exectrace.specs.declared.sinks.SinkState.TheVariants.{Good}
-use Rattle.taskscript.specs.Events.{ticks as ticks_of}
+use Rattle.script.specs.Events.{ticks as ticks_of}
 use Rattle.execsim.specs.Time.{HasTimeFor}
 use Rattle.runadvice.specs.Going.{Goes}
 use Rattle.runadvice.proofs.following.advance_all.Given as goal

@@ -1,6 +1,6 @@
 -- The proof of `advance_steps`: does that many steps.
 use Rattle.std.proofs.Common.{◌≡◌, ◌+◌, ◌∷◌, [], ℕ, subst, arith}
-use Rattle.taskscript.specs.declared.event.Event.TheVariants.{Run}
+use Rattle.script.specs.declared.event.Event.TheVariants.{Run}
 use Rattle.execsim.specs.Time.{HasTimeFor}
 use Rattle.runadvice.specs.Going.{Goes}
 use Rattle.runadvice.proofs.Follows.{goes_no_steps, goes_steps}

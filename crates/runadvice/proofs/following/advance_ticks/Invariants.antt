@@ -1,7 +1,7 @@
 -- The machine has gone on over that many ticks.
 use Rattle.std.proofs.Common.{◌≡◌, ◌+◌, ◌∷◌, ℕ, [], false}
 use Rattle.exectrace.specs.declared.sinks.SinkState.TheVariants.{Good}
-use Rattle.taskscript.specs.declared.event.Event.TheVariants.{Tick}
+use Rattle.script.specs.declared.event.Event.TheVariants.{Tick}
 use Rattle.execsim.specs.Time.{HasTimeFor}
 use Rattle.runadvice.specs.Going.{Goes}
 use Rattle.runadvice.proofs.following.advance_ticks.Given as goal

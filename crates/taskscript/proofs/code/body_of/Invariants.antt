@@ -1,7 +1,8 @@
 -- What holds in the loops of `body_of`.
 use Rattle.std.proofs.Common.{◌≡◌, ◌++◌, ◌≤◌, drop, length}
 use Rattle.toml.specs.View.{items_view}
-use Rattle.taskscript.specs.{Bodies.nothing_read, Bodies.reading_view, Bodies.reading_after, Bodies.faults_after, Code.lines_in, Listings.command_lines, Listings.command_lines_from, Numbering.texts, Records.setting_view}
+use Rattle.script.specs.Names.{texts}
+use Rattle.taskscript.specs.{Bodies.nothing_read, Bodies.reading_view, Bodies.reading_after, Bodies.faults_after, Code.lines_in, Listings.command_lines, Listings.command_lines_from, Records.setting_view}
 use Rattle.execlist.specs.Order.{first}
 use Rattle.taskscript.proofs.code.body_of.Given as goal
 

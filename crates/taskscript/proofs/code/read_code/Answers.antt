@@ -2,7 +2,8 @@
 use Rattle.std.proofs.Common.{◌≤◌, ◌∙◌, length, Ok, Err}
 use Rattle.std.proofs.lemmas.{List.length-map, Result.err_from_is_err_and}
 use Rattle.toml.specs.View.{items_view}
-use Rattle.taskscript.specs.{Bodies.reading_view, Code.lines_in, Lines.named_command_view, Numbering.texts, Records.setting_view}
+use Rattle.script.specs.Names.{texts}
+use Rattle.taskscript.specs.{Bodies.reading_view, Code.lines_in, Lines.named_command_view, Records.setting_view}
 use Rattle.taskscript.proofs.BodyReading.{lines_counted, too_long, line_decides, code_decided, lines_fill, shared_read}
 use Rattle.taskscript.proofs.{Listings.body_listed, Fitting.commands_within, Fitting.commands_once}
 use Rattle.taskscript.proofs.code.read_code.Goals as goal

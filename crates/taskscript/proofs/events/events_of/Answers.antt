@@ -1,7 +1,8 @@
 -- The proof of `events_of`.
 use Rattle.std.proofs.Common.{◌≡◌, sym, ◌∙◌, arith, true, false, ◌++◌, ◌∷◌, [], ◌+◌, length, map, take}
 use Rattle.std.proofs.lemmas.{List.length_push, List.Sums.sum_by_push}
-use Rattle.taskscript.specs.Events.{is_skipped, is_within, steps, ticks}
+use Rattle.script.specs.Events.{is_within, steps, ticks}
+use Rattle.taskscript.specs.Events.{is_skipped}
 use Rattle.taskscript.proofs.EventTurns.{text_at, skip_found, skip_judged, bad_line, more_found, counted, too_many, goes_on, limits, all_within}
 use Rattle.taskscript.proofs.events.events_of.Goals as goal
 

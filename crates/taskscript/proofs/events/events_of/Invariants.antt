@@ -1,6 +1,7 @@
 -- What holds in the loops of `events_of`.
 use Rattle.std.proofs.Common.{◌≡◌, ◌≤◌, take, drop, map, length, sum_by, []}
-use Rattle.taskscript.specs.Events.{events_of, steps, ticks, event_faults}
+use Rattle.script.specs.Events.{steps, ticks}
+use Rattle.taskscript.specs.Events.{events_of, event_faults}
 use Rattle.execlist.specs.Order.{first}
 use Rattle.taskscript.proofs.events.events_of.Given as goal
 

@@ -1,7 +1,7 @@
 -- The proof of `heads_of`.
 use Rattle.std.proofs.Common.{sym, ◌∙◌}
 use Rattle.std.proofs.lemmas.Result.{err_from_is_err_and}
-use Rattle.taskscript.specs.Numbering.{texts}
+use Rattle.script.specs.Names.{texts}
 use Rattle.taskscript.proofs.OwnerTurns.{heads_stop, heads_go_on, heads_found, names_go_on}
 use Rattle.taskscript.proofs.heads.heads_of.Goals as goal
 

@@ -2,7 +2,8 @@
 use Rattle.std.proofs.Common.{◌≡◌, drop, map, ◌++◌}
 use Rattle.toml.specs.View.{items_view}
 use Rattle.execlist.specs.Order.{first}
-use Rattle.taskscript.specs.{File.named_faults, File.item_names, Numbering.texts, Tree.of_items}
+use Rattle.script.specs.Names.{texts}
+use Rattle.taskscript.specs.{File.named_faults, File.item_names, Tree.of_items}
 use Rattle.taskscript.proofs.heads.heads_of.Given as goal
 
 abbrev pub invariant-loop-i : goal.invariant-loop-i

@@ -1,6 +1,7 @@
 -- What holds in the loops of `are_known`.
 use Rattle.std.proofs.Common.{◌≡◌, drop, map}
-use Rattle.taskscript.specs.{Interrupting.softints_among, Lines.named_argument_view, Numbering.texts}
+use Rattle.script.specs.Names.{texts}
+use Rattle.taskscript.specs.{Interrupting.softints_among, Lines.named_argument_view}
 use Rattle.taskscript.proofs.Interrupts.{are_known}
 use Rattle.taskscript.proofs.interrupting.are_known.Given as goal
 

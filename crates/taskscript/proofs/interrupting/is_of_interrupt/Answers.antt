@@ -1,7 +1,8 @@
 -- The proof of `is_of_interrupt`.
 use Rattle.std.proofs.Common.{◌≡◌, ◌∙◌, ◌&&◌, Bool, true, option_map, sym, ap}
 use Rattle.std.specs.List.{list_all}
-use Rattle.taskscript.specs.{declared.named.NamedArgument.NamedArgument, Interrupting.is_word_of_interrupt, Interrupting.is_open, Lines.NamedVariableData, Lines.named_variable_view, Lines.named_argument_view, Lines.named_command_view, Numbering.variables_of_target, Numbering.variables_of}
+use Rattle.script.specs.Interrupting.{is_word_of_interrupt}
+use Rattle.taskscript.specs.{declared.named.NamedArgument.NamedArgument, Interrupting.is_open, Lines.NamedVariableData, Lines.named_variable_view, Lines.named_argument_view, Lines.named_command_view, Numbering.variables_of_target, Numbering.variables_of}
 use Rattle.taskscript.proofs.Interrupts.{all_open}
 use Rattle.taskscript.proofs.interrupting.is_of_interrupt.Goals as goal
 

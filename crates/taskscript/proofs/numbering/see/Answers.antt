@@ -1,7 +1,8 @@
 -- The proof of `see`.
 use Rattle.std.proofs.Common.{◌≡◌, ◌∙◌, refl, arith, true, false, nat_lt}
 use Rattle.std.proofs.lemmas.Bool.Decides.{nat_tests}
-use Rattle.taskscript.specs.Numbering.{number_in, texts}
+use Rattle.script.specs.Names.{texts}
+use Rattle.taskscript.specs.Numbering.{number_in}
 use Rattle.taskscript.proofs.Names.{number_texts, seen_texts}
 use Rattle.taskscript.proofs.numbering.see.Goals as goal
 

@@ -6,7 +6,8 @@ use Rattle.toml.specs.Data.{get_member}
 use Rattle.toml.specs.View.{table_view}
 use Rattle.execlist.specs.Order.{first}
 use Rattle.taskscript.specs.declared.place.Array.TheVariants as array
-use Rattle.taskscript.specs.{Faults.IsFirst, File.softint_faults, File.server_faults, File.task_faults, File.named_faults, File.item_names, File.softints_in, File.servers_in, File.tasks_in, File.names_before_servers, File.names_before_tasks, Numbering.texts, Tree.optional, Tree.array_faults}
+use Rattle.script.specs.Names.{texts}
+use Rattle.taskscript.specs.{Faults.IsFirst, File.softint_faults, File.server_faults, File.task_faults, File.named_faults, File.item_names, File.softints_in, File.servers_in, File.tasks_in, File.names_before_servers, File.names_before_tasks, Tree.optional, Tree.array_faults}
 use Rattle.taskscript.proofs.Firsts.{first_some, skip, both}
 use Rattle.taskscript.proofs.owners.heads_in.Goals as goal
 

@@ -5,7 +5,8 @@ use Rattle.toml.specs.Data.{Items}
 use Rattle.toml.specs.View.{table_view, items_view}
 use Rattle.execlist.specs.Order.{first}
 use Rattle.taskscript.specs.declared.place.Owner.TheVariants.{Softint, Server, Task}
-use Rattle.taskscript.specs.{File.item_names, File.softints_in, File.servers_in, File.tasks_in, File.setting_of, File.bodies_faults, File.shared_after_bodies, File.with_bodies, File.shared_after_softints, File.shared_after_servers, File.softint_of, File.server_of, File.task_of, Interrupting.Setting, Listings.owner_listing, Numbering.texts, Records.softint_head_view, Records.softint_head_of}
+use Rattle.script.specs.Names.{texts}
+use Rattle.taskscript.specs.{File.item_names, File.softints_in, File.servers_in, File.tasks_in, File.setting_of, File.bodies_faults, File.shared_after_bodies, File.with_bodies, File.shared_after_softints, File.shared_after_servers, File.softint_of, File.server_of, File.task_of, Interrupting.Setting, Listings.owner_listing, Records.softint_head_view, Records.softint_head_of}
 use Rattle.taskscript.proofs.{Firsts.first_some, Firsts.skip, Firsts.both, Listings.listing_is, OwnerTurns.front_names, OwnerTurns.front_fits, OwnerTurns.of_three}
 use Rattle.taskscript.proofs.owners.owners_in.Goals as goal
 

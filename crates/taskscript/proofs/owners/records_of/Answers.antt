@@ -2,7 +2,8 @@
 use Rattle.std.proofs.Common.{◌≡◌, sym, ◌∙◌, arith}
 use Rattle.std.proofs.lemmas.Result.{err_from_is_err_and}
 use Rattle.toml.specs.View.{view}
-use Rattle.taskscript.specs.{Code.shared_after, File.code_lines, Numbering.texts, Records.setting_view, Records.made_of}
+use Rattle.script.specs.Names.{texts}
+use Rattle.taskscript.specs.{Code.shared_after, File.code_lines, Records.setting_view, Records.made_of}
 use Rattle.taskscript.proofs.{Listings.listings_found, OwnerTurns.heads_fill, OwnerTurns.heads_at, OwnerTurns.bodies_stop, OwnerTurns.bodies_go_on, OwnerTurns.shared_go_on, OwnerTurns.records_found}
 use Rattle.taskscript.proofs.owners.records_of.Goals as goal
 

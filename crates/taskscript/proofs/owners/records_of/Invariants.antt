@@ -2,7 +2,8 @@
 use Rattle.std.proofs.Common.{◌≡◌, drop, map, ◌++◌}
 use Rattle.toml.specs.View.{items_view}
 use Rattle.execlist.specs.Order.{first}
-use Rattle.taskscript.specs.{File.bodies_faults, File.shared_after_bodies, File.with_bodies, Listings.owner_listing, Numbering.texts, Records.setting_view, Records.made_of}
+use Rattle.script.specs.Names.{texts}
+use Rattle.taskscript.specs.{File.bodies_faults, File.shared_after_bodies, File.with_bodies, Listings.owner_listing, Records.setting_view, Records.made_of}
 use Rattle.taskscript.proofs.owners.records_of.Given as goal
 
 abbrev pub invariant-loop-i : goal.invariant-loop-i

@@ -2,13 +2,14 @@
 use Rattle.std.proofs.Common.{sym, ◌∙◌, ◌++◌, ap, map, Bool, None, Some}
 use Rattle.std.proofs.lemmas.Result.{err_from_is_err_and}
 use Rattle.toml.specs.View.{table_view}
-use Rattle.taskscript.specs.{declared.fault.FileFault.TheVariants.UnknownKey, declared.place.TablePlace.TheVariants.Top, Faults.check, File.top_keys, File.total_of, File.version_of, File.settings_faults, File.regions_faults, File.libraries_faults, File.both_passes_faults, Places.at, Places.unknown_key_at, Records.library_view, Records.softint_view, Records.server_view, Records.task_view, Tree.keys_are_among}
+use Rattle.script.specs.{File.total_of, Records.library_view, Records.softint_view, Records.server_view, Records.task_view}
+use Rattle.taskscript.specs.{declared.fault.FileFault.TheVariants.UnknownKey, declared.place.TablePlace.TheVariants.Top, Faults.check, File.top_keys, File.version_of, File.settings_faults, File.regions_faults, File.libraries_faults, File.both_passes_faults, Places.at, Places.unknown_key_at, Tree.keys_are_among}
 use Rattle.execlist.specs.Order.{first}
 use Rattle.taskscript.proofs.{Firsts.first_some, Firsts.skip, Firsts.both, Machines.in_version, Machines.read_holds, Machines.read_is}
 use Rattle.taskscript.proofs.reading.machine_of.Goals as goal
 
-pub invariant_of-machine : goal.invariant_of-machine
-invariant_of-machine c =
+pub new-machine-requires : goal.new-machine-requires
+new-machine-requires c =
     let owners = c.in_ok-owners.owners in
     read_holds (table_view c.args.table.now) c.in_ok-settings.settings.version c.in_ok-settings.settings.quantum c.in_ok-settings.settings.tick_micros c.in_ok-settings.settings.pool c.in_ok-regions.regions.items
     (map library_view c.in_ok-libraries.libraries.items) (map softint_view owners.softints.items) (map server_view owners.servers.items) (map task_view owners.tasks.items)
@@ -67,7 +68,7 @@ returns c =
           (both (regions_faults (total_of (version_of t)) t) _ regions
           (both (libraries_faults t) (both_passes_faults t) c.in_ok-libraries.ensures.0 c.in_ok-owners.ensures.0))),
       (
-        read_is t c.in_ok-settings.settings.version c.in_ok-settings.settings.quantum c.in_ok-settings.settings.tick_micros c.in_ok-settings.settings.pool c.in_ok-regions.regions.items
+        c.new-machine.ensures ∙ read_is t c.in_ok-settings.settings.version c.in_ok-settings.settings.quantum c.in_ok-settings.settings.tick_micros c.in_ok-settings.settings.pool c.in_ok-regions.regions.items
             (map library_view c.in_ok-libraries.libraries.items) (map softint_view owners.softints.items) (map server_view owners.servers.items) (map task_view owners.tasks.items)
             c.in_ok-settings.ensures.1.0 c.in_ok-settings.ensures.1.1 c.in_ok-settings.ensures.1.2 c.in_ok-settings.ensures.1.3 c.in_ok-regions.ensures.1 c.in_ok-libraries.ensures.1 c.in_ok-owners.ensures.1.softints c.in_ok-owners.ensures.1.servers c.in_ok-owners.ensures.1.tasks,
         c.in_ok-owners.ensures.1.listing,

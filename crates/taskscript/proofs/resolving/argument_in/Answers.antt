@@ -1,6 +1,7 @@
 -- The proof of `argument_in`.
 use Rattle.std.proofs.Common.{◌≡◌, ℕ, ◌∙◌, Some, None, refl, sym, ap, Option, ◌&&◌, true, is_some, unwrap_or}
-use Rattle.taskscript.specs.{Commands.place, Labels.place_in, Labels.marks_view}
+use Rattle.script.specs.Commands.{place}
+use Rattle.taskscript.specs.{Labels.place_in, Labels.marks_view}
 use Rattle.taskscript.proofs.LabelPlaces.{place_looked_up}
 use Rattle.taskscript.proofs.resolving.argument_in.Goals as goal
 

@@ -1,6 +1,7 @@
 -- The proof of `arguments_in`.
 use Rattle.std.proofs.Common.{◌≡◌, ◌∙◌, ◌+◌, ◌∷◌, drop, map, take, true, sym, arith, length-set}
-use Rattle.taskscript.specs.{Commands.argument_view, Commands.ArgumentFits, Commands.IsNamed, Labels.marks_view, Labels.place_at, Lines.named_argument_view, Numbering.names_view, Numbering.argument_in}
+use Rattle.script.specs.{Commands.argument_view, Commands.ArgumentFits, Commands.IsNamed}
+use Rattle.taskscript.specs.{Labels.marks_view, Labels.place_at, Lines.named_argument_view, Numbering.names_view, Numbering.argument_in}
 use Rattle.taskscript.proofs.{Naming.holds_at, Resolved.marked_more, Resolved.front_grown, Resolved.made_more, Resolved.arguments_resolved, Turns.left_split}
 use Rattle.taskscript.proofs.resolving.arguments_in.Goals as goal
 

@@ -1,6 +1,7 @@
 -- What holds in the loops of `arguments_in`.
 use Rattle.std.proofs.Common.{◌≡◌, ◌++◌, ℕ, List, All, drop, take, map, length}
-use Rattle.taskscript.specs.{Commands.argument_view, Commands.IsNamed, Labels.are_marked, Labels.marks_view, Labels.place_at, Lines.named_argument_view, Numbering.names_view, Numbering.argument_in, Numbering.labels_of_arguments}
+use Rattle.script.specs.{Commands.argument_view, Commands.IsNamed}
+use Rattle.taskscript.specs.{Labels.are_marked, Labels.marks_view, Labels.place_at, Lines.named_argument_view, Numbering.names_view, Numbering.argument_in, Numbering.labels_of_arguments}
 use Rattle.taskscript.proofs.resolving.arguments_in.Given as goal
 
 abbrev pub invariant-loop-i : goal.invariant-loop-i

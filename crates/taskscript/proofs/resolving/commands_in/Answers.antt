@@ -2,7 +2,8 @@
 -- these.
 use Rattle.std.proofs.Common.{◌≡◌, ◌∙◌, ◌+◌, ◌∷◌, drop, get_or, map, arith}
 use Rattle.std.proofs.lemmas.List.{drop_more, map_push}
-use Rattle.taskscript.specs.{Commands.CommandFits, Commands.command_view, Labels.marks_view, Labels.place_at, Lines.named_command_view, Machines.QuotesOnce, Numbering.names_view, Numbering.command_in}
+use Rattle.script.specs.{Commands.CommandFits, Commands.command_view, Machines.QuotesOnce}
+use Rattle.taskscript.specs.{Labels.marks_view, Labels.place_at, Lines.named_command_view, Numbering.names_view, Numbering.command_in}
 use Rattle.taskscript.proofs.{Naming.holds_at, Resolved.next_command, Resolved.made_more, Resolved.jump_goes_on, Resolved.jump_stops}
 use Rattle.taskscript.proofs.resolving.commands_in.Goals as goal
 

@@ -1,7 +1,8 @@
 -- The proof of `name_among`.
 use Rattle.std.proofs.Common.{◌∙◌, ap, sym, map}
 use Rattle.std.proofs.lemmas.List.{drop_all}
-use Rattle.taskscript.specs.{Commands.first_name, Lines.named_argument_view, Numbering.argument_in}
+use Rattle.script.specs.Commands.{first_name}
+use Rattle.taskscript.specs.{Lines.named_argument_view, Numbering.argument_in}
 use Rattle.taskscript.proofs.{Resolved.name_first, Resolved.name_left, Turns.left_split}
 use Rattle.taskscript.proofs.resolving.name_among.Goals as goal
 

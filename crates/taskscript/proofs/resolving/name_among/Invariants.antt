@@ -1,6 +1,7 @@
 -- What holds in the loops of `name_among`.
 use Rattle.std.proofs.Common.{◌≡◌, ℕ, List, drop, map}
-use Rattle.taskscript.specs.{Commands.first_name, Lines.named_argument_view, Numbering.Names, Numbering.argument_in}
+use Rattle.script.specs.Commands.{first_name}
+use Rattle.taskscript.specs.{Lines.named_argument_view, Numbering.Names, Numbering.argument_in}
 use Rattle.taskscript.proofs.resolving.name_among.Given as goal
 
 abbrev pub invariant-loop-argument : goal.invariant-loop-argument

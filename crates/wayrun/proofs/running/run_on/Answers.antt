@@ -1,7 +1,7 @@
 -- The proof of `run_on`: runs a way on a machine that was not started, that of the file.
 use Rattle.std.proofs.Common.{◌≡◌, ◌∙◌, ◌≤◌, ◌+◌, List, ℕ, [], ◌++◌, get_or, take, drop, refl, ap, ap₂, sym, subst, arith, sum_by}
 use Rattle.exectrace.specs.Trace.{printed}
-use Rattle.taskscript.specs.{Events.ticks as ticks_of, declared.event.Event.TheVariants.Run}
+use Rattle.script.specs.{Events.ticks as ticks_of, declared.event.Event.TheVariants.Run}
 use Rattle.execmodel.specs.{State.Outcome, State.booted, Step.starts, Step.event}
 use Rattle.execsim.specs.{Agreement.Agrees, Headline.flow_of, Time.HasTimeFor}
 use Rattle.execsim.proofs.Clock.{time_for_fewer}

@@ -1,7 +1,7 @@
 -- The run so far, and its time.
 use Rattle.std.proofs.Common.{◌≡◌, ◌++◌, take, drop, false, [], sum_by}
 use Rattle.exectrace.specs.{Trace.printed, declared.sinks.SinkState.TheVariants.Good}
-use Rattle.taskscript.specs.Events.{ticks as ticks_of}
+use Rattle.script.specs.Events.{ticks as ticks_of}
 use Rattle.execsim.specs.{Agreement.Agrees, Headline.flow_of, Time.HasTimeFor}
 use Rattle.wayrun.specs.{Texts.last_of, Texts.shown_of, Texts.whole_lines, SoFar.so_far}
 use Rattle.wayrun.proofs.running.run_on.Given as goal

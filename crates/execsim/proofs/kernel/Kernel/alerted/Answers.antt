@@ -3,4 +3,4 @@ use Rattle.execsim.proofs.Endings.{follows_alerted}
 use Rattle.execsim.proofs.kernel.Kernel.alerted.Goals as goal
 
 pub returns : goal.returns
-returns g c = follows_alerted _ _ _ c.stop.ensures (rw (c.name-name.ensures, c.text.ensures) at c.put_alert.ensures)
+returns g c = follows_alerted _ _ _ c.stop.ensures (rw c.name-by.ensures at c.hear.ensures)

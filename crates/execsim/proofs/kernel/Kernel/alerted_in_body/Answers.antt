@@ -4,4 +4,4 @@ use Rattle.execsim.proofs.Following.{follows_saying, moves_stopped}
 use Rattle.execsim.proofs.kernel.Kernel.alerted_in_body.Goals as goal
 
 pub returns : goal.returns
-returns g c = follows_saying _ (λ s e. refl) (rw c.text.ensures at c.put_alert.ensures) (moves_stopped true c.stop.ensures)
+returns g c = follows_saying _ (λ s e. refl) c.hear.ensures (moves_stopped true c.stop.ensures)

@@ -3,4 +3,4 @@ use Rattle.execsim.proofs.Requesting.{announced_due}
 use Rattle.execsim.proofs.kernel.Kernel.announce_due.Goals as goal
 
 pub returns-clause-follows : goal.returns-clause-follows
-returns-clause-follows g c = announced_due _ _ c.put_timer.ensures c.perform.ensures
+returns-clause-follows g c = announced_due _ _ c.hear.ensures c.perform.ensures

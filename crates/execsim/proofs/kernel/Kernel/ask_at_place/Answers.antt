@@ -1,6 +1,6 @@
 -- The proof of `Kernel::ask_at_place`: the command at a place of a body is done, unless an alert has stopped the machine.
 use Rattle.std.proofs.Common.{ap, refl, sym, ◌∙◌}
-use Rattle.taskscript.specs.Commands.{command_view}
+use Rattle.script.specs.Commands.{command_view}
 use Rattle.execmodel.specs.Calls.{call_in_body}
 use Rattle.execsim.specs.{Agreement.Seen, Views.code_of_body}
 use Rattle.execsim.proofs.BodyCalls.{command_there, place_done, place_empty, step_as}

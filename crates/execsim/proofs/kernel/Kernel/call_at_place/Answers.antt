@@ -1,6 +1,6 @@
 -- The proof of `Kernel::call_at_place`: the command at a place of a body is done by its call, unless an alert has stopped the machine.
 use Rattle.std.proofs.Common.{ap, sym, take, ◌∙◌}
-use Rattle.taskscript.specs.Commands.{argument_view, command_view}
+use Rattle.script.specs.Commands.{argument_view, command_view}
 use Rattle.execmodel.specs.Calls.{evaluated_in_body}
 use Rattle.execsim.specs.{Agreement.Seen, Views.code_of_body}
 use Rattle.execsim.proofs.{BodyCalls.command_there, BodyCalls.place_done, BodyCalls.place_empty, BodyCalls.step_as, Calling.map-map_as}

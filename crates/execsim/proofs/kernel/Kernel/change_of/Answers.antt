@@ -1,7 +1,7 @@
 -- The proof of `Kernel::change_of`: what a command of task t of that plain word changes, if the next one is at that place; none for a word
 -- that prints.
 use Rattle.std.proofs.Common.{ap, ◌∙◌}
-use Rattle.taskscript.specs.{declared.word.Word.TheVariants.Plain, Commands.command_view}
+use Rattle.script.specs.{declared.word.Word.TheVariants.Plain, Commands.command_view}
 use Rattle.execmodel.specs.{Calls.call_of, Calls.silent, Plain.jumps}
 use Rattle.execsim.proofs.Changing.{sets, adds, subtracts, masks, joins, goes, goes_at_zero, goes_unless_zero}
 use Rattle.execsim.proofs.kernel.Kernel.change_of.Goals as goal

@@ -3,4 +3,4 @@ use Rattle.execsim.proofs.Stepping.{ends_as}
 use Rattle.execsim.proofs.kernel.Kernel.end.Goals as goal
 
 pub returns : goal.returns
-returns g c = ends_as _ c.leave.ensures (rw c.name-name.ensures at c.put_call.ensures)
+returns g c = ends_as _ c.leave.ensures c.tell.ensures

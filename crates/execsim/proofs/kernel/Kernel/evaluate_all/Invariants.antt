@@ -3,7 +3,7 @@
 use Rattle.std.proofs.Common.{◌≡◌, ℕ, List, length, map, take}
 use Rattle.exectrace.specs.Short.{short_argument}
 use Rattle.execmodel.specs.Calls.{evaluated}
-use Rattle.taskscript.specs.Commands.{argument_view}
+use Rattle.script.specs.Commands.{argument_view}
 use Rattle.execsim.proofs.kernel.Kernel.evaluate_all.Given as goal
 
 -- the values so far are those of the arguments

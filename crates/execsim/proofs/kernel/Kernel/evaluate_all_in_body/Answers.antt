@@ -4,7 +4,7 @@ use Rattle.std.proofs.Common.{◌≡◌, ◌<◌, ℕ, arith, length, map, subst
 use Rattle.std.proofs.lemmas.List.{get_or_default}
 use Rattle.exectrace.specs.Short.{short_argument}
 use Rattle.execmodel.specs.Calls.{evaluated_in_body}
-use Rattle.taskscript.specs.Commands.{argument_view}
+use Rattle.script.specs.Commands.{argument_view}
 use Rattle.execsim.proofs.Calling.{shown_one_more}
 use Rattle.execsim.proofs.kernel.Kernel.evaluate_all_in_body.Goals as goal
 

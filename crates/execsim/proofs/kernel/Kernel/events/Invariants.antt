@@ -6,4 +6,4 @@ use Rattle.execsim.proofs.kernel.Kernel.events.Given as goal
 
 -- the events so far were followed
 abbrev pub invariant-loop-one : goal.invariant-loop-one
-invariant-loop-one g l = FollowsWhileGood (events (take l.one-index l.list)) l.initial.self l.self (g.W.Sink.tape l.initial.out) (g.W.Sink.tape l.out)
+invariant-loop-one g l = FollowsWhileGood g.W.Witness.hearing (events (take l.one-index l.list)) l.initial.self l.self (g.W.Witness.told l.initial.out) (g.W.Witness.told l.out)

@@ -7,7 +7,7 @@ use Rattle.execsim.proofs.kernel.Kernel.finish_all_due.Given as goal
 
 -- the requests that finish from now on end what all of them began
 abbrev pub invariant-loop-request : goal.invariant-loop-request
-invariant-loop-request g l = EndsAll due_next l.initial.self (g.W.Sink.tape l.initial.out) l.self (g.W.Sink.tape l.out)
+invariant-loop-request g l = EndsAll g.W.Witness.hearing due_next l.initial.self (g.W.Witness.told l.initial.out) l.self (g.W.Witness.told l.out)
 
 abbrev pub decreases-loop-request : goal.decreases-loop-request
 decreases-loop-request g l = length l.self.memory.timer.waiting

@@ -3,4 +3,4 @@ use Rattle.execsim.proofs.Calculating.{follows_jump}
 use Rattle.execsim.proofs.kernel.Kernel.jump.Goals as goal
 
 pub returns : goal.returns
-returns g c tape = follows_jump _ _ _ c.number.ensures (c.jump_to.ensures tape)
+returns g c = follows_jump _ _ _ c.number.ensures (c.jump_to.ensures)

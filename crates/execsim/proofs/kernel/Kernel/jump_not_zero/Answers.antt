@@ -4,4 +4,4 @@ use Rattle.execsim.proofs.Calculating.{follows_jump_not_zero}
 use Rattle.execsim.proofs.kernel.Kernel.jump_not_zero.Goals as goal
 
 pub returns : goal.returns
-returns g c tape = follows_jump_not_zero _ _ _ (rw (c.place_at_zero-place.ensures, c.number.ensures, c.number-2.ensures) refl) (c.jump_to.ensures tape)
+returns g c = follows_jump_not_zero _ _ _ (rw (c.place_at_zero-place.ensures, c.number.ensures, c.number-2.ensures) refl) (c.jump_to.ensures)

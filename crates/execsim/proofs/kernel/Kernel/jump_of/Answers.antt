@@ -1,7 +1,7 @@
 -- What a Jump changes.
 use Rattle.std.proofs.Common.{refl}
 use Rattle.execmodel.specs.{Calls.argument, Calls.call_of, Plain.jumps}
-use Rattle.taskscript.specs.Commands.{command_view}
+use Rattle.script.specs.Commands.{command_view}
 use Rattle.execsim.proofs.Changing.{goes}
 use Rattle.execsim.proofs.kernel.Kernel.jump_of.Goals as goal
 

@@ -3,4 +3,4 @@ use Rattle.execsim.proofs.Calculating.{follows_jumps}
 use Rattle.execsim.proofs.kernel.Kernel.jump_to.Goals as goal
 
 pub returns : goal.returns
-returns g c tape = follows_jumps tape _ _ c.go_on.ensures
+returns g c = follows_jumps _ _ c.go_on.ensures

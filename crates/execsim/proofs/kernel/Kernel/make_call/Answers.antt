@@ -2,7 +2,7 @@
 use Rattle.std.proofs.Common.{refl, ap, sym, take, ◌∙◌, ◌+◌, Some}
 use Rattle.std.proofs.lemmas.Option.{slice_get_within}
 use Rattle.execmodel.specs.{State.program_of, Calls.call_of, Calls.evaluated}
-use Rattle.taskscript.specs.Commands.{argument_view, command_view}
+use Rattle.script.specs.Commands.{argument_view, command_view}
 use Rattle.execsim.proofs.Calling.{map-map_as, next-kept, next-none, next-command}
 use Rattle.execsim.proofs.kernel.Kernel.make_call.Goals as goal
 

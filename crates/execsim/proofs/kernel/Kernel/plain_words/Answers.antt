@@ -6,7 +6,7 @@ use Rattle.execsim.proofs.{Advancing.rests_after, Settling.no_step, Settling.the
 use Rattle.execsim.proofs.kernel.Kernel.plain_words.Goals as goal
 
 pub loop-done-init : goal.loop-done-init
-loop-done-init g c = record { rests = c.requires; follows = no_step c.args.self.now (g.W.Sink.tape c.args.out.now) }
+loop-done-init g c = record { rests = c.requires; follows = no_step c.args.self.now (g.W.Witness.told c.args.out.now) }
 
 pub plain_word-requires : goal.plain_word-requires
 plain_word-requires g c = c.loop-done.invariant.rests.known
@@ -24,5 +24,5 @@ loop-done-preserved g c =
 pub returns-clause-follows : goal.returns-clause-follows
 returns-clause-follows g c =
     let all : c.loop-done.done ≡ c.args.most = omega (arith, c.loop-done-test.false, c.loop-done.auto) in
-    subst (λ (n : ℕ). Follows (steps n) c.args.self.now c.loop-done.self (g.W.Sink.tape c.args.out.now) (g.W.Sink.tape c.loop-done.out)) all
+    subst (λ (n : ℕ). Follows g.W.Witness.hearing (steps n) c.args.self.now c.loop-done.self (g.W.Witness.told c.args.out.now) (g.W.Witness.told c.loop-done.out)) all
     c.loop-done.invariant.follows

@@ -7,5 +7,5 @@ use Rattle.execsim.proofs.kernel.Kernel.plain_words.Given as goal
 abbrev pub invariant-loop-done : goal.invariant-loop-done
 invariant-loop-done g l = record {
   rests : Rests l.t l.self;
-  follows : Follows (steps l.done) l.initial.self l.self (g.W.Sink.tape l.initial.out) (g.W.Sink.tape l.out);
+  follows : Follows g.W.Witness.hearing (steps l.done) l.initial.self l.self (g.W.Witness.told l.initial.out) (g.W.Witness.told l.out);
 }

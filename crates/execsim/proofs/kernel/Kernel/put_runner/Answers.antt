@@ -1,6 +1,7 @@
 -- The proof of `Kernel::put_runner`: puts who runs.
 use Rattle.std.proofs.Common.{◌≡◌, ◌∙◌, ap, sym}
-use Rattle.exectrace.proofs.Pieces.{put_same, puts_then}
+use Rattle.exectrace.specs.Putting.{puts_then}
+use Rattle.exectrace.proofs.Pieces.{put_same}
 use Rattle.scheduler.specs.Schedule.{name_of}
 use Rattle.execsim.specs.Standing.{runs_text}
 use Rattle.execsim.proofs.kernel.Kernel.put_runner.Goals as goal

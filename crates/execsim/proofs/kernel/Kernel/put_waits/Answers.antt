@@ -1,5 +1,5 @@
 -- The proof of `Kernel::put_waits`: puts the line of the call of each task that waits.
-use Rattle.exectrace.proofs.Pieces.{puts_none}
+use Rattle.exectrace.specs.Putting.{puts_none}
 use Rattle.execsim.proofs.Awaiting.{next_wait}
 use Rattle.execsim.proofs.kernel.Kernel.put_waits.Goals as goal
 

@@ -1,10 +1,10 @@
--- The proof of `Kernel::request_while_good`: an interrupt is requested, as long as the sink is good.
-use Rattle.std.proofs.Common.{◌≡◌, false, true, refl}
+-- The proof of `Kernel::request_while_good`.
+use Rattle.std.proofs.Common.{sym, ◌∙◌}
 use Rattle.execsim.proofs.Following.{while_good, stays_behind}
 use Rattle.execsim.proofs.kernel.Kernel.request_while_good.Goals as goal
 
-pub returns-in-Ok : goal.returns-in-Ok
-returns-in-Ok g c = while_good (c.in-Ok.ensures.0 refl) c.request.ensures
+pub returns-then-is_good : goal.returns-then-is_good
+returns-then-is_good g c = while_good (sym c.is_good.ensures ∙ c.if-is_good.true) c.request.ensures
 
-pub returns-in-Err : goal.returns-in-Err
-returns-in-Err g c = stays_behind _ (λ good. let bad : false ≡ true = c.in-Err.ensures.1 good in cc)
+pub returns-else-is_good : goal.returns-else-is_good
+returns-else-is_good g c = stays_behind _ (sym c.is_good.ensures ∙ c.if-is_good.false)

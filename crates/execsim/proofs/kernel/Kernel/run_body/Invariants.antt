@@ -6,5 +6,5 @@ use Rattle.execsim.proofs.kernel.Kernel.run_body.Given as goal
 
 -- the commands so far were done
 abbrev pub invariant-loop-place : goal.invariant-loop-place
-invariant-loop-place g l = Follows (runs_body l.name.bytes (take l.place (code_of_body l.body l.initial.self.bodies)))
-    l.initial.self l.self (g.W.Sink.tape l.initial.out) (g.W.Sink.tape l.out)
+invariant-loop-place g l = Follows g.W.Witness.hearing (runs_body l.name.bytes (take l.place (code_of_body l.body l.initial.self.bodies)))
+    l.initial.self l.self (g.W.Witness.told l.initial.out) (g.W.Witness.told l.out)

@@ -16,9 +16,9 @@ pub returns-then-last : goal.returns-then-last
 returns-then-last g c =
     let claim = sym (ap (λ (m : Seen). (server_at c.in-Some.k m.bodies).claim) c.self-in-loop-place.view_is) ∙ sym c.claims-last.ensures in
     let stopped = ap (λ (m : Seen). m.stopped) (sym c.self-in-Some.view_is) in
-    c.loop-place.invariant.rest c.run_server.new.self (g.W.Sink.tape c.run_server.new.out) (elim c.then-last.branch [
-      | then-last-via-then-last w ↦ chain_claimed {n = c.run_server.new.self} {b = g.W.Sink.tape c.run_server.new.out} _ _ _ (rw c.in-Some.is at c.server_at.ensures) c.run_server.ensures (claim ∙ w.if-last.true)
-      | then-last-via-else-last+then-self w ↦ chain_alerted {n = c.run_server.new.self} {b = g.W.Sink.tape c.run_server.new.out} _ _ _ (rw c.in-Some.is at c.server_at.ensures) c.run_server.ensures (stopped ∙ w.if-self.true)
+    c.loop-place.invariant.rest c.run_server.new.self (g.W.Witness.told c.run_server.new.out) (elim c.then-last.branch [
+      | then-last-via-then-last w ↦ chain_claimed {n = c.run_server.new.self} {b = g.W.Witness.told c.run_server.new.out} _ _ _ (rw c.in-Some.is at c.server_at.ensures) c.run_server.ensures (claim ∙ w.if-last.true)
+      | then-last-via-else-last+then-self w ↦ chain_alerted {n = c.run_server.new.self} {b = g.W.Witness.told c.run_server.new.out} _ _ _ (rw c.in-Some.is at c.server_at.ensures) c.run_server.ensures (stopped ∙ w.if-self.true)
     ])
 
 pub loop-place-preserved : goal.loop-place-preserved

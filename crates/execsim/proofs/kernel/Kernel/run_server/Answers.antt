@@ -8,4 +8,4 @@ use Rattle.execsim.proofs.kernel.Kernel.run_server.Goals as goal
 pub returns : goal.returns
 returns g c =
     let named = c.name-name.ensures ∙ ap (λ (m : Seen). (server_at c.args.k m.bodies).name) c.self.view_is in
-    server_as _ (rw named at c.put_server.ensures) (rw named at c.run_body.ensures)
+    server_as _ (rw named at c.hear.ensures) (rw named at c.run_body.ensures)

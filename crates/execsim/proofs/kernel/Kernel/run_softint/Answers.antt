@@ -8,4 +8,4 @@ use Rattle.execsim.proofs.kernel.Kernel.run_softint.Goals as goal
 pub returns : goal.returns
 returns g c =
     let named = c.name-name.ensures ∙ ap (λ (m : Seen). (softint_at c.args.i m.bodies).name) c.self.view_is in
-    softint_as _ (rw named at c.put_softint.ensures) (rw named at c.run_body.ensures)
+    softint_as _ (rw named at c.hear.ensures) (rw named at c.run_body.ensures)

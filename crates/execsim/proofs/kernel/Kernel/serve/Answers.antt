@@ -4,4 +4,4 @@ use Rattle.execsim.proofs.Serving.{serves_with}
 use Rattle.execsim.proofs.kernel.Kernel.serve.Goals as goal
 
 pub returns : goal.returns
-returns g c = serves_with _ c.count_serving.ensures (rw c.text_of_source.ensures at c.put_serve.ensures) c.finish_for.ensures c.run_chain.ensures
+returns g c = serves_with _ c.count_serving.ensures c.say_serve.ensures c.finish_for.ensures c.run_chain.ensures

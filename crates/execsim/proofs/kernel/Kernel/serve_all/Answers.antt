@@ -9,7 +9,7 @@ use Rattle.execsim.proofs.kernel.Kernel.serve_all.Goals as goal
 pub loop-turn-init : goal.loop-turn-init
 loop-turn-init g c = λ left e n t follows.
     let all : left ≡ 3 = omega (arith, e) in
-    subst (λ (k : ℕ). Follows (servings k) c.args.self.now n (g.W.Sink.tape c.args.out.now) t) all follows
+    subst (λ (k : ℕ). Follows g.W.Witness.hearing (servings k) c.args.self.now n (g.W.Witness.told c.args.out.now) t) all follows
 
 pub returns-in-None : goal.returns-in-None
 returns-in-None g c =

@@ -4,7 +4,7 @@ use Rattle.execsim.specs.Views.{call_view}
 use Rattle.execsim.proofs.kernel.Kernel.silent_by.Goals as goal
 
 pub returns-in-Task : goal.returns-in-Task
-returns-in-Task g c tape = rw c.in-Task.is (c.silent.ensures tape)
+returns-in-Task g c = rw c.in-Task.is c.silent.ensures
 
 pub returns-in-Body : goal.returns-in-Body
-returns-in-Body g c tape = rw c.in-Body.is (c.silent_in_body.ensures [] (call_view c.args.call.now) tape refl)
+returns-in-Body g c = rw c.in-Body.is (c.silent_in_body.ensures [] (call_view c.args.call.now) refl)

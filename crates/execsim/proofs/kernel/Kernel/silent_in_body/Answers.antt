@@ -4,4 +4,4 @@ use Rattle.execsim.proofs.BodyCalls.{silently}
 use Rattle.execsim.proofs.kernel.Kernel.silent_in_body.Goals as goal
 
 pub returns : goal.returns
-returns g c name call tape same = silently name call c.args.target c.args.value tape c.store_in_body.ensures same
+returns g c name call same = silently name call c.args.target c.args.value c.store_in_body.ensures same

@@ -3,7 +3,7 @@ use Rattle.execsim.proofs.Changing.{changed_as, tasks_after}
 use Rattle.execsim.proofs.kernel.Kernel.silent_word.Goals as goal
 
 pub returns-in-Some-clause-follows : goal.returns-in-Some-clause-follows
-returns-in-Some-clause-follows g c = λ done tape. changed_as c.args.t _ (rw c.in-Some.is at c.next_change.ensures) (c.change.ensures.follows tape)
+returns-in-Some-clause-follows g c = λ done. changed_as c.args.t _ (rw c.in-Some.is at c.next_change.ensures) c.change.ensures.follows
 
 pub returns-in-Some-clause-changes : goal.returns-in-Some-clause-changes
 returns-in-Some-clause-changes g c =

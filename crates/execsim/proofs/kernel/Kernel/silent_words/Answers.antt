@@ -1,7 +1,7 @@
 -- The proof of `Kernel::silent_words`: a task does plain words that print nothing in a settled machine.
 use Rattle.std.proofs.Common.{◌≡◌, ℕ, subst, arith}
 use Rattle.execsim.specs.Advancing.{GoesSilently}
-use Rattle.execsim.proofs.{Advancing.goes_nowhere, Advancing.goes_then, Advancing.rests_after, Settling.word_step}
+use Rattle.execsim.proofs.{Advancing.goes_nowhere, Advancing.goes_then, Advancing.in_silence, Advancing.quietly_by, Advancing.rests_after, Settling.word_step}
 use Rattle.execsim.proofs.kernel.Kernel.silent_words.Goals as goal
 
 pub loop-done-init : goal.loop-done-init
@@ -21,7 +21,7 @@ loop-done-preserved g c =
     record {
       rests = after;
       goes = goes_then c.loop-done.done c.loop-done.invariant.goes changed
-          (λ tape. word_step c.args.t before.settled before.uncaused before.runs (c.silent_word.ensures.follows c.if-not-silent_word.false tape) after.settled);
+          (quietly_by (word_step c.args.t before.settled before.uncaused before.runs (in_silence (c.silent_word.ensures.follows c.if-not-silent_word.false)) after.settled));
     }
 
 pub returns-clause-goes : goal.returns-clause-goes

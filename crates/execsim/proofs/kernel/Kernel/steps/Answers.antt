@@ -20,5 +20,5 @@ some_steps_while_good-done-requires-clause-agree g c = agree_after_steps _ c.req
 pub returns : goal.returns
 returns g c =
     let all : c.loop-done.done ≡ c.args.n = omega (arith, c.loop-done-test.false, c.loop-done.invariant.within) in
-    subst (λ (n : ℕ). FollowsWhileGood (steps n) c.args.self.now c.loop-done.self (g.W.Sink.tape c.args.out.now) (g.W.Sink.tape c.loop-done.out)) all
+    subst (λ (n : ℕ). FollowsWhileGood g.W.Witness.hearing (steps n) c.args.self.now c.loop-done.self (g.W.Witness.told c.args.out.now) (g.W.Witness.told c.loop-done.out)) all
     c.loop-done.invariant.follows

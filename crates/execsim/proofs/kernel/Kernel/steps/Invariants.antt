@@ -8,7 +8,7 @@ use Rattle.execsim.proofs.kernel.Kernel.steps.Given as goal
 abbrev pub invariant-loop-done : goal.invariant-loop-done
 invariant-loop-done g l = record {
   within : l.done ≤ l.n;
-  follows : FollowsWhileGood (steps l.done) l.initial.self l.self (g.W.Sink.tape l.initial.out) (g.W.Sink.tape l.out);
+  follows : FollowsWhileGood g.W.Witness.hearing (steps l.done) l.initial.self l.self (g.W.Witness.told l.initial.out) (g.W.Witness.told l.out);
 }
 
 -- each turn does a step

@@ -5,4 +5,4 @@ use Rattle.execsim.proofs.kernel.Kernel.ticks.Given as goal
 
 -- the ticks so far were followed
 abbrev pub invariant-loop-tick : goal.invariant-loop-tick
-invariant-loop-tick g l = FollowsWhileGood (ticks l._tick) l.initial.self l.self (g.W.Sink.tape l.initial.out) (g.W.Sink.tape l.out)
+invariant-loop-tick g l = FollowsWhileGood g.W.Witness.hearing (ticks l._tick) l.initial.self l.self (g.W.Witness.told l.initial.out) (g.W.Witness.told l.out)

@@ -2,6 +2,7 @@
 use Rattle.std.proofs.Common.{ap, sym, ◌∙◌, subst}
 use Rattle.execsim.specs.{Headline.Shown, Time.HasTimeFor}
 use Rattle.execsim.proofs.{Advancing.advances_by, Advancing.known_after_steps, Advancing.time_stays, Reached.in_order_there}
+use Rattle.exectrace.specs.Printing.{is_good}
 use Rattle.execsim.proofs.machine.Machine.advance.Goals as goal
 
 pub advance-silent-requires-clause-agree : goal.advance-silent-requires-clause-agree
@@ -24,5 +25,5 @@ returns-clause-advances g c =
 
 pub returns-clause-time_left : goal.returns-clause-time_left
 returns-clause-time_left g c = λ whole ticks enough.
-    time_stays c.advance-silent.ensures.steps (c.self.invariant.0 (ap (λ (x : Shown). x.failed) c.self.view_is ∙ c.requires.going)) c.requires.good
-    (c.end.ensures.written.0 whole) ticks (subst (λ (x : Shown). HasTimeFor ticks x.seen) (sym c.self.view_is) enough)
+    time_stays c.advance-silent.ensures.steps (c.self.invariant.0 (ap (λ (x : Shown). x.failed) c.self.view_is ∙ c.requires.going)) (ap is_good c.requires.good)
+    (ap is_good (c.end.ensures.written.0 whole)) ticks (subst (λ (x : Shown). HasTimeFor ticks x.seen) (sym c.self.view_is) enough)

@@ -1,7 +1,7 @@
 -- The proof of `Machine::event`: does one event: that many steps or ticks, each followed by a settle, or a request of an interrupt,
 -- followed by one.
 use Rattle.std.proofs.Common.{◌+◌, sym, subst}
-use Rattle.taskscript.specs.Events.{ticks as ticks_of}
+use Rattle.script.specs.Events.{ticks as ticks_of}
 use Rattle.execsim.specs.{Headline.Shown, Reached.after_event, Time.HasTimeFor}
 use Rattle.execsim.proofs.{Acting.known_after_action, Acting.time_after, Clock.event_gains, Advancing.not_known}
 use Rattle.execsim.proofs.machine.Machine.event.Goals as goal

@@ -1,7 +1,7 @@
 -- The proof of `Program::command`: the next command, if any is left.
 use Rattle.std.proofs.Common.{◌∙◌, ap, sym, slice_get, option_map}
 use Rattle.std.proofs.lemmas.Option.{slice_get-map}
-use Rattle.taskscript.specs.Commands.{command_view}
+use Rattle.script.specs.Commands.{command_view}
 use Rattle.execsim.proofs.program.Program.command.Goals as goal
 
 pub returns : goal.returns

@@ -1,6 +1,6 @@
 -- The proof of `after`: the machine has not failed, and has time for the ticks that are left.
 use Rattle.std.proofs.Common.{◌≡◌, ◌+◌, ℕ, subst, arith, sum_by}
-use Rattle.taskscript.specs.Events.{ticks as ticks_of}
+use Rattle.script.specs.Events.{ticks as ticks_of}
 use Rattle.execsim.specs.Time.{HasTimeFor}
 use Rattle.execsim_c.proofs.session.Session.after.Goals as goal
 

@@ -4,7 +4,8 @@ use Rattle.std.proofs.lemmas.Result.{err_from_is_err_and}
 use Rattle.toml.specs.Data.{get_member}
 use Rattle.toml.specs.View.{table_view}
 use Rattle.taskscript.specs.declared.place.Key.TheVariants as key
-use Rattle.taskscript.specs.{declared.fault.FileFault.TheVariants.UnknownKey, Faults.check, File.server_keys, Numbering.texts, Places.at, Places.key_at, Places.unknown_key_at, Tree.required, Tree.optional, Tree.keys_are_among, Tree.pri_faults, Tree.source_faults, Tree.boolean_faults, Tree.name_faults, Tree.code_faults}
+use Rattle.script.specs.Names.{texts}
+use Rattle.taskscript.specs.{declared.fault.FileFault.TheVariants.UnknownKey, Faults.check, File.server_keys, Places.at, Places.key_at, Places.unknown_key_at, Tree.required, Tree.optional, Tree.keys_are_among, Tree.pri_faults, Tree.source_faults, Tree.boolean_faults, Tree.name_faults, Tree.code_faults}
 use Rattle.execlist.specs.Order.{first}
 use Rattle.taskscript.proofs.Firsts.{first_some, skip}
 use Rattle.taskscript.proofs.heads.ServerHeadNamed.head_in.Goals as goal

@@ -1,0 +1,2 @@
+-- The lemma files of `script`.
+pub mod WordGroups
