@@ -4,6 +4,7 @@ import json
 import re
 import tomllib
 
+import pages
 import tables
 
 TOP = tables.TOP
@@ -18,9 +19,8 @@ NAMED = (
     ("its row for users", "docs/REFERENCE.md"),
     ("the schema of machine files", "docs/execsim-machine.schema.json"),
 )
-# What must not name a word: names that are none, and answers that say so.
+# What must not name a word: answers that say that it is none.
 NOT_NAMED = (
-    ("it is a foreign name", "crates/execadvice/src/foreign.rt", r'\("{}",'),
     ("a run says that it is no command", "crates/runs/data/not-simulated.runs", r"^== {} is no command$"),
 )
 # A stored answer that says of the text above its marks that it is no word.
@@ -66,9 +66,23 @@ def lacking():
         yield from ((word, f"{page} has it, and the reader does not") for word in names if word not in words)
 
 
+def twice_named(words):
+    """The names of crates/execadvice/src/foreign.rt, of Exec and other systems, that are words or have two rows: in whatever case, as they are looked for."""
+    names = [name for table in ("NAMES", "ABSENT") for name, _ in pages.foreign_rows(table)]
+    known = {word.lower(): word for word in words}
+    for name in names:
+        if name in words:
+            yield name, "crates/execadvice/src/foreign.rt: it is a foreign name"
+        elif sum(other.lower() == name.lower() for other in names) > 1:
+            yield name, "crates/execadvice/src/foreign.rt: it has two rows"
+        elif name.lower() in known:
+            yield name, f"crates/execadvice/src/foreign.rt: it is {known[name.lower()]} in other letters"
+
+
 def contradicting():
     """What says of a word that it is none, or counts the words wrongly: pairs of the word, or how many there are, and the place."""
     words = all_words()
+    yield from twice_named(words)
     for what, pattern, form in NOT_NAMED:
         for file in sorted(TOP.glob(pattern)):
             text = file.read_text(encoding="utf-8", errors="replace")
