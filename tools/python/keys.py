@@ -1,4 +1,5 @@
 """The keys of a machine file, from machine-keys.toml: MACHINE-FILE's table of keys, and the JSON Schema."""
+import re
 import tomllib
 
 import tables
@@ -65,13 +66,24 @@ def word_pattern(word, variable):
     return (f"(?:{variable} = )?" if word["answer"] else "") + word["name"] + arguments
 
 
+def plain_text(text):
+    """A text of a table without marks and links."""
+    return re.sub(r"\[([^\]]*)\]\([^)]*\)", r"\1", text).replace("`", "")
+
+
+def word_schema(word, variable):
+    """The schema of the lines with a word: what it does, and a line that has it."""
+    effect = plain_text(word["effect"]) or f"returns {word['answer']['text']}"
+    return {"description": f"{word['here']}: {effect}.", "pattern": f"^{word_pattern(word, variable)}$"}
+
+
 def line_schema(words, body):
-    """The schema of a line of the body of a task or of an interrupt. An interrupt has fewer words, shared variables, and no labels."""
+    """The schema of a line of the body of a task or of an interrupt, an entry for each word. An interrupt has fewer words, shared variables, and no labels."""
     variable = VARIABLE if body == "task" else VARIABLE.replace("@?", "@")
-    patterns = [word_pattern(word, variable) for word in words if body == "task" or word["in_interrupts"]]
+    entries = [word_schema(word, variable) for word in words if body == "task" or word["in_interrupts"]]
     if body == "task":
-        patterns.append(f"{LABEL}:")
-    return {"type": "string", "pattern": "^(?:" + "|".join(patterns) + ")$"}
+        entries.append({"description": "A label, at which a jump goes on.", "pattern": f"^{LABEL}:$"})
+    return {"type": "string", "anyOf": entries}
 
 
 def key_schema(key, words):

@@ -86,6 +86,23 @@ def calls(words):
     return as_table(("Word", "Arguments", "Returns", "Alerts, in their order", "Effect"), rows)
 
 
+def foreign_rows(table):
+    """The rows of a table of names that are no words, as `execcheck` has them: each name, and what is said of it."""
+    text = (tables.TOP / "crates" / "execadvice" / "src" / "foreign.rt").read_text()
+    said = dict(re.findall(r'const (\w+): &str =\s*"((?:[^"\\]|\\.)*)";', text))
+    rows = re.search(rf"const {table}: [^=]*= \[\n(.*?)\n\];", text, re.S)[1]
+    found = re.findall(r'\(\s*"([^"]+)",\s*(?:"((?:[^"\\]|\\.)*)"|(\w+)),?\s*\)', rows)
+    return [(name, (quoted or said[constant]).replace('\\"', '"')) for name, quoted, constant in found]
+
+
+def from_c_absent():
+    """FROM-C's table of the functions of Exec that are not here, those with one reason in one row."""
+    names = {}
+    for name, reason in foreign_rows("ABSENT"):
+        names.setdefault(reason, []).append(f"`{name}`")
+    return as_table(("Not here", "Why, or what serves"), [(", ".join(found), reason) for reason, found in names.items()])
+
+
 def as_table(head, rows):
     """A table of a page; an empty cell is one space."""
     lines = ["| " + " | ".join(head) + " |", "|" + "---|" * len(head)]

@@ -3,7 +3,7 @@ import re
 
 KNOWN = {
     "$schema", "title", "description", "default", "$defs", "$ref", "type", "properties", "required", "additionalProperties", "items",
-    "maxItems", "minimum", "maximum", "multipleOf", "enum", "pattern",
+    "maxItems", "minimum", "maximum", "multipleOf", "enum", "pattern", "anyOf",
 }
 
 
@@ -62,6 +62,8 @@ def mistakes(value, schema, root, place="file"):
         yield f"{place}: {value} is not one of {schema['enum']}"
     if isinstance(value, str) and "pattern" in schema and not re.search(schema["pattern"], value):
         yield f"{place}: {value!r} does not have the form that the schema has"
+    if "anyOf" in schema and all(any(mistakes(value, one, root, place)) for one in schema["anyOf"]):
+        yield f"{place}: {value!r} is none of the {len(schema['anyOf'])} forms that the schema has"
     yield from mistakes_of_number(value, schema, place)
     if isinstance(value, dict):
         yield from mistakes_of_object(value, schema, root, place)

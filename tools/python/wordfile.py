@@ -34,7 +34,11 @@ def group_of(path):
     """The words of a group's file: (text, sources) in the order of its table."""
     text = path.read_text()
     comments = {variant: comment for comment, variant in VARIANT.findall(text)}
-    return [(word, sources_in(comments[variant])) for variant, word in ROW.findall(text)]
+    found = ROW.findall(text)
+    for variant, word in found:
+        if variant not in comments:
+            raise BadWords(f"{path.name}: {word} has a row, and no variant {variant} with a comment that names its source")
+    return [(word, sources_in(comments[variant])) for variant, word in found]
 
 
 def source_rows():

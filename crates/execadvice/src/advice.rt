@@ -1,7 +1,7 @@
 //! Why a line says no command, in one sentence, with a proposal if one is near.
 
 use crate::assignments::{assignment_of_c, call_with_parentheses, is_value, missing_word};
-use crate::foreign::{equivalent_of, number_of_constants, written_number};
+use crate::foreign::{instead_of, number_of_constants, written_number};
 use crate::made::Made;
 use crate::members::{name_of, position_named};
 use crate::near::{are_digits, nearest, proposing, proposing_nearest};
@@ -71,8 +71,8 @@ fn word_reason(alloc: Global, fields: &[&str], at: usize) -> Made<String> {
     if let Some(meant) = missing_word(alloc, fields)? {
         return format!(in alloc; "a word is missing; did you mean {meant}?");
     }
-    if let Some(equivalent) = equivalent_of(text) {
-        return format!(in alloc; "unknown word; write {equivalent}");
+    if let Some((beginning, rest)) = instead_of(text) {
+        return format!(in alloc; "{beginning}{rest}");
     }
     unknown_word_reason(alloc, text)
 }

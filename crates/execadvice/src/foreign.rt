@@ -60,13 +60,44 @@ const END: &str = "RemTask 0, or nothing: the end of the code ends the task";
 
 const NEW_TASK: &str = "a [[task]] table with start = false, and AddTask NUMBER";
 
-/// Names of other systems, each with what is written in their place.
-const NAMES: [(&str, &str); 45] = [
+/// What has the place of a semaphore that more than one task may have.
+const NOT_SHARED: &str = "ObtainSemaphore s, since semaphores are not shared here";
+
+/// How system time is read.
+const READ_TIME: &str = "SetIO r 10 0 0 and then DoIO r; the time is in IOSecs r and IOMicros r";
+
+/// Names of Exec and of other systems, each with what is written in their place.
+const NAMES: [(&str, &str); 56] = [
     ("InitSemaphore", "s = NewSem"),
     (
-        "ObtainSemaphoreShared",
-        "ObtainSemaphore s, since semaphores are not shared here",
+        "AddSemaphore",
+        "@s = Set s, so that all tasks have the semaphore",
     ),
+    (
+        "FindSemaphore",
+        "ObtainSemaphore @s, with the semaphore in a shared variable",
+    ),
+    (
+        "RemSemaphore",
+        "@s = Set 0, with the semaphore in a shared variable",
+    ),
+    (
+        "ObtainSemaphoreList",
+        "ObtainSemaphore s for each semaphore, in the same order in all tasks",
+    ),
+    (
+        "ReleaseSemaphoreList",
+        "ReleaseSemaphore s for each semaphore",
+    ),
+    ("ObtainSemaphoreShared", NOT_SHARED),
+    (
+        "AttemptSemaphoreShared",
+        "AttemptSemaphore s, since semaphores are not shared here",
+    ),
+    ("MakeLibrary", "a [[library]] table"),
+    ("AddLibrary", "a [[library]] table"),
+    ("AddMemList", "a [[region]] table"),
+    ("GetSysTime", READ_TIME),
     ("mutex_lock", "ObtainSemaphore s"),
     ("pthread_mutex_lock", "ObtainSemaphore s"),
     ("lock", "ObtainSemaphore s"),
@@ -104,6 +135,7 @@ const NAMES: [(&str, &str); 45] = [
     ("free", "FreeMem a SIZE"),
     ("FreeVec", "FreeMem a SIZE"),
     ("printf", "Print x"),
+    ("PutStr", "Print x"),
     ("puts", "Print x"),
     ("echo", "Print x"),
     ("goto", "Jump LABEL"),
@@ -115,9 +147,107 @@ const NAMES: [(&str, &str); 45] = [
     ("nop", "x = Set x"),
 ];
 
-/// What is written in the place of a name of another system.
-pub fn equivalent_of(name: &str) -> Option<&'static str> {
-    Some(NAMES.iter().find(|row| name.eq_ignore_ascii_case(row.0))?.1)
+const NO_RESOURCES: &str = "there are no resources";
+
+const NO_TRAPS: &str = "there are no traps";
+
+const NO_CACHES: &str = "there are no caches";
+
+const NO_MODULES: &str = "there are no resident modules";
+
+const NO_FUNCTIONS: &str = "a library has no functions";
+
+const NO_STATUS: &str =
+    "there is no status register; Disable keeps interrupts out, and Forbid other tasks";
+
+const NO_BYTES: &str = "what is in a block is not shown; a message has one word, MsgWord m";
+
+const NO_OWN_MEMORY: &str = "AllocMem takes memory from the regions alone";
+
+const TIMES: &str = "a time is two numbers, seconds and microseconds, for Add and Sub";
+
+/// Functions of exec.library and timer.device that are not here, each with the reason, or with what serves.
+const ABSENT: [(&str, &str); 46] = [
+    (
+        "AddDevice",
+        "timer.device is the only device, and is there from the start",
+    ),
+    ("RemDevice", "timer.device is the only device, and stays"),
+    ("AddResource", NO_RESOURCES),
+    ("OpenResource", NO_RESOURCES),
+    ("RemResource", NO_RESOURCES),
+    (
+        "Alert",
+        "an alert comes from a wrong call; Print x shows a number",
+    ),
+    ("AllocAbs", "AllocMem chooses where a block is"),
+    ("AllocEntry", "AllocMem takes one block"),
+    ("FreeEntry", "FreeMem frees one block"),
+    ("Allocate", NO_OWN_MEMORY),
+    ("Deallocate", NO_OWN_MEMORY),
+    ("AllocTrap", NO_TRAPS),
+    ("FreeTrap", NO_TRAPS),
+    ("CacheClearE", NO_CACHES),
+    ("CacheClearU", NO_CACHES),
+    ("CacheControl", NO_CACHES),
+    ("CachePostDMA", NO_CACHES),
+    ("CachePreDMA", NO_CACHES),
+    ("ColdReboot", "a run ends when its events end"),
+    ("CopyMem", NO_BYTES),
+    ("CopyMemQuick", NO_BYTES),
+    ("Debug", "execlog shows a run step by step"),
+    ("FindResident", NO_MODULES),
+    ("InitCode", NO_MODULES),
+    ("InitResident", NO_MODULES),
+    (
+        "InitStruct",
+        "the call that makes an object also fills it in",
+    ),
+    ("MakeFunctions", NO_FUNCTIONS),
+    ("SetFunction", NO_FUNCTIONS),
+    ("SumLibrary", NO_FUNCTIONS),
+    ("GetCC", NO_STATUS),
+    ("SetSR", NO_STATUS),
+    ("SuperState", NO_STATUS),
+    ("UserState", NO_STATUS),
+    ("Supervisor", NO_STATUS),
+    (
+        "Procure",
+        "a semaphore is not asked for by message; ObtainSemaphore s waits for it",
+    ),
+    (
+        "Vacate",
+        "a semaphore is not asked for by message; ReleaseSemaphore s releases it",
+    ),
+    ("RawDoFmt", "there are no texts; Print x shows a number"),
+    ("RemIntServer", "a server of a [[server]] table stays"),
+    (
+        "SetExcept",
+        "there are no exceptions; Wait waits for a signal",
+    ),
+    ("StackSwap", "tasks have no stacks"),
+    ("SumKickData", "there is no Kickstart memory"),
+    (
+        "TypeOfMem",
+        "the attributes of an address are those of its [[region]] table",
+    ),
+    ("AddTime", TIMES),
+    ("SubTime", TIMES),
+    ("CmpTime", TIMES),
+    ("ReadEClock", "there is no E clock"),
+];
+
+/// The second part of the row of a name, in whatever case.
+fn row_of(rows: &[(&'static str, &'static str)], name: &str) -> Option<&'static str> {
+    Some(rows.iter().find(|row| name.eq_ignore_ascii_case(row.0))?.1)
+}
+
+/// What is said of a name of Exec or of another system that is no word: how that begins, and what has its place or why nothing has.
+pub fn instead_of(name: &str) -> Option<(&'static str, &'static str)> {
+    match row_of(&NAMES, name) {
+        Some(text) => Some(("unknown word; write ", text)),
+        None => Some(("not one of the calls here: ", row_of(&ABSENT, name)?)),
+    }
 }
 
 /// The number of a constant of Exec's headers, or of several with `|` between them.
