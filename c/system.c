@@ -46,6 +46,15 @@ int64_t rattle_env_at(uint64_t number, uint8_t *out, uint64_t room) {
     return copy(at ? *at : NULL, out, room);
 }
 
+/* The program asks here whether the processor has what x86-64-v2 has, as the C library of x86-64 says it: each bit is set, since its code for another
+ * processor needs none of that. */
+const uint32_t *__x86_get_cpuid_feature_leaf(uint32_t leaf);
+const uint32_t *__x86_get_cpuid_feature_leaf(uint32_t leaf) {
+    static const uint32_t all[8] = {~0u, ~0u, ~0u, ~0u, ~0u, ~0u, ~0u, ~0u};
+    (void)leaf;
+    return all;
+}
+
 int rattle_errno(void) {
     return errno;
 }
