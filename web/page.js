@@ -71,7 +71,7 @@ async function runTexts(one) {
   allowSaves();
   sayEnd(one);
   sayChecked(one, view.trace);
-  embed.tell({ did: 'run', end: one.end, alerted: trace.status === ALERTED, lines: linesIn(trace.bytes) });
+  embed.tell({ did: 'run', end: one.end, alerted: trace.status === ALERTED, lines: one.lines });
   await check(one);
   if (!way && one === shownRun) strip.begin(one);
 }
@@ -88,16 +88,9 @@ async function refuse(one, answer) {
   if (first && run.last === one) says([words, ...(first.line ? [' in ', linkTo(`line ${first.line}`, () => editors[first.file].goTo(first.line, first.column || 1))] : []), `: ${noteOf(first)}`], 'fault');
 }
 
-/** How many lines some bytes have. */
-function linesIn(bytes) {
-  let lines = 0;
-  for (const byte of bytes) lines += byte === 10;
-  return lines;
-}
-
 /** Says how the run ended: of an alert its code, its step, its line and what it is about, each a link. */
 function sayEnd(one, found = []) {
-  const { trace, alert, end } = one, all = `${counted(end, 'step')}, ${counted(linesIn(trace.bytes), 'line')} of trace`;
+  const { trace, alert, end } = one, all = `${counted(end, 'step')}, ${counted(one.lines, 'line')} of trace`;
   $('status-sure').hidden = false;
   if (trace.status !== ALERTED) return says(`${all}, ${trace.took.toFixed(trace.took < 10 ? 1 : 0)} ms.`);
   const last = found.find(it => it.kind === 'alert'), part = last?.rest[0] === undefined ? '' : [...last.rest[0]].slice(last.from, last.from + last.length).join('');

@@ -1,7 +1,7 @@
 // A run that is shown: its picture, its trace and its states. All of it comes from the library.
 
 /** How many steps the trace keeps at a time, how many states are kept, and the most steps that a picture shows. */
-const TRACED = 10000, STATES_KEPT = 64, MOST_PICTURED = 160;
+const TRACED = 3000, STATES_KEPT = 64, MOST_PICTURED = 160;
 
 /** The log has also the words that print nothing. */
 const WITH_PLAIN_WORDS = 1;
@@ -48,6 +48,15 @@ class Run {
 
   /** The trace, whole: the answer whose contract is the headline. */
   async whole() { return (this.trace ??= await this.ask('execsim_run')); }
+
+  /** How many lines the trace has. */
+  get lines() {
+    if (this.counted === undefined) {
+      this.counted = 0;
+      for (const byte of this.trace.bytes) this.counted += byte === 10;
+    }
+    return this.counted;
+  }
 
   /** The picture of the part of the run that a step is in, if that many steps are shown. */
   async pictureAt(step, count) {

@@ -6,9 +6,10 @@ function partsOf(text) {
   for (const block of text.replace(/^.*\n\n/, '').trimEnd().split('\n\n')) {
     const lines = block.split('\n'), key = lines[0].match(/^(?:task|region) \d+/)?.[0] ?? 'machine';
     parts.push({ key, lines });
+    if (key.startsWith('task')) names[key] = lines[0].split(', ')[1];
     for (const line of lines) {
       const object = key.startsWith('region') && line.match(/^\s+(\$[0-9A-F]{8})\s+\d+\s+(.*)$/);
-      if (object) names[object[1]] = nameOfObject(object[2]);
+      if (object && object[2] !== 'free') names[object[1]] = nameOfObject(object[2]);
     }
   }
   return { parts, names };
@@ -17,7 +18,7 @@ function partsOf(text) {
 /** The name of an object: what it is, and the variable that has its address. */
 function nameOfObject(text) {
   const kind = text.match(/^public port "[^"]*"|^timer request|^[a-z]+(?: "[^"]*")?/)?.[0] ?? '', holder = text.match(/\(([^(),]*)[^()]*\)$/)?.[1];
-  return `${kind.replace(/^public /, '')}${holder && !kind.startsWith('public') ? ` ${holder}` : ''}`;
+  return `${kind.replace(/^public /, '').replace(/^allocated/, 'memory')}${holder && !kind.startsWith('public') ? ` ${holder}` : ''}`;
 }
 
 /** The lines of a part, each with whether it is as it was before; and between them those that went. */

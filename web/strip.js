@@ -1,7 +1,7 @@
 // "What if an interrupt came here?": under each gap between two steps a cell for each kind of interrupt, which says what outcome one more there brings.
 
-/** The most cells that are tried of a run beyond those in view. */
-const MOST_CELLS = 700;
+/** The most cells that are tried of a run beyond those in view; and how long all cells in view may take, in milliseconds. */
+const MOST_CELLS = 700, LONGEST_STRIP = 10000;
 
 /** How a search that is one run is asked for: no interrupt more, of the kinds that are served, prints and end seen. */
 const ONE_WAY = [0, 0, 1, 10n];
@@ -48,9 +48,10 @@ class Strip {
 
   wayAt(place, kind) { return encoded(withInterrupt(decoded(this.frame.texts[1]), place, kind)); }
 
+  /** What comes of some events, or null if they are not searched. */
   async outcomeOf(events) {
     const answer = await this.library.ask('execsim_explore', [this.frame.texts[0], events], ONE_WAY);
-    return isThere(answer) ? readReport(answer.text()) : null;
+    return isThere(answer) ? { ...readReport(answer.text()), took: answer.took } : null;
   }
 
   /** Tries all cells in view, and then the others if they are few. */
@@ -63,7 +64,9 @@ class Strip {
       if (!base) return this.refuse('Of this run no other ways are tried.');
       this.kinds = base.kinds;
       if (!this.classes.length) this.newClass(base.outcomes[0]);
-      const { from, to } = this.view.drawn ?? { from: 0, to: 0 }, isFew = (frame.end + 1) * this.kinds.length <= MOST_CELLS;
+      const { from, to } = this.view.drawn ?? { from: 0, to: 0 }, needed = base.took * (to - from + 1) * this.kinds.length;
+      if (needed > LONGEST_STRIP) return this.refuse(`The run is long: its ${counted((to - from + 1) * this.kinds.length, 'place')} in view would take about ${shown(Math.ceil(needed / 1000))} s, and are not tried.`);
+      const isFew = (frame.end + 1) * this.kinds.length <= MOST_CELLS;
       await this.tryAll(from, to, isOver);
       if (isFew && !isOver()) await this.tryAll(0, frame.end, isOver);
       if (isFew && !isOver()) await this.compare(isOver);
@@ -133,7 +136,7 @@ class Strip {
     box.classList.remove('old');
     if (!isSeen) return;
     const columns = [...$('picture').querySelectorAll('.at')].map(it => it.getBoundingClientRect()), { left } = $('picture').getBoundingClientRect(), { place, kind } = document.activeElement.dataset;
-    $('strip-cells').replaceChildren(...(columns.length ? [this.heads(), ...this.kinds.map((kind, i) => this.row(kind, i, columns, left))] : []));
+    $('strip-cells').replaceChildren(...(columns.length && this.cells.size ? [this.heads(), ...this.kinds.map((kind, i) => this.row(kind, i, columns, left))] : []));
     if (place !== undefined) $('strip-cells').querySelector(`[data-place="${place}"][data-kind="${kind}"]`)?.focus();
     this.drawClasses();
   }
@@ -184,7 +187,7 @@ class Strip {
   /** The outcomes with what is other in each. */
   drawClasses() {
     const [base, ...others] = this.classes;
-    $('strip-said').replaceChildren(...(this.said ? [made('p', this.said)] : []), ...others.map((one, i) => {
+    $('strip-said').replaceChildren(...(this.said ? [made('p', this.said, 'all')] : []), ...others.map((one, i) => {
       const item = made('p'), other = firstOtherLine(one, base);
       item.append(made('b', letterOf(i + 1), classOf(i + 1, one)), ` ${counted(one.count, 'place')}: `, made('code', inShort(other?.line ?? '')), ' not ', made('code', inShort(other?.was ?? '')));
       item.title = one.text;

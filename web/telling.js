@@ -1,9 +1,9 @@
 // A step in words: who does what on which object, what it answers, and what follows. What a row is and who acts are fields of the log.
 
-/** A value as it is read: the object at an address, or the number without its leading zeros. */
-function valueName(names, value) {
-  const short = value.replace(/^\$0*(?=[0-9A-F])/, '$');
-  return names[value] ? `${names[value]} (${short})` : short;
+/** A value as it is read: a task by its name, the object at an address, or the number without its leading zeros. */
+function valueName(names, value, kind = '') {
+  const short = value.replace(/^\$0*(?=[0-9A-F])/, '$'), task = kind === 'task' ? names[`task ${parseInt(value.slice(1), 16)}`] : undefined;
+  return names[value] ? `${names[value]} (${short})` : task ? `${task} (${short})` : short;
 }
 
 /** What a row of a command says: its word, its values, its answer, whether it waits, and the alert if it is one. */
@@ -19,8 +19,8 @@ function readRow(row) {
 /** The values of a call with what is written for them. */
 function valuesInWords({ values, written, word }, names) {
   return values.map((value, i) => {
-    const name = valueName(names, value), own = values.length === written.length && /^@?[a-z]/.test(written[i]) ? `${written[i]} = ` : '';
-    return `${word?.arguments[i]?.text.split(/ or |,/)[0] ?? 'value'} ${own}${name}`;
+    const name = valueName(names, value, word?.arguments[i]?.is), isNew = values.length === written.length && /^@?[a-z]/.test(written[i]) && !name.split(' ').includes(written[i]);
+    return `${names[value] ? '' : `${word?.arguments[i]?.text.split(/ or |,/)[0] ?? 'value'} `}${isNew ? `${written[i]} = ` : ''}${name}`;
   });
 }
 
@@ -39,13 +39,14 @@ function sentenceOf(row, names) {
 }
 
 /** What follows a command within its step: one sentence a row. */
-function rowInWords(row) {
+function rowInWords(row, names) {
   const text = row.trace ?? row.plain ?? '', [what, name] = text.split(' ');
   if (row.isAlert) return `Alert ${name} in ${row.task ?? row.body}: the machine stops for good.`;
   if (row.source) return `${row.task ?? row.body} does ${row.source}.`;
   if (row.task) return `${row.task} has come to the end of its code, and is removed.`;
   if (what === 'serve') return `${name} is served: its servers run now, whichever task runs.`;
   if (what === 'server') return `Server ${name} runs.`;
+  if (what === 'timer') return `timer.device replies ${valueName(names, name)}.`;
   if (what === 'softint') return `Software interrupt ${name} runs.`;
   if (what === 'switch') return `A switch: ${name} runs from now on.`;
   return text === 'idle' ? 'No task can run: the machine is idle.' : text;
@@ -73,9 +74,9 @@ function quietSentence(rows, step, event) {
 
 /** A step in words: a sentence, what follows, and the word that it is about. */
 function tellStep(rows, step, event, before, after) {
-  const names = { ...before?.names, ...after.names }, first = event === 'run' || step === 0 ? rows.find(row => row.task ?? row.body) : undefined;
-  const sentence = first ? sentenceOf(first, names) : quietSentence(rows, step, event);
-  return { sentence, then: [...rows.filter(row => row !== first).map(rowInWords), ...tasksInWords(before, after)], word: first?.source ? readRow(first).word : undefined };
+  const names = { ...before?.names, ...after.names }, [first] = event === 'run' ? rows : [], isCommand = Boolean(first?.task ?? first?.body);
+  const sentence = isCommand ? sentenceOf(first, names) : first ? [rowInWords(first, names)] : quietSentence(rows, step, event);
+  return { sentence, then: [...rows.filter(row => row !== first).map(row => rowInWords(row, names)), ...tasksInWords(before, after)], word: first?.source ? readRow(first).word : undefined };
 }
 
 /** Shows a step in words. */

@@ -45,11 +45,11 @@ class View {
   /** How many steps the picture shows. */
   count() {
     const fits = Math.floor(($('picture').clientWidth / SMALLEST - NAMES) / COLUMN);
-    return Math.max(2, Math.min(MOST_PICTURED, this.zoom || Math.max(12, fits)));
+    return Math.max(1, Math.min(MOST_PICTURED, this.zoom || Math.max(12, fits)));
   }
 
   zoomTo(count) {
-    this.zoom = Math.max(2, Math.min(MOST_PICTURED, count));
+    this.zoom = Math.max(1, Math.min(MOST_PICTURED, count));
     this.goTo(this.step);
   }
 

@@ -66,7 +66,7 @@ const machineMode = () => ({
     if (state.quote) return tokenOfText(stream, state);
     if (stream.eatSpace()) return null;
     if (stream.match(/^#.*/)) return COMMENT;
-    if (!state.depth && stream.match(/^\[\[?[^\]#]*\]\]?/)) return HEADER;
+    if (!state.depth && !stream.string.slice(0, stream.pos).trim() && stream.match(/^\[\[?[^\]#]*\]\]?/)) return HEADER;
     const key = stream.match(/^([\w-]+)(?=\s*=)/);
     if (key) {
       state.key = key[1];
