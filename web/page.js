@@ -59,9 +59,13 @@ async function runTexts(one) {
   $('status-sure').hidden = true;
   if (refused) return refuse(one, refused);
   shownRun = one;
+  const whole = one.whole(asides);
+  whole.catch(() => {}); // it is waited for below, unless the run is stopped before
   if (!way) frame = one;
-  await view.show(one, way && frame?.log?.from === 0 ? frame.log.rows : null);
-  const trace = await one.whole();
+  const beside = way ? await rowsBeside(one.texts[0], way.base) : null;
+  if (one !== shownRun) return;
+  await view.show(one, beside);
+  const trace = await whole;
   if (trace.status === ALERTED && !one.alert) {
     says('An alert ended the run. Its step is looked for ..', 'fault');
     await one.findAlert();
@@ -73,7 +77,18 @@ async function runTexts(one) {
   sayChecked(one, view.trace);
   embed.tell({ did: 'run', end: one.end, alerted: trace.status === ALERTED, lines: one.lines });
   await check(one);
-  if (!way && one === shownRun) strip.begin(one);
+  if (one !== shownRun) return;
+  if (strip.frame === frame) strip.fill(); else strip.begin(frame);
+}
+
+/** The first rows of the run that a way was opened from, which becomes the frame; null if its texts are refused. */
+async function rowsBeside(machine, base) {
+  if (!frame || !isSame(frame.texts[0], machine) || !isSame(frame.texts[1], base)) {
+    const made = new Run(library, [machine, base]);
+    if (await made.begin()) return null;
+    frame = made;
+  }
+  return (await frame.rowsAt(0)).rows;
 }
 
 /** Says why texts are refused, and where. */
@@ -191,8 +206,10 @@ async function openWay({ texts: [machine, base], events, said, step = 0 }) {
   const { example, files: names } = current(), old = work.past.length;
   await take({ texts: [machine, events], example: way || isSame(machine, texts()[0]) ? example : null, files: names, step, way: { base, said } });
   if (!way || work.past.length === old) return;
-  const at = view.trace.other, row = view.trace.rows[at], was = view.beside?.[at];
-  if (row) { $('way-said').textContent = `${said} The first line that is other: step ${row.step}, ${row.trace ?? row.plain}; it was: ${was ? was.trace ?? was.plain : 'the end'}.`; view.goTo(row.step); }
+  const at = view.trace.other, row = view.trace.rows[at];
+  if (!row) return;
+  $('way-said').textContent = `${said} The first line that is other: step ${row.step}, ${textOf(row)}; it was: ${textOf(view.beside[at]) || 'the end'}.`;
+  view.goTo(row.step);
 }
 
 function showWay() {
@@ -428,13 +445,13 @@ async function begin() {
   examples = carried.topics;
   takeWords(carried);
   listExamples();
-  view = new View({ onCursor: cursorAt, onPicture: () => strip?.pictured() });
+  view = new View({ onCursor: cursorAt, onPicture: () => strip?.pictured(), onFault: why => says(`The simulator broke off: ${why.message}`, 'fault') });
   makeEditors(decoded(code));
   await loads;
   helper.worker.terminate();
   [asides, search] = [library.another(), new Search(library.another(), texts, openWay)];
-  strip = new Strip(asides, view, ({ place, kind, number, one, way: events }) => openWay({ texts: frame.texts, events: events, said: `With ${lineOfKind(kind)} ${place ? `after step ${place}` : 'at the start'}: ${number ? `outcome ${letterOf(number)}` : 'the outcome stays'}.` }));
-  work = new Work((pair, keepsOld = false) => take(pair, keepsOld));
+  strip = new Strip(asides, view, ({ place, kind, number, way: events }) => openWay({ texts: frame.texts, events: events, said: `With ${lineOfKind(kind)} ${place ? `after step ${place}` : 'at the start'}: ${number ? `outcome ${letterOf(number)}` : 'the outcome stays'}.` }));
+  work = new Work(current, take);
   embed = new Embed(DEEDS);
   listen();
   await openAddress(openKept);

@@ -23,6 +23,13 @@ function eventsOf(text) {
   return found;
 }
 
+/** How many lines some bytes have. */
+function linesIn(bytes) {
+  let lines = 0;
+  for (let at = 0; at < bytes.length; at++) if (bytes[at] === 10) lines++;
+  return lines;
+}
+
 class Run {
   constructor(library, texts) {
     this.library = library;
@@ -35,7 +42,7 @@ class Run {
     this.log = null; // { from, to, rows }
   }
 
-  ask(name, ...numbers) { return this.library.ask(name, this.texts, numbers, name === 'execsim_run' || name === 'execsim_log' ? ROOMY : 1 << 21); }
+  ask(name, ...numbers) { return this.library.ask(name, this.texts, numbers, name === 'execsim_log' ? ROOMY : 1 << 21); }
 
   /** Reads both texts and starts the machine; answers the first answer that is a refusal, or null. */
   async begin() {
@@ -46,17 +53,13 @@ class Run {
     return null;
   }
 
-  /** The trace, whole: the answer whose contract is the headline. */
-  async whole() { return (this.trace ??= await this.ask('execsim_run')); }
+  /** The trace, whole: the answer whose contract is the headline. Another worker can make the call, beside those for what is shown. */
+  whole(library = this.library) {
+    return (this.wholly ??= library.ask('execsim_run', this.texts, [], ROOMY).then(answer => (this.trace = answer)));
+  }
 
   /** How many lines the trace has. */
-  get lines() {
-    if (this.counted === undefined) {
-      this.counted = 0;
-      for (const byte of this.trace.bytes) this.counted += byte === 10;
-    }
-    return this.counted;
-  }
+  get lines() { return (this.counted ??= linesIn(this.trace.bytes)); }
 
   /** The picture of the part of the run that a step is in, if that many steps are shown. */
   async pictureAt(step, count) {

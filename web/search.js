@@ -1,7 +1,7 @@
 // The search: every way to insert some further interrupts into the events, and what comes of it. It has a worker of its own, so it goes on while one types.
 
-/** At most how many ways are tried. */
-const MOST_WAYS = 1000000n;
+/** At most how many ways are tried, and how many outcomes are listed. */
+const MOST_WAYS = 1000000n, MOST_LISTED = 500;
 
 class Search {
   /** `textsNow` gives the texts, `onWay` opens the events of a way. */
@@ -96,7 +96,8 @@ class Search {
     const { report, base } = this, lets = { all: () => true, other: it => it !== base, alert: hasAlert, waits: hasWaiting }[$('filter').value];
     const seen = report.outcomes.map((one, i) => ({ one, number: i + 1 })).filter(({ one }) => lets(one));
     $('filters').hidden = report.outcomes.length < 2;
-    $('outcomes').replaceChildren(...seen.map(({ one, number }) => this.item(one, number)));
+    $('outcomes').replaceChildren(...seen.slice(0, MOST_LISTED).map(({ one, number }) => this.item(one, number)));
+    if (seen.length > MOST_LISTED) $('outcomes').append(made('li', `.. and ${counted(seen.length - MOST_LISTED, 'outcome')} more`, 'more'));
     if (!seen.length) $('outcomes').append(made('li', 'No outcome is such.'));
   }
 

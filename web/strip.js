@@ -54,8 +54,9 @@ class Strip {
     return isThere(answer) ? { ...readReport(answer.text()), took: answer.took } : null;
   }
 
-  /** Tries all cells in view, and then the others if they are few. */
+  /** Tries all cells in view, and then the others if they are few; those that were tried stay. */
   async fill() {
+    if (this.compared) return;
     const { frame } = this, trial = ++this.trial, isOver = () => trial !== this.trial || frame !== this.frame;
     if (!frame) return;
     try {
@@ -175,7 +176,7 @@ class Strip {
 
   cell(place, kind) {
     const number = this.cells.get(`${kind} ${place}`), one = this.classes[number], where = `${lineOfKind(kind)} ${place ? `after step ${place}` : 'at the start'}`;
-    const it = button(one ? letterOf(number) : '', () => one && this.onOpen({ place, kind, number, one, way: this.wayAt(place, kind) }), one ? classOf(number, one) : 'not-yet');
+    const it = button(one ? letterOf(number) : '', () => { if (one && this.frame) this.onOpen({ place, kind, number, way: this.wayAt(place, kind) }); }, one ? classOf(number, one) : 'not-yet');
     const words = one ? (number ? `outcome ${letterOf(number)}${one.isBad ? ', an alert' : ''}` : 'the outcome stays') : 'not tried yet';
     it.setAttribute('aria-label', `${where}: ${words}`);
     it.title = `${where}: ${words}${one ? `\n${one.text}` : ''}`;

@@ -1,13 +1,17 @@
 // The trace as a table of rows, of which only those in sight are in the document.
 
-const COLUMNS = [['step', 'step'], ['ms', 'ms'], ['line', 'line'], ['said', 'trace'], ['source', 'source']];
+const COLUMNS = [['step', 'step'], ['ms', 'ms'], ['line', 'line'], ['said', 'trace'], ['source', 'source']], AS_IT_WAS = 'as it was';
+
+/** What a row says: its line of the trace, or that of a word that prints nothing. */
+const textOf = row => row?.trace ?? row?.plain ?? '';
 
 class Trace {
   constructor(box, onStep) {
     this.box = box;
     this.rows = [];
     this.step = 0;
-    this.other = Infinity; // the first row that is other than as it was
+    this.beside = null; // the rows of the run that a way was opened from
+    this.other = Infinity; // the first row that is other than in that run
     this.table = made('div', '', 'table');
     this.table.setAttribute('role', 'table');
     this.table.setAttribute('aria-label', 'Trace');
@@ -36,15 +40,18 @@ class Trace {
     return group;
   }
 
-  /** Takes rows: objects of the log, in order of their steps. */
-  setRows(rows, other = Infinity) {
+  /** Takes rows: objects of the log, in order of their steps; and those of the run that a way was opened from, which are shown beside them from where they part. */
+  setRows(rows, beside = null) {
     this.rows = rows;
-    this.other = other;
+    this.beside = beside;
+    this.other = beside ? rows.findIndex((row, i) => textOf(row) !== textOf(beside[i])) : -1;
+    if (this.other < 0) this.other = Infinity;
+    this.table.querySelector('.head .source').textContent = this.other < Infinity ? AS_IT_WAS : 'source';
     this.table.setAttribute('aria-rowcount', rows.length + 1);
     this.body.style.height = `calc(${rows.length} * var(--row))`;
     const widest = read => rows.reduce((most, row) => Math.max(most, read(row)?.length ?? 0), 0), moves = rows.some(row => row.clock_us);
     this.box.style.setProperty('--digits', String(rows.at(-1)?.step ?? 0).length);
-    this.box.style.setProperty('--said', Math.min(widest(row => row.trace ?? row.plain), 60));
+    this.box.style.setProperty('--said', Math.min(widest(textOf), 60));
     this.box.style.setProperty('--source', Math.max(widest(row => row.source), 6));
     this.box.classList.toggle('still', !moves);
     this.draw();
@@ -86,6 +93,9 @@ class Trace {
     return now !== undefined && now !== before ? (now / 1000).toFixed(3) : '';
   }
 
+  /** What is in the last column of a row: its source; or, of a way, what was there in the run that it was opened from. */
+  besideText(index, row) { return this.other === Infinity ? row.source ?? '' : index < this.other ? '' : textOf(this.beside[index]); }
+
   row(it, index, height) {
     const row = made('div', '', it.step === this.step ? 'row here' : 'row');
     row.dataset.step = it.step;
@@ -96,7 +106,7 @@ class Trace {
     row.style.top = `${index * height}px`;
     row.setAttribute('role', 'row');
     row.setAttribute('aria-rowindex', index + 2);
-    const texts = { step: it.step, ms: this.time(index), line: it.line ? `:${it.line}` : '', said: it.trace ?? it.plain, source: it.source ?? '' };
+    const texts = { step: it.step, ms: this.time(index), line: it.line ? `:${it.line}` : '', said: textOf(it), source: this.besideText(index, it) };
     for (const [key] of COLUMNS) {
       const cell = made('span', texts[key], key);
       cell.setAttribute('role', 'cell');

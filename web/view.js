@@ -10,10 +10,9 @@ const TITLE_HEIGHT = 56;
 const BEAT = 700;
 
 class View {
-  /** `onCursor` is called with the run, the step, its rows and its event; `onPicture` when a picture is drawn or its size is another. */
-  constructor({ onCursor, onPicture }) {
-    this.onCursor = onCursor;
-    this.onPicture = onPicture;
+  /** `onCursor` is called with the run, the step, its rows and its event; `onPicture` when a picture is drawn or its size is another; `onFault` with an error. */
+  constructor({ onCursor, onPicture, onFault }) {
+    Object.assign(this, { onCursor, onPicture, onFault });
     this.run = null;
     this.step = 0;
     this.zoom = 0; // how many steps the picture shows; 0 is as many as fit
@@ -77,7 +76,7 @@ class View {
 
   /** Moves the cursor, if there is a run. */
   goTo(step) {
-    if (this.run) this.move(step, false).catch(why => { if (!(why instanceof Stopped)) throw why; });
+    if (this.run) this.move(step, false).catch(why => { if (!(why instanceof Stopped)) this.onFault(why); });
   }
 
   /** Moves the cursor to the next step that has such a row, or else to the first one. */
@@ -167,17 +166,10 @@ class View {
   }
 
   drawTrace(log, step) {
-    if (this.trace.rows !== log.rows) this.trace.setRows(log.rows, this.firstOther(log));
+    if (this.trace.rows !== log.rows) this.trace.setRows(log.rows, log.from === 0 ? this.beside : null);
     const isWhole = log.from === 0 && log.to === this.run.end;
     $('trace-part').textContent = isWhole ? '' : `of steps ${shown(log.from)} to ${shown(log.to)}`;
     this.trace.mark(step);
-  }
-
-  /** The first row that is other than in the run that a way was opened from. */
-  firstOther(log) {
-    if (!this.beside || log.from) return Infinity;
-    const said = row => row.trace ?? row.plain, at = log.rows.findIndex((row, i) => said(row) !== said(this.beside[i] ?? {}));
-    return at < 0 ? Infinity : at;
   }
 
   /** Shows where the cursor is. */

@@ -1,20 +1,21 @@
 // Own work: nothing overwrites a text for good. Undo brings back what another text has replaced; the last pairs are kept in this browser.
 
-/** How many pairs are kept, and how many characters of them at most, of which browsers take five million. */
-const MOST_PAIRS = 20, MOST_CHARACTERS = 4000000;
+/** How many pairs are kept, and how many characters of one and of all at most: browsers take five million. */
+const MOST_PAIRS = 20, MOST_IN_PAIR = 1000000, MOST_CHARACTERS = 4000000;
 
 const KEPT = 'execsim.pairs';
 
 class Work {
-  /** `onTake` shows a pair again: two texts with their example's name, their step, and the way that was opened. */
-  constructor(onTake) {
-    this.onTake = onTake;
+  /** `now` gives the pair that is shown: two texts with their example's name, their step, and the way that was opened. `onTake` shows one again, and is
+      called with whether the one that it replaces is to be had back by Undo. */
+  constructor(now, onTake) {
+    Object.assign(this, { now, onTake });
     this.past = [];
     this.id = this.newId();
     this.unsaved = new Set(); // the files that were changed since they were saved
     $('undo').addEventListener('click', () => this.undo());
     $('kept-menu').addEventListener('toggle', () => this.list());
-    addEventListener('beforeunload', event => { if (this.unsaved.size) event.preventDefault(); });
+    addEventListener('beforeunload', event => { if (this.unsaved.size && navigator.userActivation?.hasBeenActive !== false) event.preventDefault(); });
   }
 
   newId() { return `${Date.now()}-${Math.random().toString(36).slice(2)}`; }
@@ -35,7 +36,9 @@ class Work {
     const pair = this.past.pop();
     if (!pair) return;
     $('undo').disabled = !this.past.length;
-    this.onTake(pair);
+    const last = this.now();
+    if (!last.example) this.keep(last);
+    this.onTake(pair, false);
     [this.id, this.unsaved] = [pair.id, pair.unsaved];
   }
 
@@ -46,7 +49,9 @@ class Work {
 
   /** Keeps own texts in this browser; of the same work only the last. */
   keep({ texts, title }) {
-    const [machine, events] = texts.map(decoded), others = this.pairs().filter(it => it.id !== this.id && (it.machine !== machine || it.events !== events));
+    const [machine, events] = texts.map(decoded);
+    if (machine.length + events.length > MOST_IN_PAIR) return;
+    const others = this.pairs().filter(it => it.id !== this.id && (it.machine !== machine || it.events !== events));
     const pairs = [{ id: this.id, time: Date.now(), title, machine, events }, ...others].slice(0, MOST_PAIRS);
     while (pairs.length && pairs.reduce((sum, it) => sum + it.machine.length + it.events.length, 0) > MOST_CHARACTERS) pairs.pop();
     for (; pairs.length; pairs.pop()) {
