@@ -3,10 +3,12 @@
 // To the frame:   { execsim: 1, do: 'load', machine, events }   shows and runs two texts
 //                 { execsim: 1, do: 'step', step }              goes to a step
 //                 { execsim: 1, do: 'get' }                     asks for the texts as they are
+//                 { execsim: 1, do: 'exercise' }                judges what is shown by the rule of its exercise, in every way
 // From the frame: did: 'ready'    it can be asked
 //                 did: 'run'      texts were run: their last step `end`, the `lines` of their trace, and whether they were `alerted`
 //                 did: 'step'     a step is shown: `step`, of how many, whether it is `alerted`, and its `sentence`
 //                 did: 'get'      both texts, and the step
+//                 did: 'check'    an exercise was judged: whether it `holds`, in how many `ways`, and how many of them are `wrong`
 //                 did: 'refused'  and `why`: another version or kind of message, or texts that are refused
 
 const MESSAGES = 1;

@@ -5,7 +5,7 @@ const FIRST_EXAMPLE = 'ports';
 /** How long nothing is typed before the texts are run, and before the address is written, in milliseconds. */
 const PAUSE = 300, ADDRESS_PAUSE = 400;
 
-let library, asides, editors, view, strip, search, work, embed, examples = [];
+let library, asides, editors, view, strip, search, exercise, work, embed, examples = [];
 
 /** The run that is shown, and the run whose events a way was opened from: the same if no way is. */
 let shownRun = null, frame = null;
@@ -182,6 +182,7 @@ function nameTexts() {
   $('machine-name').textContent = files.machine;
   $('events-name').textContent = files.events;
   $('about').hidden = !(chosen ?? changedFrom);
+  exercise.begin(chosen ?? changedFrom);
 }
 
 /** Shows a pair of texts, and runs them. What was shown can be had back by Undo. */
@@ -377,7 +378,7 @@ function tabs(list, onTab) {
   list.forEach((tab, i) => {
     tab.addEventListener('click', () => choose(tab));
     tab.addEventListener('keydown', event => {
-      const to = list[i + { ArrowLeft: -1, ArrowRight: 1 }[event.key]];
+      const way = { ArrowLeft: -1, ArrowRight: 1 }[event.key], to = list[i + way]?.hidden ? list[i + 2 * way] : list[i + way];
       if (to) { event.preventDefault(); choose(to); to.focus(); }
     });
   });
@@ -390,7 +391,8 @@ function listen() {
   $('files').addEventListener('change', async () => { await openFiles([...$('files').files]); $('files').value = ''; });
   for (const id of Object.keys(SAVES)) $(id).addEventListener('click', () => save(id));
   tabs([...$('tabs').children], tab => { document.body.dataset.pane = tab.dataset.pane; });
-  tabs([$('findings-tab'), $('search-tab')], tab => { for (const [id, panel] of [['findings-tab', 'findings-panel'], ['search-tab', 'search']]) $(panel).hidden = tab.id !== id; });
+  const found = [['findings-tab', 'findings-panel'], ['exercise-tab', 'exercise'], ['search-tab', 'search']];
+  tabs(found.map(([id]) => $(id)), tab => { for (const [id, panel] of found) $(panel).hidden = tab.id !== id; });
   addEventListener('hashchange', () => openAddress());
   addEventListener('pagehide', keepTexts);
   addEventListener('beforeprint', () => fillPaper({ title: `execsim: ${files.machine}`, texts: texts(), view, status: $('status').textContent }));
@@ -420,6 +422,10 @@ const DEEDS = {
     if (!Number.isSafeInteger(step) || step < 0) return 'step is to be a whole number, 0 or more';
     view.goTo(step);
   },
+  exercise: async () => {
+    if (!exercise.rule) return 'there is no exercise to what is shown';
+    await exercise.check();
+  },
   get: () => {
     const [machine, events] = texts().map(decoded);
     embed.tell({ did: 'get', machine, events, step: view.step });
@@ -444,20 +450,22 @@ async function begin() {
   const [code, data] = await Promise.all([helper.unpack($('editor-packed')), helper.unpack($('data'))]), carried = JSON.parse(decoded(data));
   examples = carried.topics;
   takeWords(carried);
+  EXERCISES = carried.exercises;
   listExamples();
   view = new View({ onCursor: cursorAt, onPicture: () => strip?.pictured(), onFault: why => says(`The simulator broke off: ${why.message}`, 'fault') });
   makeEditors(decoded(code));
   await loads;
   helper.worker.terminate();
   [asides, search] = [library.another(), new Search(library.another(), texts, openWay)];
-  strip = new Strip(asides, view, ({ place, kind, number, way: events }) => openWay({ texts: frame.texts, events: events, said: `With ${lineOfKind(kind)} ${place ? `after step ${place}` : 'at the start'}: ${number ? `outcome ${letterOf(number)}` : 'the outcome stays'}.` }));
+  exercise = new Exercise({ library: search.library, now: () => [texts()[0], way?.base ?? texts()[1]], onWay: openWay, onJudged: found => embed.tell({ did: 'check', ...found }) });
+  strip = new Strip(asides, view, outcome => exercise.isBroken(outcome), ({ place, kind, number, way: events }) => openWay({ texts: frame.texts, events: events, said: `With ${lineOfKind(kind)} ${place ? `after step ${place}` : 'at the start'}: ${number ? `outcome ${letterOf(number)}` : 'the outcome stays'}.` }));
   work = new Work(current, take);
   embed = new Embed(DEEDS);
   listen();
   await openAddress(openKept);
   if (embed.refusal) says(embed.refusal, 'fault');
   embed.tell({ did: 'ready' });
-  window.execsim = { library, view, editors, texts, strip, search, work }; // for a console, and for tests
+  window.execsim = { library, exercise, view, editors, texts, strip, search, work }; // for a console, and for tests
 }
 
 /** Whether this browser has WebAssembly with memory of 64 bits: whether it takes a module that has nothing else. */

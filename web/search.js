@@ -93,16 +93,17 @@ class Search {
 
   /** Lists the outcomes that the filter lets through. */
   list() {
-    const { report, base } = this, lets = { all: () => true, other: it => it !== base, alert: hasAlert, waits: hasWaiting }[$('filter').value];
+    const { report, base } = this, lets = { all: () => true, other: it => it !== base, alert: hasAlert, waits: hasWaiting, rule: it => exercise.isBroken(it) }[$('filter').value];
     const seen = report.outcomes.map((one, i) => ({ one, number: i + 1 })).filter(({ one }) => lets(one));
     $('filters').hidden = report.outcomes.length < 2;
+    $('filter').querySelector('[value=rule]').hidden = !exercise.rule;
     $('outcomes').replaceChildren(...seen.slice(0, MOST_LISTED).map(({ one, number }) => this.item(one, number)));
     if (seen.length > MOST_LISTED) $('outcomes').append(made('li', `.. and ${counted(seen.length - MOST_LISTED, 'outcome')} more`, 'more'));
     if (!seen.length) $('outcomes').append(made('li', 'No outcome is such.'));
   }
 
   item(one, number) {
-    const item = made('li', '', hasAlert(one) ? 'alert' : ''), open = button('Open', () => this.openWay(number)), more = made('details'), other = one === this.base ? null : firstOtherLine(one, this.base);
+    const item = made('li', '', hasAlert(one) || exercise.isBroken(one) ? 'alert' : ''), open = button('Open', () => this.openWay(number)), more = made('details'), other = one === this.base ? null : firstOtherLine(one, this.base);
     item.value = number;
     open.setAttribute('aria-label', `Open the first way of outcome ${number}`);
     item.append(`${counted(one.count, 'way')} `, open);

@@ -7,9 +7,10 @@ const MOST_CELLS = 700, LONGEST_STRIP = 10000;
 const ONE_WAY = [0, 0, 1, 10n];
 
 class Strip {
-  /** `library` makes its calls, a few at a time, so that others come between; `onOpen` is called with a place, a kind and an outcome. */
-  constructor(library, view, onOpen) {
-    Object.assign(this, { library, view, onOpen, isOn: true, frame: null });
+  /** `library` makes its calls, a few at a time, so that others come between; `isBroken` says of an outcome whether it breaks a rule; `onOpen` is called
+      with a place, a kind and an outcome. */
+  constructor(library, view, isBroken, onOpen) {
+    Object.assign(this, { library, view, isBroken, onOpen, isOn: true, frame: null });
     this.reset();
     $('whatif').addEventListener('click', () => this.toggle());
     $('strip-cells').addEventListener('keydown', event => this.key(event));
@@ -105,8 +106,8 @@ class Strip {
     this.cells.set(`${kind} ${place}`, number);
   }
 
-  /** A new outcome; answers its number. It is bad if it has an alert. */
-  newClass(outcome) { return this.classes.push({ ...outcome, text: outcome.lines.join('\n'), count: 0, isBad: hasAlert(outcome) }) - 1; }
+  /** A new outcome; answers its number. It is bad if it has an alert, or breaks the rule of the exercise. */
+  newClass(outcome) { return this.classes.push({ ...outcome, text: outcome.lines.join('\n'), count: 0, isBad: hasAlert(outcome) || this.isBroken(outcome) }) - 1; }
 
   /** Compares how many cells have each outcome with one search of all ways with one more interrupt. */
   async compare(isOver) {
@@ -177,7 +178,7 @@ class Strip {
   cell(place, kind) {
     const number = this.cells.get(`${kind} ${place}`), one = this.classes[number], where = `${lineOfKind(kind)} ${place ? `after step ${place}` : 'at the start'}`;
     const it = button(one ? letterOf(number) : '', () => { if (one && this.frame) this.onOpen({ place, kind, number, way: this.wayAt(place, kind) }); }, one ? classOf(number, one) : 'not-yet');
-    const words = one ? (number ? `outcome ${letterOf(number)}${one.isBad ? ', an alert' : ''}` : 'the outcome stays') : 'not tried yet';
+    const words = one ? (number ? `outcome ${letterOf(number)}${one.isBad ? `, ${hasAlert(one) ? 'an alert' : 'which breaks the rule'}` : ''}` : 'the outcome stays') : 'not tried yet';
     it.setAttribute('aria-label', `${where}: ${words}`);
     it.title = `${where}: ${words}${one ? `\n${one.text}` : ''}`;
     it.dataset.place = place;
@@ -210,4 +211,7 @@ class Strip {
 }
 
 /** The class of an outcome's letter: a colour, or red. */
-const classOf = (number, one) => one.isBad ? 'bang' : `k${number === 0 ? 0 : (number - 1) % 7 + 1}`;
+const classOf = (number, one) => one.isBad ? 'bang' : `k${number === 0 ? 0 : OTHER_COLOURS[(number - 1) % OTHER_COLOURS.length]}`;
+
+/** The colours of outcomes, of which none is near to red. */
+const OTHER_COLOURS = [7, 2, 3, 4, 5, 6];
