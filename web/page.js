@@ -351,6 +351,7 @@ async function openAddress(openOther = () => {}) {
     return take({ texts: [machine, found.way ?? base], step: found.step, way: found.way ? { base, said: 'A way of these events.' } : null });
   } catch (why) {
     await openOther();
+    writeAddress();
     says(`The link cannot be read: ${why.constructor === Error ? why.message : 'it is cut off, or was changed'}.`, 'fault');
   }
 }

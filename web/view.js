@@ -6,6 +6,9 @@ const COLUMN = 24, NAMES = 175, SMALLEST = 0.87;
 /** What is above the columns of a picture: its title, which the page has elsewhere. */
 const TITLE_HEIGHT = 56;
 
+/** How many parts of the log further on the next step of a line is looked for. */
+const PARTS_AHEAD = 20;
+
 /** How long a step is shown while the run is played, in milliseconds. */
 const BEAT = 700;
 
@@ -79,10 +82,20 @@ class View {
     if (this.run) this.move(step, false).catch(why => { if (!(why instanceof Stopped)) this.onFault(why); });
   }
 
-  /** Moves the cursor to the next step that has such a row, or else to the first one. */
-  goToNext(isSuch) {
-    const rows = this.trace.rows.filter(isSuch), row = rows.find(one => one.step > this.step) ?? rows[0];
-    if (row) this.goTo(row.step);
+  /** Moves the cursor to the next step that has such a row, looking some parts of the log further on; or else to the first one of the part that is shown. */
+  async goToNext(isSuch) {
+    const { run } = this, rows = this.trace.rows.filter(isSuch), next = rows.find(one => one.step > this.step);
+    if (!run || next) return this.goTo(next?.step ?? this.step);
+    try {
+      for (let part = 1, from = run.log.to + 1; part <= PARTS_AHEAD && from <= run.end; part++, from += TRACED) {
+        const found = (await run.rows(from, Math.min(run.end, from + TRACED - 1))).find(isSuch);
+        if (run !== this.run) return;
+        if (found) return this.goTo(found.step);
+      }
+      this.goTo(rows[0]?.step ?? this.step);
+    } catch (why) {
+      if (!(why instanceof Stopped)) this.onFault(why);
+    }
   }
 
   /** Goes a step further by itself until the end, or no more. */

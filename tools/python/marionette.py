@@ -15,7 +15,7 @@ NAMES = ("firefox-esr", "firefox")
 PATIENCE = 180
 # What of the console is a problem of the page: errors and warnings of its scripts, its style and its policy, but not of the browser's own parts.
 PROBLEMS = """return Services.console.getMessageArray().filter(it => it instanceof Ci.nsIScriptError && !/^(chrome|resource|moz-extension):/.test(it.sourceName)
-  && !/^(chrome|XPConnect|component) /.test(it.category)).map(it => `${it.category}: ${it.errorMessage} (${it.sourceName}:${it.lineNumber})`);"""
+  && !/^(chrome|XPConnect|component) |^Async/.test(it.category)).map(it => `${it.category}: ${it.errorMessage} (${it.sourceName}:${it.lineNumber})`);"""
 
 
 def found():
