@@ -1,4 +1,4 @@
-// The calls of the library, made in a worker, so that a long one blocks nothing and can be stopped.
+// The calls of the library, made in workers, so that a long one blocks nothing and can be stopped.
 
 /** What a call answers, as execsim.h has it. */
 const RAN = 0, MACHINE_REFUSED = 1, EVENTS_REFUSED = 2, ALERTED = 3, NO_MEMORY = 4, NOT_THERE = 7, TOO_MANY = 8;
@@ -9,25 +9,37 @@ const MOST_KEPT = 1 << 28;
 /** A call that was stopped before it answered. */
 class Stopped extends Error {}
 
-/** The library of the page. */
+/** What an answer has that is not a refusal. */
+const isThere = answer => answer.status === RAN || answer.status === ALERTED;
+
+/** A worker: it unpacks what the page carries, and makes calls of the library one after another. */
 class Library {
-  constructor(compiled, script) {
-    this.compiled = compiled;
-    this.script = URL.createObjectURL(new Blob([script], { type: 'text/javascript' }));
-    this.names = new Set(WebAssembly.Module.exports(compiled).map(one => one.name));
+  /** `script` is the address of the worker's script; a `module` that is there spares unpacking one. */
+  constructor(script, module = null) {
+    this.script = script;
+    this.module = module;
     this.waiting = new Map();
     this.id = 0;
     this.start();
   }
 
-  /** Whether the module has a call. */
-  has(name) { return this.names.has(name); }
+  /** Another worker with the same module, once there is one. */
+  another() { return new Library(this.script, this.module); }
 
   start() {
     const worker = (this.worker = new Worker(this.script));
-    worker.postMessage({ module: this.compiled });
     worker.onerror = why => { if (worker === this.worker) this.failed(why.message); };
-    worker.onmessage = ({ data }) => this.answered(data);
+    worker.onmessage = ({ data }) => { if (worker === this.worker) this.answered(data); };
+    if (this.module) worker.postMessage({ module: this.module });
+  }
+
+  /** Unpacks a part of the page. */
+  unpack(part) { return this.send({ packed: part.textContent, length: part.dataset.length }).then(answer => answer.bytes); }
+
+  /** Unpacks the module, which calls need. */
+  async load(part) {
+    this.module = (await this.send({ packed: part.textContent, length: part.dataset.length, compiles: true })).module;
+    this.names = new Set(WebAssembly.Module.exports(this.module).map(one => one.name));
   }
 
   /** Ends all calls that have not answered with an error. */
@@ -37,12 +49,12 @@ class Library {
     for (const { fail } of left) fail(new Error(why));
   }
 
-  answered({ id, broken, status, bytes, took, memory }) {
+  answered({ id, broken, memory, ...answer }) {
     if (!this.waiting.has(id)) return; // it was stopped
     const { done, fail } = this.waiting.get(id);
     this.waiting.delete(id);
     if (broken) fail(new Error(broken));
-    else done({ status, bytes, took, text: () => new TextDecoder().decode(bytes) });
+    else done({ ...answer, text: () => decoded(answer.bytes) });
     if (memory > MOST_KEPT && !this.waiting.size) this.restart();
   }
 
@@ -51,18 +63,20 @@ class Library {
     this.start();
   }
 
-  /** Makes a call over two texts and further numbers, after those that were asked for before. */
-  ask(name, texts, numbers = [], room = 1 << 20) {
+  send(message) {
     const id = ++this.id;
     return new Promise((done, fail) => {
       this.waiting.set(id, { done, fail });
-      this.worker.postMessage({ id, name, texts, numbers, room });
+      this.worker.postMessage({ id, ...message });
     });
   }
 
+  /** Makes a call over two texts and further numbers, after those that were asked for before. */
+  ask(name, texts, numbers = [], room = 1 << 20) { return this.send({ name, texts, numbers, room }); }
+
   /** Ends all calls that have not answered. */
   stop() {
-    if (!this.waiting.size) return;
+    if (!this.waiting.size || !this.module) return;
     const left = [...this.waiting.values()];
     this.waiting.clear();
     this.restart();

@@ -1,150 +1,151 @@
-// A text with line numbers, marks under faulty parts, and marked lines. Only what is in sight is drawn.
+// A text with colours, completion and help, marks under parts of it, and marked lines.
 
 /** The most bytes of a machine file or of an event text. */
 const LIMIT = 4194304;
 
-/** The most lines, and characters, of a text that is edited here: of a longer one the beginning is shown, and browsers are slow with more. */
-const MOST_LINES = 4000, MOST_CHARACTERS = 300000;
-
-/** The most characters of a line that are drawn under the text, for the marks. */
-const WIDEST = 2000;
+/** The longest line that is edited here, in characters: browsers are slow with longer ones. */
+const LONGEST_LINE = 20000;
 
 class Editor {
-  /** `onChange` is called after each change, and `onLine` with a line whose number is clicked, or which has the caret when Alt+Enter is pressed. */
-  constructor(area, onChange, onLine) {
-    this.area = area;
+  /** `onChange` is called after each change by a user, and `onLine` with a line whose number is clicked, or which has the caret when Alt+Enter is pressed. */
+  constructor(place, label, mode, onChange, onLine) {
+    this.place = place;
     this.marks = [];
-    this.lines = new Set();
+    this.lines = [];
     this.whole = null; // the bytes of a file, until the text is changed
-    this.numbers = this.layer('numbers');
-    this.under = this.layer('under');
-    this.note = this.layer('note');
     this.cut = made('p', '', 'cut');
     this.cut.hidden = true;
-    area.parentElement.after(this.cut);
-    this.numbers.addEventListener('click', ({ target }) => onLine(Number(target.textContent)));
-    area.addEventListener('keydown', event => { if (event.altKey && event.key === 'Enter') onLine(area.value.slice(0, area.selectionStart).split('\n').length); });
-    area.addEventListener('scroll', () => this.draw());
-    area.addEventListener('input', () => {
-      this.whole = null;
-      this.note.hidden = true;
-      this.count();
-      if (this.isLong(area.value)) this.bytes = this.bytes;
-      onChange();
-    });
-    new ResizeObserver(() => this.draw()).observe(area);
+    place.before(this.cut);
+    this.shown = CodeMirror(place, this.options(label, mode, onLine));
+    this.shown.on('changes', (_editor, changes) => { if (changes.some(it => it.origin !== 'setValue')) this.changed(onChange); });
+    this.shown.on('gutterClick', (_editor, line, gutter) => { if (gutter === 'CodeMirror-linenumbers') onLine(line + 1); });
+    this.shown.on('drop', (_editor, event) => { if (event.dataTransfer.types.includes('Files')) event.preventDefault(); });
+    for (const [key, value] of [['role', 'textbox'], ['aria-multiline', 'true']]) this.shown.getInputField().setAttribute(key, value);
+    place.addEventListener('mousemove', event => this.hover(event));
+    place.addEventListener('mouseleave', hideTip);
+    new ResizeObserver(() => this.resized()).observe(place);
   }
 
-  layer(name) {
-    const layer = made('div', '', name);
-    layer.setAttribute('aria-hidden', 'true');
-    this.area.before(layer);
-    return layer;
+  options(label, mode, onLine) {
+    const help = () => this.help(this.shown.getCursor());
+    return {
+      mode, lineNumbers: true, lineSeparator: '\n', inputStyle: 'contenteditable', screenReaderLabel: label, indentUnit: 2, tabSize: 4, matchBrackets: true,
+      autoCloseBrackets: { pairs: '[]""\'\'', explode: '[]' }, foldGutter: { rangeFinder: foldsAt }, gutters: ['CodeMirror-linenumbers', 'CodeMirror-foldgutter'],
+      hintOptions: { hint: completion, completeSingle: false }, workTime: 20, workDelay: 200,
+      extraKeys: { Tab: false, 'Shift-Tab': false, 'Ctrl-Space': 'autocomplete', F1: help, 'Alt-Enter': () => onLine(this.shown.getCursor().line + 1), 'Ctrl-Enter': () => {}, 'Cmd-Enter': () => {}, 'Alt-.': () => {}, 'Alt-,': () => {}, Esc: editor => { hideTip(); if (!editor.state.completionActive) return CodeMirror.Pass; } },
+    };
+  }
+
+  changed(onChange) {
+    this.whole = null;
+    hideTip();
+    onChange();
   }
 
   /** The text as bytes. */
-  get bytes() { return this.whole ?? new TextEncoder().encode(this.area.value); }
+  get bytes() { return this.whole ?? encoded(this.shown.getValue()); }
 
   /** Takes a text from somewhere else, as bytes, which are kept as they are until the text is changed. */
   set bytes(bytes) {
-    const text = new TextDecoder().decode(bytes), isLong = this.isLong(text);
-    this.area.value = isLong ? text.slice(0, MOST_CHARACTERS).split('\n', MOST_LINES).join('\n') : text;
-    this.area.readOnly = isLong;
+    const text = decoded(bytes), isLong = this.isLong(text);
+    this.whole = null;
+    this.shown.setOption('readOnly', isLong);
+    this.shown.setValue(isLong ? text.slice(0, LONGEST_LINE) : text);
+    this.shown.scrollTo(0, 0);
     this.cut.hidden = !isLong;
-    this.cut.textContent = `All ${bytes.length.toLocaleString('en')} bytes are run. Only the beginning is shown, and a text of this length cannot be edited here.`;
-    this.area.scrollTo(0, 0);
+    this.cut.textContent = `All ${shown(bytes.length)} bytes are run. Only the beginning is shown: a line of this length cannot be edited here.`;
     this.whole = bytes;
     this.marks = [];
-    this.lines = new Set();
-    this.count();
+    this.lines = [];
   }
 
-  /** Whether a text is too long to be edited here. */
+  /** Whether a text has a line that is too long to be edited here. */
   isLong(text) {
-    if (text.length > MOST_CHARACTERS) return true;
-    let lines = 0;
-    for (let at = text.indexOf('\n'); at >= 0 && lines <= MOST_LINES; at = text.indexOf('\n', at + 1)) lines++;
-    return lines > MOST_LINES;
+    for (let at = 0; text.length - at > LONGEST_LINE;) {
+      const end = text.lastIndexOf('\n', at + LONGEST_LINE);
+      if (end < at) return true;
+      at = end + 1;
+    }
+    return false;
   }
 
-  /** Finds where the lines begin. */
-  count() {
-    const text = this.area.value;
-    this.starts = [0];
-    for (let at = text.indexOf('\n'); at >= 0; at = text.indexOf('\n', at + 1)) this.starts.push(at + 1);
-    this.area.parentElement.style.setProperty('--digits', Math.max(2, String(this.starts.length).length));
-    this.draw();
+  /** A place of the text: the line and the column are counted from 1, the column in characters. */
+  at(line, column) {
+    const text = this.shown.getLine(line - 1) ?? '';
+    return CodeMirror.Pos(line - 1, [...text].slice(0, column - 1).join('').length);
   }
-
-  /** The text of a line, which are counted from 1. */
-  line(number) { return this.area.value.slice(this.starts[number - 1], (this.starts[number] ?? this.area.value.length + 1) - 1); }
 
   /** Marks parts of the text: each with its line, the first column, how many columns, a text, and a kind. */
   setMarks(marks) {
-    this.marks = marks;
-    this.draw();
+    const { shown: editor } = this;
+    this.marks.forEach(it => it.clear());
+    this.marks = editor.operation(() => marks.filter(it => it.line <= editor.lineCount()).map(it => {
+      const from = this.at(it.line, it.column || 1), to = it.column ? this.at(it.line, it.column + Math.max(1, it.length)) : CodeMirror.Pos(it.line - 1);
+      return editor.markText(from, to.ch > from.ch || !it.column ? to : CodeMirror.Pos(from.line, from.ch + 1), { className: `mark ${it.kind}`, attributes: { title: it.text } });
+    }));
+    const field = editor.getInputField(), faults = marks.filter(it => it.kind === 'fault' || it.kind === 'alert');
+    field.setAttribute('aria-invalid', String(marks.some(it => it.kind === 'fault')));
+    field.setAttribute('aria-describedby', faults.map(it => it.id).join(' '));
   }
 
   /** Marks whole lines. */
   setLines(lines) {
-    this.lines = new Set(lines);
-    this.draw();
+    const { shown: editor } = this;
+    editor.operation(() => {
+      for (const it of this.lines) { editor.removeLineClass(it, 'background', 'here'); editor.removeLineClass(it, 'gutter', 'here'); }
+      this.lines = [...new Set(lines)].filter(it => it <= editor.lineCount()).map(it => editor.getLineHandle(it - 1));
+      for (const it of this.lines) { editor.addLineClass(it, 'background', 'here'); editor.addLineClass(it, 'gutter', 'here'); }
+    });
+  }
+
+  /** Draws the text anew, and shows a line that was to be shown when there was no place for it. */
+  resized() {
+    this.shown.refresh();
+    if (this.wanted && this.place.clientHeight) this.show(...this.wanted);
   }
 
   /** Shows a line without moving the focus: if it is not in sight, a third from above, or as far as is said. */
-  show(number, from = this.area.clientHeight / 3) {
-    const height = this.height(), top = (number - 1) * height, { scrollTop, clientHeight } = this.area;
-    if (top < scrollTop || top + 2 * height > scrollTop + clientHeight || from === 0) this.area.scrollTop = top - from;
+  show(number, from = null) {
+    this.wanted = this.place.clientHeight ? null : [number, from];
+    if (this.wanted) return;
+    const { shown: editor } = this, { top, clientHeight } = editor.getScrollInfo(), y = editor.heightAtLine(number - 1, 'local'), height = editor.defaultTextHeight();
+    if (from !== null || y < top || y + height > top + clientHeight) editor.scrollTo(null, Math.max(0, y - (from ?? clientHeight / 3)));
   }
 
   /** Puts the caret at a place. */
-  goTo(number, column = 1) {
-    const line = Math.min(number, this.starts.length), at = this.starts[line - 1] + [...this.line(line)].slice(0, column - 1).join('').length;
-    this.area.focus();
-    this.area.setSelectionRange(at, at);
+  goTo(line, column = 1) {
+    this.shown.focus();
+    this.shown.setCursor(this.at(line, column));
     this.show(line);
   }
 
-  height() { return parseFloat(getComputedStyle(this.area).lineHeight); }
+  get hasFocus() { return this.shown.hasFocus(); }
 
-  /** Draws the numbers and the marks of the lines in sight. */
-  draw() {
-    const { scrollTop, scrollLeft, clientHeight } = this.area, height = this.height();
-    const first = Math.floor(scrollTop / height) + 1, last = Math.min(this.starts.length, first + Math.ceil(clientHeight / height) + 1);
-    const numbers = [], under = [];
-    for (let number = first; number <= last; number++) {
-      numbers.push(made('span', String(number), this.lines.has(number) ? 'here' : ''));
-      under.push(this.drawLine(number));
-    }
-    this.numbers.replaceChildren(...numbers);
-    this.under.replaceChildren(...under);
-    this.numbers.style.transform = `translateY(${-(scrollTop % height)}px)`;
-    this.under.style.transform = `translate(${-scrollLeft}px, ${-(scrollTop % height)}px)`;
-    this.drawNote(first, last, height);
+  /** The word of machine files at a place, or undefined. */
+  wordAt(place) {
+    const token = this.shown.getTokenAt({ line: place.line, ch: place.ch }, false), next = this.shown.getTokenAt({ line: place.line, ch: place.ch + 1 }, false);
+    return [token, next].filter(it => isWord(it.string)).map(it => WORDS[it.string])[0];
   }
 
-  /** A line as it is under the text, unseen but for its marks. */
-  drawLine(number) {
-    const row = made('div', '', this.lines.has(number) ? 'here' : ''), characters = [...this.line(number).slice(0, WIDEST)];
-    let at = 0;
-    for (const mark of this.marks.filter(one => one.line === number).sort((a, b) => a.column - b.column)) {
-      const from = Math.max(at, (mark.column || 1) - 1), to = mark.column ? from + Math.max(1, mark.length) : characters.length;
-      row.append(characters.slice(at, from).join(''), made('mark', characters.slice(from, to).join('') || ' ', mark.kind));
-      at = to;
-    }
-    row.append(characters.slice(at).join('') + '\n');
-    return row;
+  /** Shows help on the word at the caret. */
+  help(place) {
+    const word = this.wordAt(place), { left, bottom } = this.shown.cursorCoords(place, 'window');
+    if (word) showTip(helpOf(word), left, bottom);
   }
 
-  /** Shows the text of the first mark in sight, below its part. */
-  drawNote(first, last, height) {
-    const index = this.marks.findIndex(one => one.text && one.line >= first && one.line <= last), mark = this.marks[index];
-    this.note.hidden = !mark;
-    if (!mark) return;
-    const place = this.under.children[mark.line - first].querySelector('mark');
-    this.note.textContent = mark.text;
-    this.note.className = `note ${mark.kind}`;
-    this.note.style.top = `${mark.line * height - this.area.scrollTop + 8}px`;
-    this.note.style.left = `${Math.max(0, (place?.offsetLeft ?? 0) - this.area.scrollLeft)}px`;
+  hover(event) {
+    const place = this.shown.coordsChar({ left: event.clientX, top: event.clientY }, 'window'), word = place.outside ? undefined : this.wordAt(place);
+    if (word) showTip(helpOf(word), event.clientX, event.clientY + 14); else hideTip();
   }
 }
+
+/** Shows some help at a place of the window, as far as it fits. */
+function showTip(content, left, top) {
+  const tip = $('tip');
+  tip.replaceChildren(...content);
+  tip.hidden = false;
+  tip.style.left = `${Math.max(4, Math.min(left, innerWidth - tip.offsetWidth - 8))}px`;
+  tip.style.top = `${top + tip.offsetHeight > innerHeight ? Math.max(4, top - tip.offsetHeight - 34) : top}px`;
+}
+
+function hideTip() { $('tip').hidden = true; }

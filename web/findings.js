@@ -2,10 +2,10 @@
 
 const PLACE = /^(machine\.toml|run\.events)(?::(\d+))?(?::(\d+))?: (.*)$/;
 
-/** The findings of a text, each with its place, the lines that follow, and what is marked. */
-function findingsOf(text) {
+/** The findings of an answer, each with its place, the lines that follow, what is marked, and its kind. */
+function findingsOf(answer) {
   const found = [];
-  for (const line of text.split('\n')) {
+  for (const line of answer.text().split('\n')) {
     const match = line.match(PLACE);
     if (match) found.push({ file: match[1], line: Number(match[2] ?? 0), column: Number(match[3] ?? 0), length: 0, head: match[4], rest: [] });
     else if (found.length && line) withLine(found.at(-1), line.replace(/^ {4}/, ''));
@@ -26,12 +26,13 @@ function withLine(finding, line) {
   finding.rest.push(line);
 }
 
-/** A fault of a text, an alert, a warning or a remark. */
+/** An alert, a warning, a remark or a fault of a text: what the head says after its place, in which names are within quotes. */
 function kindOf(head) {
-  if (/(^|: )alert /.test(head)) return 'alert';
-  if (/(^|: )note\b/.test(head)) return 'remark';
-  return /(^|: )warning\b/.test(head) ? 'warning' : 'fault';
+  const said = head.replace(/"[^"]*"/g, '""').replace(/^in [^:]*: /, '');
+  if (/^alert [A-Z]+ at step \d+$/.test(said)) return 'alert';
+  if (/^note\b/.test(said)) return 'remark';
+  return /^warning\b/.test(said) ? 'warning' : 'fault';
 }
 
 /** What is said below the marked part. */
-function noteOf(finding) { return finding.why || finding.rest.at(-1) || finding.head; }
+const noteOf = finding => finding.why || finding.rest.at(-1) || finding.head;

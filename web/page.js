@@ -2,24 +2,27 @@
 
 const FIRST_EXAMPLE = 'ports';
 
-/** How long nothing is typed before the texts are run, in milliseconds. */
-const PAUSE = 300;
+/** How long nothing is typed before the texts are run, and before the address is written, in milliseconds. */
+const PAUSE = 300, ADDRESS_PAUSE = 400;
 
-let library, view, search, shown = null;
+let library, asides, editors, view, strip, search, exercise, work, embed, examples = [];
 
-/** The example that is shown as it is, or none; and the last own texts that another text has replaced. */
-let chosen = null, kept = null;
+/** The run that is shown, and the run whose events a way was opened from: the same if no way is. */
+let shownRun = null, frame = null;
 
-const editors = {
-  'machine.toml': new Editor($('machine'), typed, line => view?.goToNext(row => row.line === line)),
-  'run.events': new Editor($('events'), typed, goToEvent),
-};
+/** What is shown: the example that the texts are, or were before they were changed; the names of their files; and the way that is opened, if one is. */
+let chosen = null, changedFrom = null, files = { machine: 'machine.toml', events: 'run.events' }, way = null;
+
 const texts = () => Object.values(editors).map(editor => editor.bytes);
 
-function says(text, kind = '') {
-  $('status').textContent = text;
+/** Says something in the line at the top: texts, and links that do something. */
+function says(words, kind = '') {
+  $('status').replaceChildren(...[words].flat());
   $('status').className = kind;
 }
+
+/** A link of the status line. */
+const linkTo = (text, act) => button(text, act, 'link');
 
 /** Shows the stop button while a call is made that takes more than a moment. */
 async function busy(promise) {
@@ -36,9 +39,10 @@ busy.count = 0;
 
 /** Runs the texts as they are, and shows what comes of it. */
 async function run() {
-  if (!library) return;
   clearTimeout(typed.timer);
+  if (!editors) return;
   library.stop();
+  asides?.stop();
   view.age();
   const now = texts(), long = now.findIndex(text => text.length > LIMIT);
   if (long >= 0) return says(`The ${['machine file', 'event text'][long]} has more than 4,194,304 bytes, which are not read.`, 'fault');
@@ -49,53 +53,100 @@ async function run() {
   }
 }
 
-/** How many lines some bytes have. */
-function linesIn(bytes) {
-  let lines = 0;
-  for (const byte of bytes) lines += byte === 10;
-  return lines;
-}
-
 async function runTexts(one) {
   const refused = await one.begin();
-  if (refused) {
-    shown = null;
-    allowSaves();
-    const words = `Refused: ${refused.status === NO_MEMORY ? 'no memory' : refused.text()}`;
-    says(words, 'fault');
-    const [first] = await check(one);
-    if (first) says(`${words}${first.line ? ` in line ${first.line}` : ''}: ${noteOf(first)}`, 'fault');
-    return;
+  run.last = one;
+  $('status-sure').hidden = true;
+  if (refused) return refuse(one, refused);
+  shownRun = one;
+  const whole = one.whole(asides);
+  whole.catch(() => {}); // it is waited for below, unless the run is stopped before
+  if (!way) frame = one;
+  const beside = way ? await rowsBeside(one.texts[0], way.base) : null;
+  if (one !== shownRun) return;
+  await view.show(one, beside);
+  const trace = await whole;
+  if (trace.status === ALERTED && !one.alert) {
+    says('An alert ended the run. Its step is looked for ..', 'fault');
+    await one.findAlert();
+    view.goTo(view.step);
   }
-  shown = one;
-  await view.show(one);
-  const trace = await one.whole();
-  if (!library.has('execsim_log')) view.trace.setRows(trace.text().split('\n').slice(0, -1).map(line => ({ trace: line })));
+  if (one !== shownRun) return;
   allowSaves();
-  const ended = trace.status === ALERTED ? 'An alert ended the run' : 'The machine ran over all its events';
-  says(`${ended}: ${linesIn(trace.bytes).toLocaleString('en')} lines of trace, ${trace.took.toFixed(trace.took < 10 ? 1 : 0)} ms.`, trace.status === ALERTED ? 'fault' : '');
+  sayEnd(one);
+  sayChecked(one, view.trace);
+  embed.tell({ did: 'run', end: one.end, alerted: trace.status === ALERTED, lines: one.lines });
   await check(one);
+  if (one !== shownRun) return;
+  if (strip.frame === frame) strip.fill(); else strip.begin(frame);
+}
+
+/** The first rows of the run that a way was opened from, which becomes the frame; null if its texts are refused. */
+async function rowsBeside(machine, base) {
+  if (!frame || !isSame(frame.texts[0], machine) || !isSame(frame.texts[1], base)) {
+    const made = new Run(library, [machine, base]);
+    if (await made.begin()) return null;
+    frame = made;
+  }
+  return (await frame.rowsAt(0)).rows;
+}
+
+/** Says why texts are refused, and where. */
+async function refuse(one, answer) {
+  shownRun = null;
+  allowSaves();
+  strip.end();
+  const words = `Refused: ${answer.status === NO_MEMORY ? 'no memory' : answer.text()}`;
+  says(words, 'fault');
+  embed.tell({ did: 'refused', why: words });
+  const [first] = await check(one);
+  if (first && run.last === one) says([words, ...(first.line ? [' in ', linkTo(`line ${first.line}`, () => editors[first.file].goTo(first.line, first.column || 1))] : []), `: ${noteOf(first)}`], 'fault');
+}
+
+/** Says how the run ended: of an alert its code, its step, its line and what it is about, each a link. */
+function sayEnd(one, found = []) {
+  const { trace, alert, end } = one, all = `${counted(end, 'step')}, ${counted(one.lines, 'line')} of trace`;
+  $('status-sure').hidden = false;
+  if (trace.status !== ALERTED) return says(`${all}, ${trace.took.toFixed(trace.took < 10 ? 1 : 0)} ms.`);
+  const last = found.find(it => it.kind === 'alert'), part = last?.rest[0] === undefined ? '' : [...last.rest[0]].slice(last.from, last.from + last.length).join('');
+  const words = [linkTo(alert?.trace ?? 'An alert', () => view.goTo(one.end)), ' at ', linkTo(`step ${shown(end)}`, () => view.goTo(one.end))];
+  if (alert?.line) words.push(', ', linkTo(`line ${alert.line}`, () => editors['machine.toml'].goTo(alert.line)));
+  if (last) words.push(', ', linkTo(part || 'there', () => editors[last.file].goTo(last.line, last.column || 1)), `: ${last.why}`);
+  says([...words, `; ${all}.`], 'fault');
+}
+
+/** Says of the trace that is shown whether it was compared with the proved one. */
+function sayChecked(one, trace) {
+  const sure = $('trace-sure'), [summary, text] = sure.children, isThere = one.trace && one.log && trace.rows === one.log.rows;
+  if (!isThere) return;
+  const { isSame, words } = one.log.compared ??= one.compare(one.log);
+  sure.classList.toggle('wrong', !isSame);
+  summary.textContent = isSame ? 'checked' : 'not the same';
+  text.replaceChildren(...withCode(isSame ? `${words}, of which it is proved that it is the trace. Step, time, line and source are tested.` : 'The lines shown are not the answer of `execsim_run`: please report this.'));
 }
 
 /** Shows what is wrong with the texts, or how the run ends, and answers it. */
 async function check(one) {
-  const found = library.has('execsim_check') ? findingsOf((await one.ask('execsim_check')).text()) : [];
+  const answer = await (asides ?? library).ask('execsim_check', one.texts), found = findingsOf(answer);
+  if (run.last !== one) return [];
   showFindings(found);
+  if (one === shownRun) sayEnd(one, found);
   return found;
 }
 
 function showFindings(found) {
-  for (const [file, editor] of Object.entries(editors)) editor.setMarks(found.filter(one => one.file === file && one.line).map(one => ({ ...one, text: one.kind === 'fault' ? noteOf(one) : '' })));
-  $('findings').replaceChildren(...found.map(findingItem));
-  $('findings-title').textContent = found.length ? `Findings: ${found.length}` : 'Findings: none';
+  found.forEach((one, i) => { one.id = `finding-${i}`; });
+  for (const [file, editor] of Object.entries(editors)) editor.setMarks(found.filter(one => one.file === file && one.line).map(one => ({ ...one, text: noteOf(one) })));
+  $('findings').replaceChildren(...(found.length ? found.map(findingItem) : [made('li', 'Nothing was found.', 'none')]));
+  $('findings-tab').textContent = found.length ? `Findings: ${found.length}` : 'Findings';
 }
 
 function findingItem(one) {
-  const item = made('li', '', one.kind), place = made('button', [one.file, one.line, one.column].filter(part => part).join(':'));
+  const item = made('li', '', one.kind), text = made('pre');
+  item.id = one.id;
+  const place = button([one.file, one.line, one.column].filter(part => part).join(':'), () => editors[one.file].goTo(one.line, one.column || 1));
   place.disabled = !one.line;
-  place.addEventListener('click', () => editors[one.file].goTo(one.line, one.column || 1));
   item.append(place, ' ', one.head);
-  const text = made('pre');
   for (const [i, line] of one.rest.entries()) {
     if (i === 0 && one.why !== undefined) {
       const characters = [...line], part = (from, to) => characters.slice(from, to).join('');
@@ -107,208 +158,318 @@ function findingItem(one) {
   return item;
 }
 
+/** What is shown, as it can be shown again. */
+const current = () => ({ texts: texts(), example: chosen, changedFrom, files: { ...files }, step: view.step, way, title: titleOf(editors['machine.toml'].bytes) });
+
 /** Runs the texts once nothing has been typed for a while. */
-function typed() {
+function typed(file) {
+  if (chosen) changedFrom = chosen;
   chosen = null;
-  $('example').value = '';
-  dropLink();
-  view?.age();
+  closeWay();
+  work.unsaved.add(file);
+  nameTexts();
+  view.age();
+  strip.end();
+  search.age();
   clearTimeout(typed.timer);
-  typed.timer = setTimeout(run, PAUSE);
+  typed.timer = setTimeout(() => { work.keep(current()); run(); }, PAUSE);
 }
 
-/** Takes another event text for the machine file as it was when its events were searched. */
-function takeWay(machine, events) {
-  const now = editors['machine.toml'].bytes;
-  if (now.length !== machine.length || now.some((byte, i) => byte !== machine[i])) editors['machine.toml'].bytes = machine;
-  editors['run.events'].bytes = events;
-  view.step = 0;
-  $('view').scrollIntoView();
+/** Shows what the texts are called. */
+function nameTexts() {
+  $('example').options[0].text = changedFrom ? `${changedFrom}, changed` : '(own texts)';
+  $('example').value = chosen ?? '';
+  $('machine-name').textContent = files.machine;
+  $('events-name').textContent = files.events;
+  $('about').hidden = !(chosen ?? changedFrom);
+  exercise.begin(chosen ?? changedFrom);
+}
+
+/** Shows a pair of texts, and runs them. What was shown can be had back by Undo. */
+function take(pair, keepsOld = true) {
+  if (keepsOld) work.replaces(current());
+  [chosen, changedFrom, files, way] = [pair.example ?? null, pair.changedFrom ?? null, pair.files ?? { machine: 'machine.toml', events: 'run.events' }, pair.way ?? null];
+  const now = texts();
+  Object.values(editors).forEach((editor, i) => { if (!isSame(now[i], pair.texts[i])) editor.bytes = pair.texts[i]; });
+  view.step = pair.step ?? 0;
+  showAbout();
+  nameTexts();
+  showWay();
+  search.age();
+  writeAddress();
   return run();
 }
 
-/** Takes two texts from somewhere else, and runs them. Own texts can be chosen again. */
-function take(machine, events, name = '') {
-  if (chosen === null && texts().some(text => text.length)) {
-    kept = texts();
-    $('example').options[0].disabled = false;
+const isSame = (a, b) => a.length === b.length && a.every((byte, i) => byte === b[i]);
+
+/** Opens other events for the machine file of a run, beside that run. */
+async function openWay({ texts: [machine, base], events, said, step = 0 }) {
+  const { example, files: names } = current(), old = work.past.length;
+  await take({ texts: [machine, events], example: way || isSame(machine, texts()[0]) ? example : null, files: names, step, way: { base, said } });
+  if (!way || work.past.length === old) return;
+  const at = view.trace.other, row = view.trace.rows[at];
+  if (!row) return;
+  $('way-said').textContent = `${said} The first line that is other: step ${row.step}, ${textOf(row)}; it was: ${textOf(view.beside[at]) || 'the end'}.`;
+  view.goTo(row.step);
+}
+
+function showWay() {
+  $('way').hidden = !way;
+  $('way-said').textContent = way?.said ?? '';
+}
+
+function closeWay() {
+  way = null;
+  showWay();
+}
+
+/** Marks the lines of both texts that a step comes from, and shows them. */
+function cursorAt(one, step, rows, event) {
+  const lines = rows.filter(row => row.line).map(row => row.line), { 'machine.toml': machine, 'run.events': events } = editors;
+  machine.setLines(lines);
+  if (lines.length && !machine.hasFocus) machine.show(lines[0]);
+  events.setLines(event ? [event.line] : []);
+  if (event && !events.hasFocus) events.show(event.line);
+  if (one.trace) sayChecked(one, view.trace);
+  writeAddress();
+  embed.tell({ did: 'step', step, of: one.end, sentence: $('said').textContent, alerted: one.alert?.step === step });
+}
+
+/** Writes the address of what is shown, once it has not changed for a while. */
+function writeAddress() {
+  clearTimeout(writeAddress.timer);
+  writeAddress.timer = setTimeout(writeNow, ADDRESS_PAUSE);
+}
+
+async function writeNow() {
+  clearTimeout(writeAddress.timer);
+  const [machine, events] = texts(), address = await addressOf({ example: chosen, texts: [machine, way?.base ?? events], way: way ? events : null, step: view.step });
+  if ((address ?? '') !== location.hash) history.replaceState(null, '', address ?? location.href.split('#')[0]);
+  return address;
+}
+
+/** Copies the address. */
+async function copyLink() {
+  const address = await writeNow();
+  if (!address) return says(['These texts are too long for a link. Save them as files: ', linkTo(files.machine, () => save('save-machine')), ' ', linkTo(files.events, () => save('save-events'))], 'fault');
+  const whose = location.protocol === 'file:' ? 'It opens on this computer alone: a link for others needs this page on the web' : 'It opens what is shown, for all who have it';
+  work.unsaved.clear();
+  try {
+    await navigator.clipboard.writeText(location.href);
+    says(`The link is copied: ${counted(location.href.length, 'character')}. ${whose}.`);
+  } catch {
+    says(`The link is in the address bar. ${whose}.`);
   }
-  chosen = name || null;
-  [editors['machine.toml'].bytes, editors['run.events'].bytes] = [machine, events];
-  $('example').value = name;
-  $('about').hidden = true;
-  view.step = 0;
-  return run();
 }
 
-/** Marks the lines of both texts that rows of the trace come from. */
-function cursorAt(rows) {
-  const lines = rows.filter(row => row.line).map(row => row.line), event = rows[0]?.event;
-  editors['machine.toml'].setLines(lines);
-  if (lines.length && document.activeElement !== $('machine')) editors['machine.toml'].show(lines[0]);
-  editors['run.events'].setLines(event ? [linesOfEvents()[event - 1]] : []);
-}
-
-/** Moves the cursor to the next step of the event in a line. */
-function goToEvent(line) {
-  const event = linesOfEvents().indexOf(line) + 1;
-  if (event) view?.goToNext(row => row.event === event);
-}
-
-/** The lines of the events: empty lines and those that begin with '#' are none. */
-function linesOfEvents() {
-  return editors['run.events'].area.value.split('\n').flatMap((line, i) => line === '' || line.startsWith('#') ? [] : [i + 1]);
-}
-
-/** The bytes of an answer that is no refusal. */
+/** The bytes of an answer that is not a refusal. */
 function bytesIn(answer) {
-  if (answer.status !== RAN && answer.status !== ALERTED) throw new Error(answer.text());
+  if (!isThere(answer)) throw new Error(answer.text());
   return answer.bytes;
 }
 
+const stem = () => files.machine.replace(/\.toml$/, ''), partOf = ({ from, to }) => from === 0 && to === shownRun.end ? '' : `-steps-${from}-to-${to}`;
+
 const SAVES = {
-  'save-picture': { call: 'execsim_picture', name: 'run.svg', type: 'image/svg+xml', bytes: async () => (await shown.pictureAt(view.step)).text },
-  'save-trace': { call: 'execsim_run', name: 'run.trace', type: 'text/plain', bytes: async () => bytesIn(await shown.whole()) },
-  'save-chrome': { call: 'execsim_chrome', name: 'run.json', type: 'application/json', bytes: async () => bytesIn(await busy(shown.ask('execsim_chrome', 0n, BigInt(shown.end)))) },
-  'save-machine': { name: 'machine.toml', type: 'text/plain', bytes: async () => editors['machine.toml'].bytes },
-  'save-events': { name: 'run.events', type: 'text/plain', bytes: async () => editors['run.events'].bytes },
+  'save-machine': { name: () => files.machine, type: 'text/plain', bytes: () => editors['machine.toml'].bytes, saves: 'machine' },
+  'save-events': { name: () => files.events, type: 'text/plain', bytes: () => editors['run.events'].bytes, saves: 'events' },
+  'save-trace': { ofRun: true, name: () => `${stem()}.trace`, type: 'text/plain', bytes: async () => bytesIn(await shownRun.whole()) },
+  'save-picture': { ofRun: true, name: () => `${stem()}${partOf(view.drawn)}.svg`, type: 'image/svg+xml', bytes: () => view.drawn.text },
+  'save-chrome': { ofRun: true, name: () => `${stem()}.json`, type: 'application/json', bytes: async () => bytesIn(await busy(asides.ask('execsim_chrome', shownRun.texts, [0n, BigInt(shownRun.end)]))) },
 };
 
 /** Lets be saved what there is of a run. */
 function allowSaves() {
-  for (const [id, { call }] of Object.entries(SAVES)) $(id).disabled = Boolean(call) && !(shown && library.has(call));
+  for (const [id, { ofRun }] of Object.entries(SAVES)) $(id).disabled = Boolean(ofRun) && !shownRun;
 }
 
-async function save({ name, type, bytes }) {
-  document.querySelector('.menu').open = false;
+async function save(id) {
+  const { name, type, bytes, saves } = SAVES[id], file = name();
+  $('save-menu').open = false;
+  says(`${file} is made ..`);
   try {
-    const link = made('a');
-    link.href = URL.createObjectURL(new Blob([await bytes()], { type }));
-    link.download = name;
+    const link = made('a'), some = await bytes();
+    link.href = URL.createObjectURL(new Blob([some], { type }));
+    link.download = file;
     link.click();
     setTimeout(() => URL.revokeObjectURL(link.href), 10000);
+    if (saves) work.unsaved.delete(saves);
+    says(`${file} is saved, ${counted(some.length, id === 'save-picture' ? 'character' : 'byte')}${id === 'save-picture' ? `: steps ${view.drawn.from} to ${view.drawn.to} of ${shown(shownRun.end)}` : ''}.`);
   } catch (why) {
-    says(`${name} is not saved: ${why.message}`, 'fault');
-  }
-}
-
-/** Puts both texts into the link of the page, and copies it. */
-async function copyLink() {
-  const link = await linkOf(...texts());
-  if (link.length > MOST_LINK) return says('These texts are too long for a link: save them as files.', 'fault');
-  own = link;
-  history.replaceState(null, '', own);
-  try {
-    await navigator.clipboard.writeText(location.href);
-    says(`The link is copied: ${location.href.length.toLocaleString('en')} characters. It opens these texts in any copy of this page.`);
-  } catch {
-    says('The link is in the address bar. It opens these texts in any copy of this page.');
-  }
-}
-let own = '';
-
-/** Takes a link out of the address, once other texts are shown than it carries. */
-function dropLink() {
-  own = '';
-  if (location.hash.startsWith(LINK)) history.replaceState(null, '', location.href.split('#')[0]);
-}
-
-/** Keeps what is shown while the page is loaded again; a browser may not allow it. */
-function keepTexts() {
-  try {
-    sessionStorage.setItem('execsim', JSON.stringify(chosen ? { chosen } : { texts: Object.values(editors).map(editor => new TextDecoder().decode(editor.bytes)) }));
-  } catch {}
-}
-
-/** Opens what was shown before the page was loaded again, or else an example. */
-function openKept() {
-  let before = {};
-  try { before = JSON.parse(sessionStorage.getItem('execsim')) ?? {}; } catch {}
-  if (before.texts) return take(...before.texts.map(text => new TextEncoder().encode(text)));
-  return openExample(isExample(before.chosen) ? before.chosen : FIRST_EXAMPLE);
-}
-
-/** Opens what a link carries, or something else if it carries no texts. If it cannot be read, that is said once the other is shown. */
-async function openLink(openOther = () => {}) {
-  if (location.hash === own) return openOther();
-  try {
-    const carried = await textsOf(location.hash);
-    return carried ? take(...carried) : openOther();
-  } catch (why) {
-    await openOther();
-    says(`The link cannot be read: ${why.constructor === Error ? why.message : 'it is cut off, or was changed'}.`, 'fault');
+    says(why instanceof Stopped ? `${file} was stopped.` : `${file} is not saved: ${why.message}`, 'fault');
   }
 }
 
 /** Opens files: one whose name ends with .events is an event text, any other a machine file. */
-async function openFiles(files) {
-  for (const file of files) {
+async function openFiles(list) {
+  const [machine, events] = texts(), found = { machine, events }, names = { ...files };
+  for (const file of list) {
     if (file.size > LIMIT) return says(`${file.name} has more than 4,194,304 bytes, which are not read.`, 'fault');
-    editors[file.name.endsWith('.events') ? 'run.events' : 'machine.toml'].bytes = new Uint8Array(await file.arrayBuffer());
+    const which = file.name.endsWith('.events') ? 'events' : 'machine';
+    found[which] = new Uint8Array(await file.arrayBuffer());
+    names[which] = file.name;
   }
-  view.step = 0;
-  $('about').hidden = true;
-  typed();
+  if (list.length) return take({ texts: [found.machine, found.events], files: names });
 }
 
-const allExamples = () => examples.flatMap(topic => topic.examples), isExample = name => allExamples().some(one => one.name === name);
+const exampleOf = name => examples.flatMap(topic => topic.examples).find(one => one.name === name);
 
-function openExample(name) {
-  const { texts: [machine, events], about } = allExamples().find(one => one.name === name), encoder = new TextEncoder();
-  dropLink();
-  const opened = take(encoder.encode(machine), encoder.encode(events), name);
-  about.forEach((text, i) => $('about').children[i].replaceChildren(...text.split('`').map((part, k) => k % 2 ? made('code', part) : part)));
-  $('about').open = innerWidth > 900;
-  $('about').hidden = false;
-  editors['machine.toml'].show(machine.split('\n').findIndex(line => line && !line.startsWith('#')) + 1, 0);
+function openExample(name, step = 0, events = null) {
+  const { texts: pair } = exampleOf(name), [machine, base] = pair.map(encoded);
+  const opened = take({ texts: [machine, events ?? base], example: name, files: { machine: `${name}.toml`, events: `${name}.events` }, step, way: events ? { base, said: 'A way of this example.' } : null });
+  editors['machine.toml'].show(pair[0].split('\n').findIndex(line => line && !line.startsWith('#')) + 1, 0);
   return opened;
 }
-let examples = [];
+
+/** Shows what an example says of itself. */
+function showAbout() {
+  const it = exampleOf(chosen ?? changedFrom);
+  if (it) it.about.forEach((text, i) => $('about').children[i].replaceChildren(...withCode(text)));
+}
 
 function listExamples() {
-  const ownTexts = new Option('(own texts)', '');
-  ownTexts.disabled = true;
-  const groups = examples.map(topic => {
+  const own = new Option('(own texts)', '');
+  own.disabled = true;
+  $('example').replaceChildren(own, ...examples.map(topic => {
     const group = document.createElement('optgroup');
     group.label = topic.title;
     group.append(...topic.examples.map(one => new Option(one.name, one.name)));
     return group;
+  }));
+}
+
+/** Opens what the address says, or something else if it says nothing. If it cannot be read, that is said once the other is shown. */
+async function openAddress(openOther = () => {}) {
+  try {
+    const found = await readAddress(location.hash);
+    if (!found) return openOther();
+    if (found.example !== undefined) {
+      if (!exampleOf(found.example)) throw new Error(`there is no example ${found.example}`);
+      return openExample(found.example, found.step, found.way);
+    }
+    const [machine, base] = found.texts;
+    return take({ texts: [machine, found.way ?? base], step: found.step, way: found.way ? { base, said: 'A way of these events.' } : null });
+  } catch (why) {
+    await openOther();
+    writeAddress();
+    says(`The link cannot be read: ${why.constructor === Error ? why.message : 'it is cut off, or was changed'}.`, 'fault');
+  }
+}
+
+/** Opens what was shown before the page was loaded again, if no address could carry it, or else an example. */
+function openKept() {
+  let id = null;
+  try { id = sessionStorage.getItem('execsim.shown'); } catch {}
+  const pair = work.pairs().find(it => it.id === id);
+  return pair ? take({ texts: [encoded(pair.machine), encoded(pair.events)] }) : openExample(FIRST_EXAMPLE);
+}
+
+/** Keeps own texts when the page is left. */
+function keepTexts() {
+  if (!chosen) work.keep(current());
+  try { sessionStorage.setItem('execsim.shown', work.id); } catch {}
+}
+
+/** Makes buttons the tabs of some panels: the arrow keys go from one to the next. */
+function tabs(list, onTab) {
+  const choose = tab => {
+    for (const one of list) { one.ariaSelected = String(one === tab); one.tabIndex = one === tab ? 0 : -1; }
+    onTab(tab);
+  };
+  list.forEach((tab, i) => {
+    tab.addEventListener('click', () => choose(tab));
+    tab.addEventListener('keydown', event => {
+      const way = { ArrowLeft: -1, ArrowRight: 1 }[event.key], to = list[i + way]?.hidden ? list[i + 2 * way] : list[i + way];
+      if (to) { event.preventDefault(); choose(to); to.focus(); }
+    });
   });
-  $('example').replaceChildren(ownTexts, ...groups);
 }
 
 function listen() {
-  $('run').addEventListener('click', run);
-  $('stop').addEventListener('click', () => { library.stop(); says('Stopped.'); });
-  $('example').addEventListener('change', () => $('example').value ? openExample($('example').value) : take(...kept));
-  $('link').addEventListener('click', copyLink);
-  $('open').addEventListener('click', () => $('files').click());
-  $('files').addEventListener('change', async () => { await openFiles($('files').files); $('files').value = ''; });
-  for (const [id, one] of Object.entries(SAVES)) $(id).addEventListener('click', () => save(one));
-  addEventListener('hashchange', () => openLink());
+  for (const [id, act] of [['run', run], ['stop', () => { library.stop(); asides.stop(); says('Stopped.'); }], ['link', copyLink], ['open', () => $('files').click()], ['help', () => $('about-page').showModal()], ['print', () => print()]]) $(id).addEventListener('click', act);
+  $('example').addEventListener('change', () => openExample($('example').value));
+  $('way-back').addEventListener('click', () => take({ ...current(), texts: [texts()[0], way.base], way: null }));
+  $('files').addEventListener('change', async () => { await openFiles([...$('files').files]); $('files').value = ''; });
+  for (const id of Object.keys(SAVES)) $(id).addEventListener('click', () => save(id));
+  tabs([...$('tabs').children], tab => { document.body.dataset.pane = tab.dataset.pane; });
+  const found = [['findings-tab', 'findings-panel'], ['exercise-tab', 'exercise'], ['search-tab', 'search']];
+  tabs(found.map(([id]) => $(id)), tab => { for (const [id, panel] of found) $(panel).hidden = tab.id !== id; });
+  addEventListener('hashchange', () => openAddress());
   addEventListener('pagehide', keepTexts);
-  addEventListener('click', ({ target }) => { if (!target.closest('.menu')) document.querySelector('.menu').open = false; });
-  addEventListener('dragover', event => event.preventDefault());
-  addEventListener('drop', event => { event.preventDefault(); openFiles(event.dataTransfer.files); });
-  addEventListener('keydown', event => {
-    if ((event.ctrlKey || event.metaKey) && event.key === 'Enter') run();
-    else if (event.altKey && (event.code === 'Period' || event.code === 'Comma')) view.goTo(view.step + (event.code === 'Period' ? 1 : -1));
-    else if (event.key === 'Escape') document.querySelector('.menu').open = false;
-    else return;
-    event.preventDefault();
-  });
+  addEventListener('beforeprint', () => fillPaper({ title: `execsim: ${files.machine}`, texts: texts(), view, status: $('status').textContent }));
+  addEventListener('click', ({ target }) => { for (const menu of document.querySelectorAll('.menu, .sure')) if (!menu.contains(target)) menu.open = false; });
+  addEventListener('dragover', event => { if (event.dataTransfer.types.includes('Files')) event.preventDefault(); });
+  addEventListener('drop', event => { if (event.dataTransfer.types.includes('Files')) { event.preventDefault(); openFiles([...event.dataTransfer.files]); } });
+  addEventListener('keydown', pressed);
+}
+
+/** Keys that do the same wherever the focus is. */
+function pressed(event) {
+  if ((event.ctrlKey || event.metaKey) && event.key === 'Enter') run();
+  else if (event.altKey && (event.code === 'Period' || event.code === 'Comma')) view.goTo(view.step + (event.code === 'Period' ? 1 : -1));
+  else if (event.key === 'Escape') { for (const menu of document.querySelectorAll('.menu, .sure')) menu.open = false; return; }
+  else return;
+  event.preventDefault();
+}
+
+/** What a message of a page around this one may ask for; each answers why not, or nothing. */
+const DEEDS = {
+  load: async ({ machine, events }) => {
+    if (typeof machine !== 'string' || typeof events !== 'string') return 'load is to have two texts, machine and events';
+    if (Math.max(encoded(machine).length, encoded(events).length) > LIMIT) return 'a text may have 4,194,304 bytes';
+    await take({ texts: [encoded(machine), encoded(events)] });
+  },
+  step: ({ step }) => {
+    if (!Number.isSafeInteger(step) || step < 0) return 'step is to be a whole number, 0 or more';
+    view.goTo(step);
+  },
+  exercise: async () => {
+    if (!exercise.rule) return 'there is no exercise to what is shown';
+    await exercise.check();
+  },
+  get: () => {
+    const [machine, events] = texts().map(decoded);
+    embed.tell({ did: 'get', machine, events, step: view.step });
+  },
+};
+
+/** Makes the editors, whose script the page carries packed. */
+function makeEditors(script) {
+  document.head.append(made('script', script));
+  CodeMirror.defineMode('machine', machineMode);
+  CodeMirror.defineMode('events', eventsMode);
+  editors = {
+    'machine.toml': new Editor($('machine-editor'), 'Machine file', 'machine', () => typed('machine'), line => view.goToNext(row => row.line === line)),
+    'run.events': new Editor($('events-editor'), 'Events', 'events', () => typed('events'), line => { const event = shownRun?.events.find(it => it.line === line); if (event) view.goTo(event.from); }),
+  };
 }
 
 async function begin() {
-  examples = JSON.parse(new TextDecoder().decode(unpacked($('packed-examples'))));
+  const script = URL.createObjectURL(new Blob([$('worker').textContent], { type: 'text/javascript' })), helper = new Library(script);
+  library = new Library(script);
+  const loads = library.load($('module'));
+  const [code, data] = await Promise.all([helper.unpack($('editor-packed')), helper.unpack($('data'))]), carried = JSON.parse(decoded(data));
+  examples = carried.topics;
+  takeWords(carried);
+  EXERCISES = carried.exercises;
   listExamples();
-  library = new Library(await WebAssembly.compile(unpacked($('module'))), $('worker').textContent);
-  for (const part of document.querySelectorAll('[data-needs]')) part.hidden = !library.has(part.dataset.needs);
-  $('trace').classList.toggle('bare', !library.has('execsim_log'));
-  view = new View(cursorAt);
-  search = new Search(library, texts, takeWay);
+  view = new View({ onCursor: cursorAt, onPicture: () => strip?.pictured(), onFault: why => says(`The simulator broke off: ${why.message}`, 'fault') });
+  makeEditors(decoded(code));
+  await loads;
+  helper.worker.terminate();
+  [asides, search] = [library.another(), new Search(library.another(), texts, openWay)];
+  exercise = new Exercise({ library: search.library, now: () => [texts()[0], way?.base ?? texts()[1]], onWay: openWay, onJudged: found => embed.tell({ did: 'check', ...found }) });
+  strip = new Strip(asides, view, outcome => exercise.isBroken(outcome), ({ place, kind, number, way: events }) => openWay({ texts: frame.texts, events: events, said: `With ${lineOfKind(kind)} ${place ? `after step ${place}` : 'at the start'}: ${number ? `outcome ${letterOf(number)}` : 'the outcome stays'}.` }));
+  work = new Work(current, take);
+  embed = new Embed(DEEDS);
   listen();
-  openLink(openKept);
+  await openAddress(openKept);
+  if (embed.refusal) says(embed.refusal, 'fault');
+  embed.tell({ did: 'ready' });
+  window.execsim = { library, exercise, view, editors, texts, strip, search, work }; // for a console, and for tests
 }
 
-begin().catch(why => says(`This browser cannot run the simulator, which needs WebAssembly with memory of 64 bits, as Chrome has from 133 and Firefox from 134 on: ${why.message}`, 'fault'));
+/** Whether this browser has WebAssembly with memory of 64 bits: whether it takes a module that has nothing else. */
+const hasMemory = () => WebAssembly.validate(new Uint8Array([0, 97, 115, 109, 1, 0, 0, 0, 5, 3, 1, 4, 1]));
+
+begin().catch(why => says(hasMemory() ? `The page broke off: ${why.message}` : 'This browser cannot run the simulator, which needs WebAssembly with memory of 64 bits, as Chrome has from 133 and Firefox from 134 on.', 'fault'));

@@ -1,15 +1,23 @@
-// The trace as rows, of which only those in sight are in the document.
+// The trace as a table of rows, of which only those in sight are in the document.
 
-const COLUMNS = [['step', 'step'], ['ms', 'ms'], ['line', 'line'], ['said', 'trace'], ['source', 'source']];
+const COLUMNS = [['step', 'step'], ['ms', 'ms'], ['line', 'line'], ['said', 'trace'], ['source', 'source']], AS_IT_WAS = 'as it was';
+
+/** What a row says: its line of the trace, or that of a word that prints nothing. */
+const textOf = row => row?.trace ?? row?.plain ?? '';
 
 class Trace {
   constructor(box, onStep) {
     this.box = box;
     this.rows = [];
     this.step = 0;
-    box.replaceChildren(this.head(), (this.table = made('div', '', 'rows')));
+    this.beside = null; // the rows of the run that a way was opened from
+    this.other = Infinity; // the first row that is other than in that run
+    this.table = made('div', '', 'table');
     this.table.setAttribute('role', 'table');
-    this.table.setAttribute('aria-label', 'Step, time in milliseconds, line, trace and source');
+    this.table.setAttribute('aria-label', 'Trace');
+    this.table.append(this.head(), (this.body = made('div', '', 'rows')));
+    this.body.setAttribute('role', 'rowgroup');
+    box.replaceChildren(this.table);
     box.addEventListener('scroll', () => this.draw());
     new ResizeObserver(() => this.draw()).observe(box);
     box.addEventListener('click', ({ target }) => {
@@ -19,21 +27,33 @@ class Trace {
   }
 
   head() {
-    const row = made('div', '', 'row head');
-    row.setAttribute('aria-hidden', 'true');
-    for (const [key, title] of COLUMNS) row.append(made('span', title, key));
-    return row;
+    const group = made('div'), row = made('div', '', 'row head');
+    group.setAttribute('role', 'rowgroup');
+    row.setAttribute('role', 'row');
+    row.setAttribute('aria-rowindex', 1);
+    for (const [key, title] of COLUMNS) {
+      const cell = made('span', title, key);
+      cell.setAttribute('role', 'columnheader');
+      row.append(cell);
+    }
+    group.append(row);
+    return group;
   }
 
-  /** Takes rows: objects of the log, in order of their steps; or lines alone. */
-  setRows(rows) {
+  /** Takes rows: objects of the log, in order of their steps; and those of the run that a way was opened from, which are shown beside them from where they part. */
+  setRows(rows, beside = null) {
     this.rows = rows;
-    this.table.setAttribute('aria-rowcount', rows.length);
-    this.table.style.height = `calc(${rows.length} * var(--row))`;
-    const widest = read => rows.reduce((most, row) => Math.max(most, read(row)?.length ?? 0), 0);
+    this.beside = beside;
+    this.other = beside ? rows.findIndex((row, i) => textOf(row) !== textOf(beside[i])) : -1;
+    if (this.other < 0) this.other = Infinity;
+    this.table.querySelector('.head .source').textContent = this.other < Infinity ? AS_IT_WAS : 'source';
+    this.table.setAttribute('aria-rowcount', rows.length + 1);
+    this.body.style.height = `calc(${rows.length} * var(--row))`;
+    const widest = read => rows.reduce((most, row) => Math.max(most, read(row)?.length ?? 0), 0), moves = rows.some(row => row.clock_us);
     this.box.style.setProperty('--digits', String(rows.at(-1)?.step ?? 0).length);
-    this.box.style.setProperty('--said', widest(row => row.trace ?? row.plain));
+    this.box.style.setProperty('--said', Math.min(widest(textOf), 60));
     this.box.style.setProperty('--source', Math.max(widest(row => row.source), 6));
+    this.box.classList.toggle('still', !moves);
     this.draw();
   }
 
@@ -48,16 +68,14 @@ class Trace {
   }
 
   /** The rows of a step. */
-  at(step) {
-    const from = this.rowOf(step);
-    return this.rows.slice(from, this.rowOf(step + 1));
-  }
+  at(step) { return this.rows.slice(this.rowOf(step), this.rowOf(step + 1)); }
 
-  /** Marks the rows of a step, or shows where they would be. */
+  /** Marks the rows of a step and shows them, or where they would be. */
   mark(step) {
     this.step = step;
-    const height = this.height(), top = this.rowOf(step) * height, seen = this.box.clientHeight - 2 * height;
-    if (top < this.box.scrollTop || top > this.box.scrollTop + seen) this.box.scrollTop = Math.max(0, top - seen / 3);
+    const height = this.height(), top = this.rowOf(step) * height, rows = Math.max(1, this.at(step).length), seen = this.box.clientHeight - height;
+    const { scrollTop } = this.box;
+    if (top < scrollTop || top + Math.min(rows * height, seen) > scrollTop + seen) this.box.scrollTop = Math.max(0, top - Math.max(0, seen - rows * height) / 3);
     this.draw();
   }
 
@@ -66,22 +84,33 @@ class Trace {
   draw() {
     const height = this.height(), first = Math.max(0, Math.floor(this.box.scrollTop / height) - 10);
     const last = Math.min(this.rows.length, first + Math.ceil(this.box.clientHeight / height) + 20);
-    this.table.replaceChildren(...this.rows.slice(first, last).map((row, i) => this.row(row, first + i, height)));
+    this.body.replaceChildren(...this.rows.slice(first, last).map((row, i) => this.row(row, first + i, height)));
   }
 
+  /** The time of a row, if it is other than that of the row above it. */
+  time(index) {
+    const now = this.rows[index].clock_us, before = this.rows[index - 1]?.clock_us ?? 0;
+    return now !== undefined && now !== before ? (now / 1000).toFixed(3) : '';
+  }
+
+  /** What is in the last column of a row: its source; or, of a way, what was there in the run that it was opened from. */
+  besideText(index, row) { return this.other === Infinity ? row.source ?? '' : index < this.other ? '' : textOf(this.beside[index]); }
+
   row(it, index, height) {
-    const row = made('div', '', it.step === this.step ? 'row here' : 'row'), ms = it.clock_us === undefined ? '' : (it.clock_us / 1000).toFixed(3);
-    if (it.step !== undefined) row.dataset.step = it.step;
+    const row = made('div', '', it.step === this.step ? 'row here' : 'row');
+    row.dataset.step = it.step;
     if (it.step === this.step) row.setAttribute('aria-current', 'step');
     if (it.trace === undefined) row.classList.add('plain');
-    if (it.trace?.startsWith('alert ')) row.classList.add('alert');
+    if (it.isAlert) row.classList.add('alert');
+    if (index >= this.other) row.classList.add('other');
     row.style.top = `${index * height}px`;
     row.setAttribute('role', 'row');
-    row.setAttribute('aria-rowindex', index + 1);
-    const texts = { step: it.step ?? '', ms, line: it.line ? `:${it.line}` : '', said: it.trace ?? it.plain, source: it.source ?? '' };
+    row.setAttribute('aria-rowindex', index + 2);
+    const texts = { step: it.step, ms: this.time(index), line: it.line ? `:${it.line}` : '', said: textOf(it), source: this.besideText(index, it) };
     for (const [key] of COLUMNS) {
       const cell = made('span', texts[key], key);
       cell.setAttribute('role', 'cell');
+      if (String(texts[key]).length > 40) cell.title = texts[key];
       row.append(cell);
     }
     return row;

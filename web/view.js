@@ -1,35 +1,77 @@
 // The panels of a run, and its cursor.
 
+/** How wide a column of the picture and its names are, and how much the picture may shrink, when the number of steps that it shows is chosen. */
+const COLUMN = 24, NAMES = 175, SMALLEST = 0.87;
+
+/** What is above the columns of a picture: its title, which the page has elsewhere. */
+const TITLE_HEIGHT = 56;
+
+/** How many parts of the log further on the next step of a line is looked for. */
+const PARTS_AHEAD = 20;
+
+/** How long a step is shown while the run is played, in milliseconds. */
+const BEAT = 700;
+
 class View {
-  constructor(onCursor) {
-    this.onCursor = onCursor;
+  /** `onCursor` is called with the run, the step, its rows and its event; `onPicture` when a picture is drawn or its size is another; `onFault` with an error. */
+  constructor({ onCursor, onPicture, onFault }) {
+    Object.assign(this, { onCursor, onPicture, onFault });
     this.run = null;
     this.step = 0;
+    this.zoom = 0; // how many steps the picture shows; 0 is as many as fit
+    this.beside = null; // the rows of the run that a way was opened from
     this.trace = new Trace($('trace'), step => this.goTo(step));
     $('step').addEventListener('input', () => this.goTo(Number($('step').value)));
     for (const [id, step] of [['first', () => 0], ['back', () => this.step - 1], ['forward', () => this.step + 1], ['last', () => this.run?.end ?? 0]]) $(id).addEventListener('click', () => this.goTo(step()));
+    $('play').addEventListener('click', () => this.play());
+    $('narrow').addEventListener('click', () => this.zoomTo(Math.ceil(this.count() / 2)));
+    $('wide').addEventListener('click', () => this.zoomTo(this.count() * 2));
     $('picture').addEventListener('click', ({ target }) => {
       const column = target.closest('[data-step]');
       if (column) this.goTo(Number(column.dataset.step));
     });
-    $('view').addEventListener('keydown', event => this.key(event));
+    for (const part of ['view', 'now']) $(part).addEventListener('keydown', event => this.key(event));
+    new ResizeObserver(() => this.resized()).observe($('picture'));
   }
 
   /** Steps by keys where no text is written. */
   key(event) {
-    if (event.ctrlKey || event.metaKey || event.altKey || event.target.closest('input, select, pre, form')) return;
+    if (event.ctrlKey || event.metaKey || event.altKey || event.target.closest('input, select, form, #strip')) return;
+    const isState = event.target.closest('#state') && /Up|Down/.test(event.key); // there these scroll
     const steps = { ArrowRight: this.step + 1, ArrowLeft: this.step - 1, ArrowDown: this.step + 1, ArrowUp: this.step - 1, PageDown: this.step + 10, PageUp: this.step - 10, Home: 0, End: this.run?.end };
-    if (!(event.key in steps)) return;
+    if (isState || !(event.key in steps)) return;
     event.preventDefault();
     this.goTo(steps[event.key]);
   }
 
+  /** How many steps the picture shows. */
+  count() {
+    const fits = Math.floor(($('picture').clientWidth / SMALLEST - NAMES) / COLUMN);
+    return Math.max(1, Math.min(MOST_PICTURED, this.zoom || Math.max(12, fits)));
+  }
+
+  zoomTo(count) {
+    this.zoom = Math.max(1, Math.min(MOST_PICTURED, count));
+    this.goTo(this.step);
+  }
+
+  /** The picture shows as many steps as fit its new width. */
+  resized() {
+    const width = $('picture').clientWidth;
+    if (!this.run || !width || width === this.width) return;
+    this.width = width;
+    this.goTo(this.step);
+    this.onPicture();
+  }
+
   /** Shows a run, with the cursor where it was, if there is such a step. */
-  show(run) {
+  show(run, beside = null) {
     this.run = run;
+    this.beside = beside;
     this.drawn = null;
+    this.stopPlaying();
     document.body.classList.remove('stale');
-    return this.move(Math.min(this.step, run.end), true);
+    return this.move(this.step, true);
   }
 
   /** Shows that what is seen is not of the texts as they are now. */
@@ -37,26 +79,52 @@ class View {
 
   /** Moves the cursor, if there is a run. */
   goTo(step) {
-    if (this.run) this.move(step, false).catch(why => { if (!(why instanceof Stopped)) throw why; });
+    if (this.run) this.move(step, false).catch(why => { if (!(why instanceof Stopped)) this.onFault(why); });
   }
 
-  /** Moves the cursor to the next step that has such a row, or else to the first one. */
-  goToNext(isSuch) {
-    const rows = this.trace.rows.filter(isSuch), row = rows.find(one => one.step > this.step) ?? rows[0];
-    if (row) this.goTo(row.step);
+  /** Moves the cursor to the next step that has such a row, looking some parts of the log further on; or else to the first one of the part that is shown. */
+  async goToNext(isSuch) {
+    const { run } = this, rows = this.trace.rows.filter(isSuch), next = rows.find(one => one.step > this.step);
+    if (!run || next) return this.goTo(next?.step ?? this.step);
+    try {
+      for (let part = 1, from = run.log.to + 1; part <= PARTS_AHEAD && from <= run.end; part++, from += TRACED) {
+        const found = (await run.rows(from, Math.min(run.end, from + TRACED - 1))).find(isSuch);
+        if (run !== this.run) return;
+        if (found) return this.goTo(found.step);
+      }
+      this.goTo(rows[0]?.step ?? this.step);
+    } catch (why) {
+      if (!(why instanceof Stopped)) this.onFault(why);
+    }
+  }
+
+  /** Goes a step further by itself until the end, or no more. */
+  play() {
+    if (this.playing || !this.run) return this.stopPlaying();
+    if (this.step >= this.run.end) this.goTo(0);
+    this.playing = setInterval(() => this.step < this.run.end ? this.goTo(this.step + 1) : this.stopPlaying(), BEAT);
+    $('play').textContent = 'Pause';
+    $('play').ariaPressed = 'true';
+  }
+
+  stopPlaying() {
+    clearInterval(this.playing);
+    this.playing = 0;
+    $('play').textContent = 'Play';
+    $('play').ariaPressed = 'false';
   }
 
   /** Moves the cursor. If moves come faster than the library answers, those between are left out. */
   async move(step, isNew) {
     this.step = Math.max(0, Math.min(step, this.run.end));
-    this.drawStep();
+    this.drawPlace();
     if (this.moving && !isNew) { this.next = true; return; }
     this.moving = true;
     try {
       do {
         this.next = false;
-        await this.draw(this.run, this.step, isNew);
-        isNew = false;
+        await this.draw(this.run, this.step);
+        if (this.step > this.run.end) [this.step, this.next] = [this.run.end, true];
       } while (this.next);
     } finally {
       this.moving = false;
@@ -64,14 +132,19 @@ class View {
   }
 
   /** Gets and shows what belongs to a step. */
-  async draw(run, step, isNew) {
-    const { library } = run;
-    if (library.has('execsim_picture')) this.drawPicture(await run.pictureAt(step), step);
+  async draw(run, step) {
+    const log = await run.rowsAt(step);
+    if (step > run.end) return;
+    const [picture, after, before] = await Promise.all([run.pictureAt(step, this.count()), run.stateAt(step), run.stateAt(step - 1)]);
     if (run !== this.run) return;
-    if (library.has('execsim_log')) this.drawTrace(await run.rowsAt(step), step);
-    if (run !== this.run) return;
-    if (library.has('execsim_state')) this.drawState(await run.stateAt(step), isNew);
-    if (run === this.run) this.drawStep();
+    this.drawPicture(picture, step);
+    this.drawTrace(log, step);
+    drawState($('state'), before, after);
+    const rows = this.trace.at(step), event = run.eventAt(step);
+    drawTelling(tellStep(rows, step, event?.kind, before, after), step ? `Step ${shown(step)}` : 'The start');
+    this.drawPlace();
+    $('step').setAttribute('aria-valuetext', `${$('where').textContent}: ${$('said').textContent}`);
+    this.onCursor(run, step, rows, event);
   }
 
   drawPicture(picture, step) {
@@ -80,49 +153,45 @@ class View {
       this.drawn = picture;
       box.classList.toggle('none', !picture.isDrawn);
       if (picture.isDrawn) box.innerHTML = picture.text; else box.textContent = picture.text;
-      box.scrollTo(0, 0);
+      if (picture.isDrawn) this.fit(box.firstElementChild);
+      this.onPicture();
     }
     for (const one of box.querySelectorAll('.at.here')) one.classList.remove('here');
-    const column = box.querySelector(`.at[data-step="${step}"]`);
+    const column = box.querySelector(`.at[data-step="${step}"]`), cursor = box.querySelector('.cursor');
     column?.classList.add('here');
-    if (column) this.reveal(box, column);
+    cursor?.toggleAttribute('hidden', !column);
+    for (const name of column && cursor ? ['x', 'y', 'width', 'height'] : []) cursor.setAttribute(name, column.getAttribute(name));
   }
 
-  /** Scrolls a box sideways until a column is in sight. */
-  reveal(box, column) {
-    const frame = box.getBoundingClientRect(), place = column.getBoundingClientRect();
-    if (place.left < frame.left + 40 || place.right > frame.right - 40) box.scrollLeft += place.left - frame.left - frame.width / 3;
+  /** Makes a picture as wide as its panel: without its title, and of few steps only as far as they go. */
+  fit(svg) {
+    const { width, height } = svg.viewBox.baseVal, columns = [...svg.querySelectorAll('.at')].map(it => it.getBBox()), last = columns.at(-1);
+    const right = last ? last.x + last.width + 40 : width, isFew = right < 0.7 * width, wide = isFew ? right : width;
+    const bottom = isFew && last ? last.y + last.height + 8 : height;
+    svg.setAttribute('viewBox', `0 ${TITLE_HEIGHT} ${wide} ${bottom - TITLE_HEIGHT}`);
+    svg.removeAttribute('width');
+    svg.removeAttribute('height');
+    svg.style.maxWidth = `${1.3 * wide}px`;
+    const cursor = document.createElementNS('http://www.w3.org/2000/svg', 'rect');
+    cursor.classList.add('cursor');
+    svg.append(cursor);
+    for (const it of svg.querySelectorAll('.at')) it.firstElementChild.textContent = `Step ${it.dataset.step}\n${it.firstElementChild.textContent}`.trim();
   }
 
   drawTrace(log, step) {
-    if (this.trace.rows !== log.rows) this.trace.setRows(log.rows);
+    if (this.trace.rows !== log.rows) this.trace.setRows(log.rows, log.from === 0 ? this.beside : null);
     const isWhole = log.from === 0 && log.to === this.run.end;
-    $('trace-title').textContent = isWhole ? 'Trace' : `Trace of steps ${log.from.toLocaleString('en')} to ${log.to.toLocaleString('en')}`;
+    $('trace-part').textContent = isWhole ? '' : `of steps ${shown(log.from)} to ${shown(log.to)}`;
     this.trace.mark(step);
   }
 
-  /** Shows a state, and which of its lines the one before did not have. */
-  drawState(text, isNew) {
-    const lines = text.replace(/^.*\n\n/, '').trimEnd().split('\n'), before = new Set(isNew ? lines : this.state);
-    this.state = lines;
-    $('state').replaceChildren(...lines.map(line => {
-      const text = line.trimStart(), row = made('div', text, before.has(line) ? '' : 'changed');
-      row.style.setProperty('--indent', `${line.length - text.length}ch`);
-      return row;
-    }));
-  }
-
   /** Shows where the cursor is. */
-  drawStep() {
-    const { run, step } = this, rows = this.trace.at(step), said = rows.map(row => row.trace ?? row.plain).join('; ');
+  drawPlace() {
+    const { run, step } = this;
     $('step').max = run.end;
     $('step').value = step;
-    $('where').textContent = `step ${step.toLocaleString('en')} of ${run.end.toLocaleString('en')}`;
-    $('state-title').textContent = `State after step ${step.toLocaleString('en')}`;
-    $('said').textContent = `${$('where').textContent}: ${said || 'nothing is printed'}`;
-    $('step').setAttribute('aria-valuetext', $('said').textContent);
+    $('where').textContent = `${shown(step)} of ${shown(run.end)}`;
     $('first').disabled = $('back').disabled = step === 0;
     $('last').disabled = $('forward').disabled = step === run.end;
-    this.onCursor(rows);
   }
 }

@@ -1,4 +1,4 @@
-// The worker: it makes one call of the library at a time. Each call begins with an empty heap.
+// The worker: it unpacks what the page carries, and makes one call of the library at a time. Each call begins with an empty heap.
 const TOO_LONG = 5, PAGE = 65536;
 let compiled, instance;
 
@@ -31,17 +31,26 @@ function callWith(room, name, texts, numbers) {
   return { status, bytes: new Uint8Array(memory.buffer, out, Math.min(filled, room)).slice() };
 }
 
-onmessage = ({ data: { module, id, name, texts, numbers, room } }) => {
+/** Does what is asked: takes a module, or unpacks one, or unpacks bytes, or makes a call. */
+function answerTo({ module, packed, length, compiles, name, texts, numbers, room }) {
   if (module) {
     compiled = module;
-    return;
+    return {};
   }
+  if (packed === undefined) return { ...callWith(room, name, texts, numbers), memory: instance.exports.memory.buffer.byteLength };
+  const bytes = unpacked({ textContent: packed, dataset: { length } });
+  if (!compiles) return { bytes };
+  compiled = new WebAssembly.Module(bytes);
+  return { module: compiled };
+}
+
+onmessage = ({ data }) => {
   const begun = performance.now();
   try {
-    const { status, bytes } = callWith(room, name, texts, numbers);
-    postMessage({ id, status, bytes, took: performance.now() - begun, memory: instance.exports.memory.buffer.byteLength }, [bytes.buffer]);
+    const answer = answerTo(data);
+    postMessage({ id: data.id, took: performance.now() - begun, ...answer }, answer.bytes ? [answer.bytes.buffer] : []);
   } catch (why) {
     instance = undefined;
-    postMessage({ id, broken: String(why) });
+    postMessage({ id: data.id, broken: String(why) });
   }
 };

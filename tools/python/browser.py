@@ -2,6 +2,7 @@
 import base64
 import json
 import os
+import re
 import select
 import shutil
 import subprocess
@@ -36,10 +37,12 @@ class Browser:
         os.close(to_it)
         os.close(from_it)
         self.buffer, self.number, self.session = b"", 0, None
+        self.problems, self.asked_to_stay, self.is_loaded = [], 0, False
         target = next(it for it in self.ask("Target.getTargets")["targetInfos"] if it["type"] == "page")
         self.session = self.ask("Target.attachToTarget", targetId=target["targetId"], flatten=True)["sessionId"]
         self.look(width, height, dark)
-        self.ask("Page.enable")
+        for part in ("Page", "Runtime", "Log"):
+            self.ask(f"{part}.enable")
         self.open(url)
 
     def __enter__(self):
@@ -67,21 +70,51 @@ class Browser:
         text, _, self.buffer = self.buffer.partition(b"\0")
         return json.loads(text)
 
-    def ask(self, method, **parameters):
+    def hear(self, got):
+        """Notes a message that says what happened; answers it."""
+        if "method" in got:
+            self.note(got["method"], got["params"])
+        return got
+
+    def note(self, method, parameters):
+        """Notes what a page throws, what is an error on its console, and what its policy forbids; and lets go a page that asks whether to leave it."""
+        if method == "Runtime.exceptionThrown":
+            details = parameters["exceptionDetails"]
+            self.problems.append(details.get("exception", {}).get("description", details["text"]))
+        elif method == "Runtime.consoleAPICalled" and parameters["type"] in ("error", "assert", "warning"):
+            self.problems.append(" ".join(str(it.get("value", it.get("description"))) for it in parameters["args"]))
+        elif method == "Log.entryAdded" and parameters["entry"]["level"] in ("error", "warning"):
+            self.problems.append(f"{parameters['entry']['source']}: {parameters['entry']['text']}")
+        elif method == "Page.loadEventFired":
+            self.is_loaded = True
+        elif method == "Page.javascriptDialogOpening":
+            self.asked_to_stay += parameters["type"] == "beforeunload"
+            self.send("Page.handleJavaScriptDialog", accept=True)
+
+    def send(self, method, **parameters):
+        """Sends a question, and answers its number."""
         self.number += 1
         asked = {"id": self.number, "method": method, "params": parameters} | ({"sessionId": self.session} if self.session else {})
         text = json.dumps(asked).encode() + b"\0"
         while text:
             text = text[os.write(self.write, text) :]
+        return self.number
+
+    def ask(self, method, **parameters):
+        number = self.send(method, **parameters)
         while True:
-            got = self.message()
-            if got.get("id") == self.number:
+            got = self.hear(self.message())
+            if got.get("id") == number:
                 if "error" in got:
                     raise Failure(f"{method}: {got['error']['message']}")
                 return got["result"]
 
     def open(self, url):
-        self.ask("Page.navigate", url=url)
+        """Goes to another page, and waits until it is loaded; another address of the same page loads nothing."""
+        self.is_loaded = False
+        if "loaderId" in self.ask("Page.navigate", url=url):
+            while not self.is_loaded:
+                self.hear(self.message())
 
     def look(self, width, height, dark=False):
         """Sets the size of the page, and whether it is dark."""
@@ -102,13 +135,16 @@ class Browser:
 
     def key(self, key, code=None, modifiers=0, text=""):
         """Presses a key and lets it go: 1 is Alt, 2 is Ctrl, 8 is Shift."""
-        numbers = {"Enter": 13, "Tab": 9, "Escape": 27, "ArrowLeft": 37, "ArrowRight": 39, "ArrowUp": 38, "ArrowDown": 40, "Home": 36, "End": 35}
-        it = {"key": key, "code": code or key, "modifiers": modifiers, "windowsVirtualKeyCode": numbers.get(key, 0)}
+        numbers = {"Enter": 13, "Tab": 9, "Escape": 27, "ArrowLeft": 37, "ArrowRight": 39, "ArrowUp": 38, "ArrowDown": 40, "Home": 36, "End": 35, "F1": 112, ",": 188, ".": 190}
+        number = numbers.get(key) or (ord(key.upper()) if re.fullmatch("[a-z0-9 ]", key) else 0)
+        it = {"key": key, "code": code or key, "modifiers": modifiers, "windowsVirtualKeyCode": number}
         self.ask("Input.dispatchKeyEvent", type="keyDown", **it, **({"text": text} if text else {}))
         self.ask("Input.dispatchKeyEvent", type="keyUp", **it)
 
     def type(self, text):
-        self.ask("Input.insertText", text=text)
+        """Types a text, a key after another."""
+        for it in text:
+            self.key("Enter" if it == "\n" else it, text="\r" if it == "\n" else it)
 
     def click(self, selector):
         """Clicks the middle of a part of the page."""

@@ -1,0 +1,59 @@
+// Exercises: what is to be mended in an example, and a rule over the outcomes of a search, by which every way is judged. The rule is applied here, so that
+// it is applied rightly is tested; and the search is that of execsim_explore.
+
+/** The exercises by the example that they are of: a task, the search, and patterns of which each outcome is to have all, or none. */
+let EXERCISES = {};
+
+/** Whether an outcome breaks the rule of an exercise. */
+function breaksRule({ never, always }, outcome) {
+  const text = outcome.lines.join('\n'), isThere = pattern => new RegExp(pattern, 'm').test(text);
+  return hasAlert(outcome) || never.some(isThere) || !always.every(isThere);
+}
+
+class Exercise {
+  /** `library` makes the search; `now` gives the texts whose ways are judged; `onWay` opens one, `onJudged` is called with what was found. */
+  constructor({ library, now, onWay, onJudged }) {
+    Object.assign(this, { library, now, onWay, onJudged, rule: null });
+    $('exercise-check').addEventListener('click', () => this.check());
+  }
+
+  /** Takes the exercise of an example, or none. */
+  begin(example) {
+    const rule = Object.hasOwn(EXERCISES, example ?? '') ? EXERCISES[example] : null;
+    if (rule === this.rule) return this.age();
+    this.rule = rule;
+    $('exercise-tab').hidden = !rule;
+    $('exercise-verdict').replaceChildren();
+    if (rule) $('exercise-task').replaceChildren(...withCode(rule.task));
+    (rule ? $('exercise-tab') : $('exercise-tab').ariaSelected === 'true' ? $('findings-tab') : null)?.click();
+  }
+
+  /** The texts are other than those that were judged. */
+  age() {
+    if ($('exercise-verdict').textContent) $('exercise-verdict').className = 'old';
+  }
+
+  isBroken(outcome) { return this.rule !== null && breaksRule(this.rule, outcome); }
+
+  /** Searches every way, judges each outcome, and says what was found. */
+  async check() {
+    const { rule } = this, { extra, kinds } = rule, texts = this.now(), say = (...words) => $('exercise-verdict').replaceChildren(...words);
+    $('exercise-verdict').className = '';
+    say(`Every way with at most ${extra} more interrupts is run ..`);
+    try {
+      const answer = await this.library.ask('execsim_explore', texts, [extra, kinds, 1, MOST_WAYS]);
+      if (!isThere(answer)) return say(answer.text().trim());
+      const { ways, outcomes } = readReport(answer.text()), wrong = outcomes.map((one, i) => ({ ...one, number: i + 1 })).filter(one => breaksRule(rule, one)), sum = wrong.reduce((all, one) => all + one.count, 0);
+      this.onJudged({ holds: !sum, ways, wrong: sum });
+      if (!sum) return say(made('b', `It holds in all ${counted(ways, 'way')}`), ` in which at most ${extra} more interrupts come, and no way was left out.`);
+      const open = button('Show me one', async () => {
+        const way = await this.library.ask('execsim_way', texts, [extra, kinds, 1, MOST_WAYS, BigInt(wrong[0].number)]), said = made('span');
+        said.append(...withCode(rule.says));
+        if (isThere(way)) this.onWay({ texts, events: way.bytes, said: `A way in which ${said.textContent}.` });
+      });
+      say(made('b', 'Not yet: '), `in ${shown(sum)} of ${counted(ways, 'way')} `, ...withCode(rule.says), '. ', open);
+    } catch (why) {
+      say(why instanceof Stopped ? 'It was stopped.' : `It broke off: ${why.message}`);
+    }
+  }
+}
