@@ -7,20 +7,22 @@ use Rattle.execmodel.specs.State.{Heap}
 use Rattle.execheap.specs.declared.tag.Kind.TheVariants as variant
 use Rattle.execheap.specs.{Numbered.Numbered, Numbered.IsSound, Numbered.IsSpace, Numbered.address_in, Numbered.shown_heap, Numbered.places, Table.number_at, Refusals.is_none_or_in}
 use Rattle.execheap.proofs.{Linked.is_linked_shown, Linked.sequence_shown, Linked.some_is, Linked.stands_shown, Linked.told_apart, Mapped.first-map, Mapped.part_after-map, Matching.number_placed, Matching.number_same, Shown.list_at_shown, Shown.node_at_shown, Shown.nodes_shown}
+use Rattle.script.specs.declared.alert.Alert.TheVariants as an_alert
+use Rattle.script.specs.declared.alert.Alert.{Alert}
 
 -- ---- one test of a call
 
 -- an object has to be there, and then come the other tests
-abbrev pub handle_unless : Bool → Option (List ℕ) → Option (List ℕ)
-handle_unless there next = if not there then Some (codes "HANDLE") else next
+abbrev pub handle_unless : Bool → Option Alert → Option Alert
+handle_unless there next = if not there then Some an_alert.Handle else next
 
 -- a node must not be linked, and then come the other tests
-abbrev pub link_if : Bool → Option (List ℕ) → Option (List ℕ)
-link_if linked next = if linked then Some (codes "LINK") else next
+abbrev pub link_if : Bool → Option Alert → Option Alert
+link_if linked next = if linked then Some an_alert.Link else next
 
 -- a node has to be linked
-abbrev link_unless : Bool → Option (List ℕ)
-link_unless linked = if not linked then Some (codes "LINK") else None
+abbrev link_unless : Bool → Option Alert
+link_unless linked = if not linked then Some an_alert.Link else None
 
 -- the test alone is not refused if the object is there
 pub is_there : (there : Bool) → handle_unless there None ≡ None → there ≡ true
@@ -28,7 +30,7 @@ is_there true e = refl
 is_there false e = let bad : true ≡ false = ap is_some e in cc
 
 -- and a call of which it is the first test is refused as it is
-pub refused_first : (there : Bool) {why : List ℕ} (next : Option (List ℕ)) → handle_unless there None ≡ Some why
+pub refused_first : (there : Bool) {why : Alert} (next : Option Alert) → handle_unless there None ≡ Some why
     → handle_unless there next ≡ Some why
 refused_first true next e = let bad : false ≡ true = ap is_some e in cc
 refused_first false next e = e
@@ -39,11 +41,11 @@ module _ (s : Numbered) (list : ℕ) (none : number_at variant.List list s.table
   no_list : is_list_at list (shown_heap s) ≡ false
   no_list = list_at_shown s list ∙ ap is_some none
 
-  pub list_refused : list_alert list (shown_heap s) ≡ Some (codes "HANDLE")
+  pub list_refused : list_alert list (shown_heap s) ≡ Some an_alert.Handle
   unfolding list_alert
   list_refused = ap (λ b. handle_unless b None) no_list
 
-  pub free_list_refused : free_list_alert list (shown_heap s) ≡ Some (codes "HANDLE")
+  pub free_list_refused : free_list_alert list (shown_heap s) ≡ Some an_alert.Handle
   unfolding free_list_alert
   free_list_refused = ap (λ b. handle_unless b (link_if (is_some (first (nodes_of list (shown_heap s)))) None)) no_list
 
@@ -79,11 +81,11 @@ module _ (s : Numbered) (node : ℕ) (none : number_at variant.Node node s.table
   no_node : is_node_at node (shown_heap s) ≡ false
   no_node = node_at_shown s node ∙ ap is_some none
 
-  pub free_node_refused : free_node_alert node (shown_heap s) ≡ Some (codes "HANDLE")
+  pub free_node_refused : free_node_alert node (shown_heap s) ≡ Some an_alert.Handle
   unfolding free_node_alert
   free_node_refused = ap (λ b. handle_unless b (link_if (is_linked node (shown_heap s)) None)) no_node
 
-  pub linked_refused : linked_alert node (shown_heap s) ≡ Some (codes "HANDLE")
+  pub linked_refused : linked_alert node (shown_heap s) ≡ Some an_alert.Handle
   unfolding linked_alert
   linked_refused = ap (λ b. handle_unless b (link_unless (is_linked node (shown_heap s)))) no_node
 
@@ -111,10 +113,10 @@ module _ {s : Numbered} (sound : IsSound s) (space : IsSpace s) where
 
 module _ (list node : ℕ) (heap : Heap) where
   -- the tests of a node that is to be linked
-  abbrev of_node : Option (List ℕ)
+  abbrev of_node : Option Alert
   of_node = handle_unless (is_node_at node heap) (link_if (is_linked node heap) None)
 
-  pub link_by_list : {why : List ℕ} → list_alert list heap ≡ Some why → link_alert list node heap ≡ Some why
+  pub link_by_list : {why : Alert} → list_alert list heap ≡ Some why → link_alert list node heap ≡ Some why
   unfolding link_alert list_alert
   link_by_list refused = refused_first (is_list_at list heap) of_node refused
 
@@ -125,7 +127,7 @@ module _ (list node : ℕ) (heap : Heap) where
 -- ---- the alert of a predecessor
 
 pub pred_refused : (s : Numbered) (pred : ℕ) → (pred ≡ 0 → ⊥) → number_at variant.Node pred s.table ≡ None
-    → pred_alert (predecessor pred) (shown_heap s) ≡ Some (codes "HANDLE")
+    → pred_alert (predecessor pred) (shown_heap s) ≡ Some an_alert.Handle
 pred_refused s zero some none = absurd (some refl)
 pred_refused s (suc pred) some none = ap (λ b. handle_unless b None) (no_node s (suc pred) none)
 
@@ -136,16 +138,16 @@ pred_found s (suc pred) p found = ap (λ b. handle_unless b None) (node_there s 
 -- ---- the alert of Insert
 
 -- the tests of Insert after the one of the predecessor, of the node, and of the list
-abbrev after_pred : ℕ → ℕ → ℕ → Heap → Option (List ℕ)
+abbrev after_pred : ℕ → ℕ → ℕ → Heap → Option Alert
 after_pred list node pred heap = link_if (is_linked node heap) (link_unless (is_pred_in (predecessor pred) list heap))
 
-abbrev after_node : ℕ → ℕ → ℕ → Heap → Option (List ℕ)
+abbrev after_node : ℕ → ℕ → ℕ → Heap → Option Alert
 after_node list node pred heap = handle_unless (is_pred_at (predecessor pred) heap) (after_pred list node pred heap)
 
-abbrev after_list : ℕ → ℕ → ℕ → Heap → Option (List ℕ)
+abbrev after_list : ℕ → ℕ → ℕ → Heap → Option Alert
 after_list list node pred heap = handle_unless (is_node_at node heap) (after_node list node pred heap)
 
-pub insert_by_list : (list node pred : ℕ) (heap : Heap) {why : List ℕ} → list_alert list heap ≡ Some why
+pub insert_by_list : (list node pred : ℕ) (heap : Heap) {why : Alert} → list_alert list heap ≡ Some why
     → insert_alert list node pred heap ≡ Some why
 unfolding insert_alert list_alert
 insert_by_list list node pred heap refused = refused_first (is_list_at list heap) (after_list list node pred heap) refused
@@ -155,14 +157,14 @@ module _ (s : Numbered) (list node pred : ℕ) (listed : list_alert list (shown_
   unfolding insert_alert list_alert
   past_list = ap (λ b. handle_unless b (after_list list node pred (shown_heap s))) (is_there (is_list_at list (shown_heap s)) listed)
 
-  pub insert_by_node : number_at variant.Node node s.table ≡ None → insert_alert list node pred (shown_heap s) ≡ Some (codes "HANDLE")
+  pub insert_by_node : number_at variant.Node node s.table ≡ None → insert_alert list node pred (shown_heap s) ≡ Some an_alert.Handle
   insert_by_node none = past_list ∙ ap (λ b. handle_unless b (after_node list node pred (shown_heap s))) (no_node s node none)
 
   module _ {n : ℕ} (found : number_at variant.Node node s.table ≡ Some n) where
     past_node : insert_alert list node pred (shown_heap s) ≡ after_node list node pred (shown_heap s)
     past_node = past_list ∙ ap (λ b. handle_unless b (after_node list node pred (shown_heap s))) (node_there s node n found)
 
-    pub insert_by_pred : {why : List ℕ} → pred_alert (predecessor pred) (shown_heap s) ≡ Some why
+    pub insert_by_pred : {why : Alert} → pred_alert (predecessor pred) (shown_heap s) ≡ Some why
         → insert_alert list node pred (shown_heap s) ≡ Some why
     insert_by_pred refused =
         past_node ∙ refused_first (is_pred_at (predecessor pred) (shown_heap s)) (after_pred list node pred (shown_heap s)) refused
@@ -180,7 +182,7 @@ module _ (s : Numbered) (list node pred : ℕ) (listed : list_alert list (shown_
           past_pred
           ∙ ap (λ b. link_if b (link_unless (is_pred_in (predecessor pred) list (shown_heap s)))) (linked_where sound space node n found at)
 
-      pub insert_by_link : {h : ℕ} → home s.homes n ≡ Some h → insert_alert list node pred (shown_heap s) ≡ Some (codes "LINK")
+      pub insert_by_link : {h : ℕ} → home s.homes n ≡ Some h → insert_alert list node pred (shown_heap s) ≡ Some an_alert.Link
       insert_by_link linked = past_link linked
 
 module _ {s : Numbered} (sound : IsSound s) (space : IsSpace s) (list h : ℕ) (placed : slot (places variant.List s) h ≡ Some list) where

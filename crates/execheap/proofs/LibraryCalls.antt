@@ -12,6 +12,7 @@ use Rattle.execheap.specs.{Table.Tabled, Table.IsSound, Table.base_at, Table.lib
 use Rattle.execheap.proofs.Libraries.{base_shown, count_there, delayed_there, library_at_shown, library_changed, library_freed, library_placed, library_there, openings_shown}
 use Rattle.execheap.proofs.{Blocks.fit_shown, LibraryTables.loads_absent, LibraryTables.loads_loaded, LibraryTables.loads_nowhere, Loaded.lies_at}
 use Rattle.memlist.proofs.Answered.{nat_eq-other}
+use Rattle.script.specs.declared.alert.Alert.TheVariants as an_alert
 
 -- ---- the libraries of the file
 
@@ -132,28 +133,28 @@ module _ {s : Numbered} (kept : IsKept s) (sound : IsSound s.table) (formed : Is
 
     pub library_found : model.library_alert a (shown_heap s) ≡ None
     unfolding model.library_alert
-    library_found = ap (λ b. if not b then Some (codes "HANDLE") else None) (library_there s sound i a lies)
+    library_found = ap (λ b. if not b then Some an_alert.Handle else None) (library_there s sound i a lies)
 
-    close_told : model.close_alert a (shown_heap s) ≡ (if nat_eq (count_of i s.table.libs) 0 then Some (codes "LIB") else None)
+    close_told : model.close_alert a (shown_heap s) ≡ (if nat_eq (count_of i s.table.libs) 0 then Some an_alert.Lib else None)
     unfolding model.close_alert
     close_told =
-        ap (λ b. if not b then Some (codes "HANDLE") else (if nat_eq (model.count_of a (shown_heap s)) 0 then Some (codes "LIB") else None)) (library_there s sound i a lies)
-        ∙ ap (λ n. if nat_eq n 0 then Some (codes "LIB") else None) (count_there s sound i a lies)
+        ap (λ b. if not b then Some an_alert.Handle else (if nat_eq (model.count_of a (shown_heap s)) 0 then Some an_alert.Lib else None)) (library_there s sound i a lies)
+        ∙ ap (λ n. if nat_eq n 0 then Some an_alert.Lib else None) (count_there s sound i a lies)
 
-    pub close_refused_closed : count_of i s.table.libs ≡ 0 → model.close_alert a (shown_heap s) ≡ Some (codes "LIB")
-    close_refused_closed is = close_told ∙ ap (λ n. if nat_eq n 0 then Some (codes "LIB") else None) is
+    pub close_refused_closed : count_of i s.table.libs ≡ 0 → model.close_alert a (shown_heap s) ≡ Some an_alert.Lib
+    close_refused_closed is = close_told ∙ ap (λ n. if nat_eq n 0 then Some an_alert.Lib else None) is
 
     pub close_found : count_of i s.table.libs ≢ 0 → model.close_alert a (shown_heap s) ≡ None
-    close_found some = close_told ∙ ap (λ b. if b then Some (codes "LIB") else None) (nat_eq-other (count_of i s.table.libs) 0 some)
+    close_found some = close_told ∙ ap (λ b. if b then Some an_alert.Lib else None) (nat_eq-other (count_of i s.table.libs) 0 some)
 
 -- ---- the alerts if no library is loaded
 
 module _ (s : Numbered) (a : ℕ) (none : library_at a s.table ≡ None) where
-  pub library_refused : model.library_alert a (shown_heap s) ≡ Some (codes "HANDLE")
+  pub library_refused : model.library_alert a (shown_heap s) ≡ Some an_alert.Handle
   unfolding model.library_alert
-  library_refused = ap (λ b. if not b then Some (codes "HANDLE") else None) (library_at_shown s a ∙ ap is_some none)
+  library_refused = ap (λ b. if not b then Some an_alert.Handle else None) (library_at_shown s a ∙ ap is_some none)
 
-  pub close_refused : model.close_alert a (shown_heap s) ≡ Some (codes "HANDLE")
+  pub close_refused : model.close_alert a (shown_heap s) ≡ Some an_alert.Handle
   unfolding model.close_alert
   close_refused =
-      ap (λ b. if not b then Some (codes "HANDLE") else (if nat_eq (model.count_of a (shown_heap s)) 0 then Some (codes "LIB") else None)) (library_at_shown s a ∙ ap is_some none)
+      ap (λ b. if not b then Some an_alert.Handle else (if nat_eq (model.count_of a (shown_heap s)) 0 then Some an_alert.Lib else None)) (library_at_shown s a ∙ ap is_some none)

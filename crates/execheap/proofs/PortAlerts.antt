@@ -9,10 +9,12 @@ use Rattle.execlist.specs.Pool.{slot}
 use Rattle.execheap.specs.declared.tag.Kind.TheVariants as variant
 use Rattle.execheap.specs.{Numbered.Numbered, Numbered.IsSound, Numbered.shown_heap, Numbered.places, Table.number_at}
 use Rattle.execheap.proofs.{Alerts.handle_unless, Alerts.is_there, Alerts.link_if, Alerts.refused_first, Front.message_small, MessagePlaces.place_message, Queued.is_queued_shown, Matching.number_live, Shown.content_shown, Shown.message_at_shown, Shown.port_at_shown, Shown.port_shown}
+use Rattle.script.specs.declared.alert.Alert.TheVariants as an_alert
+use Rattle.script.specs.declared.alert.Alert.{Alert}
 
 -- ---- the alert of a port, and of a message
 
-pub port_refused : (s : Numbered) (port : ℕ) → number_at variant.Port port s.table ≡ None → port_alert port (shown_heap s) ≡ Some (codes "HANDLE")
+pub port_refused : (s : Numbered) (port : ℕ) → number_at variant.Port port s.table ≡ None → port_alert port (shown_heap s) ≡ Some an_alert.Handle
 unfolding port_alert
 port_refused s port none = ap (λ b. handle_unless b None) (port_at_shown s port ∙ ap is_some none)
 
@@ -20,7 +22,7 @@ pub port_found : (s : Numbered) (port p : ℕ) → number_at variant.Port port s
 unfolding port_alert
 port_found s port p found = ap (λ b. handle_unless b None) (port_at_shown s port ∙ ap is_some found)
 
-pub message_refused : (s : Numbered) (message : ℕ) → number_at variant.Message message s.table ≡ None → message_alert message (shown_heap s) ≡ Some (codes "HANDLE")
+pub message_refused : (s : Numbered) (message : ℕ) → number_at variant.Message message s.table ≡ None → message_alert message (shown_heap s) ≡ Some an_alert.Handle
 unfolding message_alert
 message_refused s message none = ap (λ b. handle_unless b None) (message_at_shown s message ∙ ap is_some none)
 
@@ -42,7 +44,7 @@ reply_port_some (suc reply) heap some = ap (λ b. if b then None else port_alert
 -- ---- the alert of a message that has to be in no port
 
 module _ (message : ℕ) (heap : Heap) where
-  pub loose_by_handle : {why : List ℕ} → message_alert message heap ≡ Some why → loose_alert message heap ≡ Some why
+  pub loose_by_handle : {why : Alert} → message_alert message heap ≡ Some why → loose_alert message heap ≡ Some why
   unfolding loose_alert message_alert
   loose_by_handle refused = refused_first (is_message_at message heap) (link_if (model.is_queued message heap) None) refused
 
@@ -51,19 +53,19 @@ module _ (message : ℕ) (heap : Heap) where
   past_message there = ap (λ b. handle_unless b (link_if (model.is_queued message heap) None)) (is_there (is_message_at message heap) there)
 
   -- a message that is refused is so by ReplyMsg
-  replied_by_handle : (there linked : Bool) {why : List ℕ} (next : Option (List ℕ)) → handle_unless there (link_if linked None) ≡ Some why
+  replied_by_handle : (there linked : Bool) {why : Alert} (next : Option Alert) → handle_unless there (link_if linked None) ≡ Some why
       → handle_unless there (link_if linked next) ≡ Some why
   replied_by_handle true true next e = e
   replied_by_handle true false next e = let bad : false ≡ true = ap is_some e in cc
   replied_by_handle false linked next e = e
 
-  replied_past : (there linked : Bool) (next : Option (List ℕ)) → handle_unless there (link_if linked None) ≡ None
+  replied_past : (there linked : Bool) (next : Option Alert) → handle_unless there (link_if linked None) ≡ None
       → handle_unless there (link_if linked next) ≡ next
   replied_past true true next e = let bad : true ≡ false = ap is_some e in cc
   replied_past true false next e = refl
   replied_past false linked next e = let bad : true ≡ false = ap is_some e in cc
 
-  pub reply_by_loose : {why : List ℕ} → loose_alert message heap ≡ Some why → reply_alert message heap ≡ Some why
+  pub reply_by_loose : {why : Alert} → loose_alert message heap ≡ Some why → reply_alert message heap ≡ Some why
   unfolding reply_alert loose_alert
   reply_by_loose refused =
       replied_by_handle (is_message_at message heap) (model.is_queued message heap) (reply_port_alert (content_of message heap).reply heap) refused
@@ -74,7 +76,7 @@ module _ (message : ℕ) (heap : Heap) where
       replied_past (is_message_at message heap) (model.is_queued message heap) (reply_port_alert (content_of message heap).reply heap) loose
 
   module _ (port : ℕ) where
-    pub put_by_port : {why : List ℕ} → port_alert port heap ≡ Some why → put_alert port message heap ≡ Some why
+    pub put_by_port : {why : Alert} → port_alert port heap ≡ Some why → put_alert port message heap ≡ Some why
     unfolding put_alert port_alert
     put_by_port refused = refused_first (is_port_at port heap) (loose_alert message heap) refused
 
@@ -108,8 +110,8 @@ module _ {s : Numbered} (sound : IsSound s) where
   -- ---- the alert of a port to wait at
 
   module _ (task p port : ℕ) (here : slot (places variant.Port s) p ≡ Some port) where
-    abbrev waits : Bool → Option (List ℕ)
-    waits may = if may then None else Some (codes "PORT")
+    abbrev waits : Bool → Option Alert
+    waits may = if may then None else Some an_alert.Port
 
     pub wait_found : {bit : Option ℕ} → port_alert port (shown_heap s) ≡ None → wait_bit task (port_at p s.ports) ≡ bit
         → wait_alert task port (shown_heap s) ≡ waits (is_some bit)
@@ -119,7 +121,7 @@ module _ {s : Numbered} (sound : IsSound s) where
         ∙ ap (λ q. waits (is_some (wait_bit task q))) (port_shown s port p (number_live sound.table variant.Port p port here))
         ∙ ap (λ o. waits (is_some o)) is
 
-pub wait_refused : (task port : ℕ) (heap : Heap) {why : List ℕ} → port_alert port heap ≡ Some why → wait_alert task port heap ≡ Some why
+pub wait_refused : (task port : ℕ) (heap : Heap) {why : Alert} → port_alert port heap ≡ Some why → wait_alert task port heap ≡ Some why
 unfolding wait_alert port_alert
 wait_refused task port heap refused =
-    refused_first (is_port_at port heap) (if is_some (wait_bit task (port_of port heap)) then None else Some (codes "PORT")) refused
+    refused_first (is_port_at port heap) (if is_some (wait_bit task (port_of port heap)) then None else Some an_alert.Port) refused

@@ -12,6 +12,8 @@ use Rattle.execheap.specs.Numbered.{Numbered, IsSound, address_in, message_place
 use Rattle.execheap.specs.{Changes.on_ports, Listing.listed}
 use Rattle.iorequest.specs.Requests.{is_under_way_at}
 use Rattle.execheap.proofs.{AwaitedPorts.awaited_shown, Alerts.handle_unless, Alerts.is_some_map, Alerts.is_there, Alerts.link_if, Alerts.refused_first, Mapped.Alike, Mapped.alike_apart, Mapped.cond-map, Mapped.enqueue-map, Mapped.find-map, Mapped.first-map, Mapped.map_agree, Mapped.members, Mapped.stands_by_times, Posted.heap_beside, Posted.objects_beside, Queued.port_placed, Matching.number_live, Matching.number_same, Shown.messages_shown}
+use Rattle.script.specs.declared.alert.Alert.TheVariants as an_alert
+use Rattle.script.specs.declared.alert.Alert.{Alert}
 
 -- ---- sequences
 
@@ -35,11 +37,11 @@ each P all (x ∷ xs) = (all x, each P all xs)
 -- ---- one test of a call
 
 -- a port must not be in use, and then come the other tests
-abbrev port_if : Bool → Option (List ℕ) → Option (List ℕ)
-port_if used next = if used then Some (codes "PORT") else next
+abbrev port_if : Bool → Option Alert → Option Alert
+port_if used next = if used then Some an_alert.Port else next
 
 -- the tests of a port that is to be freed
-abbrev in_use : ℕ → Memory → Option (List ℕ)
+abbrev in_use : ℕ → Memory → Option Alert
 in_use port memory =
     port_if (is_some (first (model.messages_of port memory.heap))) (port_if (is_public port memory) (port_if (model.is_awaited_at port memory.heap) None))
 
@@ -49,8 +51,8 @@ either_use false true awaited = refl
 either_use false false awaited = refl
 
 -- a priority is to be one, and then come the other tests
-abbrev value_unless : Bool → Option (List ℕ) → Option (List ℕ)
-value_unless fits next = if not fits then Some (codes "VALUE") else next
+abbrev value_unless : Bool → Option Alert → Option Alert
+value_unless fits next = if not fits then Some an_alert.Value else next
 
 module _ {s : Numbered} (sound : IsSound s) (held : ports.IsSound s.ports) where
   -- ---- which ports are public
@@ -164,15 +166,15 @@ module _ {s : Numbered} (sound : IsSound s) (held : ports.IsSound s.ports) where
           ap (λ b. handle_unless b (value_unless (is_priority pri) (link_if (is_public port (shown_memory s)) None))) begins
           ∙ (λ i. value_unless (fits i) (link_if ((is_public_shown ∙ is) i) None))
 
-      pub public_found : {public : Bool} → ports.is_public p s.ports ≡ public → rem_port_alert port (shown_memory s) ≡ (if public then None else Some (codes "LINK"))
+      pub public_found : {public : Bool} → ports.is_public p s.ports ≡ public → rem_port_alert port (shown_memory s) ≡ (if public then None else Some an_alert.Link)
       unfolding rem_port_alert
       public_found is =
-          ap (λ b. handle_unless b (if is_public port (shown_memory s) then None else Some (codes "LINK"))) begins
-          ∙ ap (λ b. if b then None else Some (codes "LINK")) (is_public_shown ∙ is)
+          ap (λ b. handle_unless b (if is_public port (shown_memory s) then None else Some an_alert.Link)) begins
+          ∙ ap (λ b. if b then None else Some an_alert.Link) (is_public_shown ∙ is)
 
 -- ---- the alerts if no port begins at the address
 
-module _ (port : ℕ) (memory : Memory) {why : List ℕ} (refused : port_alert port memory.heap ≡ Some why) where
+module _ (port : ℕ) (memory : Memory) {why : Alert} (refused : port_alert port memory.heap ≡ Some why) where
   pub delete_refused : delete_alert port memory ≡ Some why
   unfolding delete_alert port_alert
   delete_refused = refused_first (is_port_at port memory.heap) (in_use port memory) refused
@@ -184,7 +186,7 @@ module _ (port : ℕ) (memory : Memory) {why : List ℕ} (refused : port_alert p
 
   pub public_refused : rem_port_alert port memory ≡ Some why
   unfolding rem_port_alert port_alert
-  public_refused = refused_first (is_port_at port memory.heap) (if is_public port memory then None else Some (codes "LINK")) refused
+  public_refused = refused_first (is_port_at port memory.heap) (if is_public port memory then None else Some an_alert.Link) refused
 
 -- ---- the public port of a name
 

@@ -9,11 +9,13 @@ use Rattle.execmodel.specs.State.{Heap}
 use Rattle.execheap.specs.declared.tag.Kind.TheVariants as variant
 use Rattle.execheap.specs.{Refusals.alert_of, Refusals.told, Numbered.Numbered, Numbered.IsSound, Numbered.shown_heap, Numbered.places, Table.number_at}
 use Rattle.execheap.proofs.{Alerts.handle_unless, Alerts.refused_first, Matching.number_live, Shown.semaphore_at_shown, Shown.sem_shown, Shown.waiters_shown}
+use Rattle.script.specs.declared.alert.Alert.TheVariants as an_alert
+use Rattle.script.specs.declared.alert.Alert.{Alert}
 
 -- ---- the alert of a semaphore
 
 pub semaphore_refused : (s : Numbered) (semaphore : ℕ) → number_at variant.Semaphore semaphore s.table ≡ None
-    → semaphore_alert semaphore (shown_heap s) ≡ Some (codes "HANDLE")
+    → semaphore_alert semaphore (shown_heap s) ≡ Some an_alert.Handle
 unfolding semaphore_alert
 semaphore_refused s semaphore none = ap (λ b. handle_unless b None) (semaphore_at_shown s semaphore ∙ ap is_some none)
 
@@ -24,14 +26,14 @@ semaphore_found s semaphore n found = ap (λ b. handle_unless b None) (semaphore
 -- ---- the alerts of calls of which that is the first test
 
 -- a semaphore must not be so
-abbrev pub sem_if : Bool → Option (List ℕ)
-sem_if refused = if refused then Some (codes "SEM") else None
+abbrev pub sem_if : Bool → Option Alert
+sem_if refused = if refused then Some an_alert.Sem else None
 
 -- a semaphore has to be so
-abbrev pub sem_unless : Bool → Option (List ℕ)
-sem_unless holds = if holds then None else Some (codes "SEM")
+abbrev pub sem_unless : Bool → Option Alert
+sem_unless holds = if holds then None else Some an_alert.Sem
 
-module _ (semaphore : ℕ) (heap : Heap) {why : List ℕ} (refused : semaphore_alert semaphore heap ≡ Some why) where
+module _ (semaphore : ℕ) (heap : Heap) {why : Alert} (refused : semaphore_alert semaphore heap ≡ Some why) where
   pub free_refused : free_sem_alert semaphore heap ≡ Some why
   unfolding free_sem_alert semaphore_alert
   free_refused = refused_first (is_semaphore_at semaphore heap) (sem_if (is_owned (sem_of semaphore heap))) refused

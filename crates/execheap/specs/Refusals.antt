@@ -4,17 +4,19 @@ use Rattle.execlist.specs.Lists.{home, is_at}
 use Rattle.sigsem.specs.declared.fault.SemFault.{SemFault}
 use Rattle.execheap.specs.declared.refusal.Refusal.TheVariants.{Handle, Link, Port, Sem, Lib, Io}
 use Rattle.execheap.specs.declared.refusal.Refusal.{Refusal}
+use Rattle.script.specs.declared.alert.Alert.TheVariants as an_alert
+use Rattle.script.specs.declared.alert.Alert.{Alert}
 
-abbrev pub code_of : Refusal → List ℕ
-code_of Handle = codes "HANDLE"
-code_of Link = codes "LINK"
-code_of Port = codes "PORT"
-code_of Sem = codes "SEM"
-code_of Lib = codes "LIB"
-code_of Io = codes "IO"
+abbrev pub code_of : Refusal → Alert
+code_of Handle = an_alert.Handle
+code_of Link = an_alert.Link
+code_of Port = an_alert.Port
+code_of Sem = an_alert.Sem
+code_of Lib = an_alert.Lib
+code_of Io = an_alert.Io
 
 -- the alert of an answer: none if the call was not refused
-abbrev pub alert_of : {T : Type 0} → Result T Refusal → Option (List ℕ)
+abbrev pub alert_of : {T : Type 0} → Result T Refusal → Option Alert
 alert_of (Ok answer) = None
 alert_of (Err why) = Some (code_of why)
 

@@ -2,6 +2,7 @@
 ghost use Rattle.std.specs.Prelude.{◌≡◌};
 ghost use Rattle.execheap.specs.Refusals.{code_of, told};
 
+use script::Alert;
 use sigsem::fault::SemFault;
 use thiserror::Error;
 
@@ -31,17 +32,17 @@ pub enum Refusal {
 }
 
 impl Refusal {
-    /// The code of the alert, as it is in the trace.
-    pub fn code(self) -> &'static str
-        ensures { result.now ≡ code_of self }
+    /// The alert by which the call is refused.
+    pub fn alert(self) -> Alert
+        ensures { result ≡ code_of self }
     {
         match self {
-            Refusal::Handle => "HANDLE",
-            Refusal::Link => "LINK",
-            Refusal::Port => "PORT",
-            Refusal::Sem => "SEM",
-            Refusal::Lib => "LIB",
-            Refusal::Io => "IO",
+            Refusal::Handle => Alert::Handle,
+            Refusal::Link => Alert::Link,
+            Refusal::Port => Alert::Port,
+            Refusal::Sem => Alert::Sem,
+            Refusal::Lib => Alert::Lib,
+            Refusal::Io => Alert::Io,
         }
     }
 }

@@ -71,7 +71,7 @@ going_bodily next one s = either_bodily s.stopped s (quiet s) (next s) (quiet_bo
 
 own_of_body : (name : List ℕ) (call : Call) (line : TraceLine) → IsOwn name call line → IsOfBody line
 own_of_body name call _ (own outcome) = tt
-own_of_body name call _ (refusing code few) = tt
+own_of_body name call _ (refusing code) = tt
 
 all_of_body : (name : List ℕ) (call : Call) (lines : List TraceLine) → All (IsOwn name call) lines → AreOfBodies lines
 all_of_body name call [] all = tt

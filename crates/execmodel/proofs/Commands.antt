@@ -15,6 +15,7 @@ use Rattle.execmodel.proofs.Heaps.{content_is, filled, true_is_not_false}
 use Rattle.forbid.specs.Nesting.{Nesting}
 use Rattle.softint.specs.declared.latches.Latches.{Latches}
 use Rattle.taskq.specs.Tasks.{is_live}
+use Rattle.script.specs.declared.alert.Alert.{Alert}
 
 -- what a call may make of the blocks, and the marks that it leaves: nothing, or a message changes, is put at a port or is taken there
 pub data Touches : Heap → List Mark → Heap → Type 0 where
@@ -260,7 +261,7 @@ either_alters : (s : State) (test : Bool) (o p : Outcome) → (test ≡ true →
 either_alters s true o p one other = one refl
 either_alters s false o p one other = other refl
 
-unless_alters : (c : Caller) (call : Call) (s : State) (alert : Option (List ℕ)) (effect : State → Outcome)
+unless_alters : (c : Caller) (call : Call) (s : State) (alert : Option Alert) (effect : State → Outcome)
     → (alert ≡ None → IsAltered s (effect s)) → IsAltered s (unless_by alert c call effect s)
 unfolding alerted
 unless_alters c call s None effect alters = alters refl

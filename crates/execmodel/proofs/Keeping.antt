@@ -20,6 +20,7 @@ use Rattle.execmodel.specs.Requests.{finishes, finishes_each, finishes_set, answ
 use Rattle.execmodel.specs.Keeping.{Keeps, without_progress, without_progress_of, without_states, without_priorities, without_signals, without_blocks, beside_plain, beside_signals, beside_nestings, beside_memory, beside_ports, beside_semaphores, beside_tasks, beside_requests, without_caused, clock_alone, without_blocks_system_and_waiting}
 use Rattle.execmodel.specs.{Pending.arrived, Pending.is_caused, Pending.causes, Libraries.base_of, Libraries.library_at, Libraries.library_opened, Libraries.entered_or_loaded, Calls.keeps as keeps_call, Calls.stored, Calls.goes_on, Calls.done, Calls.answered, Calls.waiting, Calls.silent, Calls.alerted, Calls.unless, Signals.waited, Nesting.gives_nesting, Tasks.ends_other, Memory.placed, Memory.place_for, Deeds.concluded, Ports.port_created, Ports.replied, Ports.delivered, Ports.performed, Ports.taken, Ports.looked, Semaphores.awaited_by, Semaphores.leaving_queue, Semaphores.obtains, Semaphores.passes}
 use Rattle.execmodel.proofs.Commands.{performed_scripts}
+use Rattle.script.specs.declared.alert.Alert.{Alert}
 
 -- a part that both ways keep
 pub either : {A : Type 0} (part : State → A) (a : A) (test : Bool) (o p : Outcome) → part o.state ≡ a → part p.state ≡ a
@@ -28,7 +29,7 @@ either part a true o p first second = first
 either part a false o p first second = second
 
 -- A call that may be refused keeps a part that stays if the machine stops, and that the call keeps if it is not refused.
-pub unless_keeps : {A : Type 0} (part : State → A) (alert : Option (List ℕ)) (t : ℕ) (call : Call) (effect : State → Outcome) (s : State)
+pub unless_keeps : {A : Type 0} (part : State → A) (alert : Option Alert) (t : ℕ) (call : Call) (effect : State → Outcome) (s : State)
     → part (record s { stopped = true }) ≡ part s → part (effect s).state ≡ part s
     → part (unless alert t call effect s).state ≡ part s
 unfolding alerted

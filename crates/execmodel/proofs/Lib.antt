@@ -50,7 +50,6 @@ pub mod Works
 pub mod ShortWords
 pub mod ShortLines
 pub mod ShortCalls
-pub mod ShortAlerts
 pub mod Telling
 pub mod ShortTexts
 pub mod LinesLaw

@@ -19,6 +19,8 @@ use Rattle.execmodel.specs.Semaphores.{awaited_by, dropped, entered, queued, han
 use Rattle.execmodel.specs.Libraries.{is_library_at, count_of, is_delayed, with_library, base_of, library_at, library_opened, ready_to_open, entered_or_loaded}
 use Rattle.execmodel.specs.{Calls.argument, Calls.done, Calls.answered, Calls.waiting, Calls.alerted, Signals.waited, Nesting.gives_nesting, Tasks.is_caller, Tasks.ends_other, Objects.object_at, Objects.is_kind, Objects.is_allowed, Objects.place_for_object, GivingWay.after_asking_for_object, Memory.extents, Memory.allocates, Memory.makes_object, Memory.placed, Memory.freed, Memory.place_for, Memory.is_named, Memory.is_plain, Lists.is_list, Lists.is_node, Lists.is_list_at, Lists.with_nodes, Lists.unlinked, Deeds.concluded}
 use Rattle.execmodel.proofs.{Heaps.rid, Heaps.true_is_not_false, Taking.IsNew, Taking.Takes, Taking.nothing, Taking.places, Taking.recounts, Taking.IsTaking, Taking.number_is, Taking.after_asking_for_object_taking, Taking.after_asking_for_port_taking, Taking.ready_to_open_taking, Posts.Other, Posts.post_in, Posts.post_of_object, Posts.post_at, Posts.is_a_port, Posts.is_mail, Posts.port_there, Posts.message_there, Loaded.base_is_loaded, Commands.Touches, Commands.remains, Commands.IsAltered, Commands.none_some, Commands.passed_first, Commands.passed_other, Commands.is_loose_there}
+use Rattle.script.specs.declared.alert.Alert.TheVariants as an_alert
+use Rattle.script.specs.declared.alert.Alert.{Alert}
 
 -- an object that may be freed: a port has to be empty, a semaphore free, and a request not under way
 abbrev pub MayGo : Option Object → Type 0
@@ -253,8 +255,8 @@ pub port_makes : (t : ℕ) (call : Call) (bit : Option ℕ) (s : State)
 port_makes t call bit s =
     taking_makes t call s _ (after_asking_for_port_taking bit s _ (port_taking t call bit (on_memory (after_asking_for_port bit) s)))
 
-port_goes : (found : Option Object) (rest : Option (List ℕ)) → is_kind is_port found ≡ true
-    → (if is_some (first (messages_of_object found)) then Some (codes "PORT") else rest) ≡ None → MayGo found
+port_goes : (found : Option Object) (rest : Option Alert) → is_kind is_port found ≡ true
+    → (if is_some (first (messages_of_object found)) then Some an_alert.Port else rest) ≡ None → MayGo found
 port_goes None rest is e = tt
 port_goes (Some (MsgPort port [])) rest is e = refl
 port_goes (Some (MsgPort port (message ∷ messages))) rest is e = none_some e
@@ -317,7 +319,7 @@ pub is_semaphore_there : (t semaphore : ℕ) (heap : Heap) → obtain_alert t se
 unfolding obtain_alert
 is_semaphore_there t semaphore heap none = (passed_first (is_semaphore_at semaphore heap) _ _ none).0
 
-owns_there : (test : Bool) (code : List ℕ) → (if test then None else Some code) ≡ None → test ≡ true
+owns_there : (test : Bool) (code : Alert) → (if test then None else Some code) ≡ None → test ≡ true
 owns_there true code e = refl
 owns_there false code e = none_some e
 
@@ -362,7 +364,7 @@ releasing false semaphore t call s release is e = (refl, releases semaphore is e
 
 -- ---- libraries
 
-pub is_library_there : (test : Bool) (code : List ℕ) → (if not test then Some code else None) ≡ None → test ≡ true
+pub is_library_there : (test : Bool) (code : Alert) → (if not test then Some code else None) ≡ None → test ≡ true
 is_library_there true code e = refl
 is_library_there false code e = none_some e
 

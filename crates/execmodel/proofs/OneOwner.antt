@@ -7,6 +7,7 @@ use Rattle.script.specs.{File.MachineData, declared.event.Event.Event}
 use Rattle.execmodel.specs.{State.Call, State.Object, State.Plain, State.Block, State.State, State.Outcome, State.booted, State.andthen, State.on_schedule, Calls.argument, Calls.alerted, Calls.unless, Bodies.body_step, Memory.extents, Memory.block_at, Memory.is_plain, Memory.is_named, Memory.memory_deed, Deeds.performs, Step.switches, Step.ends, Step.starts, Step.run, Laws.EachByteHasOneOwner, Laws.FreeMemRefusesObjects, Requests.finishes}
 use Rattle.scheduler.specs.Dispatch.{rescheduled}
 use Rattle.execmodel.proofs.{Heaps.true_is_not_false, Itself.does_itself, Itself.call_works, Stretches.Relation, Stretches.HoldsOfEach, Stretches.of_starts, Stretches.of_events, Commands.none_some, Telling.body_alters, Asking.finishing, TidyLaw.FormedState, TidyLaw.works_regions, TidyLaw.works_formed, TidyLaw.altered_formed, TidyLaw.finished_formed, TidyLaw.booted_formed, TidyLaw.quietly, TidyLaw.switches_quiet}
+use Rattle.script.specs.declared.alert.Alert.TheVariants as an_alert
 
 -- the regions stay, and the blocks stay well formed
 abbrev Memories : Relation
@@ -71,7 +72,7 @@ refused size None object e is = none_some (sym e)
 refused size (Some block) object e is = let same : block.object ≡ object = cc in rw (same, is) refl
 
 stops : (test : Bool) (t : ℕ) (call : Call) (effect : State → Outcome) (s : State) → test ≡ false
-    → unless (if not test then Some (codes "MEM") else None) t call effect s ≡ alerted (codes "MEM") t call s
+    → unless (if not test then Some an_alert.Mem else None) t call effect s ≡ alerted an_alert.Mem t call s
 stops true t call effect s e = true_is_not_false e
 stops false t call effect s e = refl
 

@@ -14,7 +14,7 @@ Silent o = says_switch o.lines ≡ false
 one_silent : (name : List ℕ) (call : Call) (line : TraceLine) (lines : List TraceLine) → IsOwn name call line → says_switch lines ≡ false
     → says_switch (line ∷ lines) ≡ false
 one_silent name call _ lines (own outcome) rest = rest
-one_silent name call _ lines (refusing code few) rest = rest
+one_silent name call _ lines (refusing code) rest = rest
 
 all_silent : (name : List ℕ) (call : Call) (lines : List TraceLine) → All (IsOwn name call) lines → says_switch lines ≡ false
 all_silent name call [] are = refl

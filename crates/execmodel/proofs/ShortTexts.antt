@@ -2,11 +2,11 @@
 use Rattle.std.proofs.Common.{◌≡◌, ℕ, zero, suc, pos, Bool, true, false, List, [], ◌∷◌, Option, None, Some, sym, subst, ap, ◌+◌, All, IfSome, if◌then◌else◌, slice_get, slice_index_or}
 use Rattle.std.proofs.lemmas.List.Elements.{All-nil, All-cons, All-head, All-tail, All-append, All-weaker}
 use Rattle.exectrace.specs.Trace.{TraceLine, Timer}
-use Rattle.script.specs.{Words.word_text, Commands.CommandData, declared.word.Word.Word}
+use Rattle.script.specs.{Alerts.alert_text, Words.word_text, Commands.CommandData, declared.word.Word.Word}
 use Rattle.execlist.specs.Order.{first}
 use Rattle.scheduler.specs.Schedule.{name_of, Schedule}
 use Rattle.execmodel.specs.{State.Call, State.Scripts, State.Bodies, State.State, State.Outcome, State.quiet, State.says, State.andthen, State.unless_stopped, State.program_of, State.on_schedule, State.on_memory, Calls.call_at, Calls.call_after, Calls.call_in_body, Calls.next_call, Ports.performed, Bodies.body_step, Requests.answering_port, Requests.acting_at, Requests.with_reply, Requests.ended, Requests.finishes, Interrupts.softint_at, Interrupts.server_at}
-use Rattle.execmodel.proofs.{Itself.word_itself, Itself.does_itself, Itself.word_keeps, Itself.word_tells, Commands.performed_scripts, Commands.performed_fixed, ShortLines.IsShort, ShortLines.IsShortText, ShortLines.AreShort, ShortLines.timer_short, ShortLines.call_short, ShortLines.alert_short, ShortWords.word_short, ShortCalls.IsBrief, ShortCalls.HasArguments, ShortCalls.task_call_has, ShortCalls.body_call_has, Telling.AreBriefPrograms, Telling.IsOwn, Telling.own, Telling.refusing, Telling.body_commanded}
+use Rattle.execmodel.proofs.{Itself.word_itself, Itself.does_itself, Itself.word_keeps, Itself.word_tells, Commands.performed_scripts, Commands.performed_fixed, ShortLines.IsShort, ShortLines.IsShortText, ShortLines.AreShort, ShortLines.timer_short, ShortLines.call_short, ShortLines.alert_short, ShortWords.code_short, ShortWords.word_short, ShortCalls.IsBrief, ShortCalls.HasArguments, ShortCalls.task_call_has, ShortCalls.body_call_has, Telling.AreBriefPrograms, Telling.IsOwn, Telling.own, Telling.refusing, Telling.body_commanded}
 use Rattle.forbid.specs.Nesting.{Nesting}
 use Rattle.softint.specs.declared.latches.Latches.{Latches}
 
@@ -80,8 +80,8 @@ own_short : (name : List ℕ) (call : Call) (line : TraceLine) → IsShortText n
     → IsShort line
 own_short name call _ short few (own outcome) =
     call_short name (word_text call.word) call.arguments outcome short (word_short call.word) few
-own_short name call _ short few (refusing code coded) =
-    alert_short code name (word_text call.word) coded short (word_short call.word)
+own_short name call _ short few (refusing code) =
+    alert_short (alert_text code) name (word_text call.word) (code_short code) short (word_short call.word)
 
 all_short : (name : List ℕ) (call : Call) (lines : List TraceLine) → IsShortText name → AreShort call.arguments
     → All (IsOwn name call) lines → All IsShort lines

@@ -12,16 +12,18 @@ use Rattle.iorequest.specs.declared.request.ReqState.TheVariants.{Idle, UnderWay
 use Rattle.iorequest.specs.declared.request.ReqState.{ReqState}
 use Rattle.sigsem.specs.declared.semaphore.Obtained.TheVariants.{Owner, Waits}
 use Rattle.sigsem.specs.declared.semaphore.Obtained.{Obtained}
-use Rattle.exectrace.specs.Trace.{TraceLine, Done, Answers, Alert}
+use Rattle.exectrace.specs.Trace.{TraceLine, Done, Answers}
 use Rattle.exectrace.specs.Trace as trace
 use Rattle.std.proofs.lemmas.List.Elements.{All-nil, All-cons}
 use Rattle.execmodel.proofs.Commands.{performed_scripts, IsAltered, rested, done_alters, silent_alters, signal_alters, put_alters, get_alters, reply_alters, cause_alters}
-use Rattle.execmodel.proofs.{ShortLines.IsShortText, ShortCalls.IsBrief, ShortCalls.HasArguments, ShortAlerts.IsShortAlert, ShortAlerts.coded, ShortAlerts.short_codes, Keeping.goes_on_keeps, Keeping.stored_keeps, Keeping.kept_keeps}
+use Rattle.execmodel.proofs.{ShortCalls.IsBrief, ShortCalls.HasArguments, Keeping.goes_on_keeps, Keeping.stored_keeps, Keeping.kept_keeps}
 use Rattle.script.specs.declared.word.Word.TheVariants as group
 use Rattle.script.specs.declared.word.plain.PlainWord.TheVariants as plain
 use Rattle.script.specs.declared.word.task_signals.SignalWord.TheVariants as signals
 use Rattle.script.specs.declared.word.ports.PortWord.TheVariants as ports
 use Rattle.script.specs.declared.word.interrupts.InterruptWord.TheVariants as causing
+use Rattle.script.specs.Alerts.{alert_text}
+use Rattle.script.specs.declared.alert.Alert.{Alert}
 
 -- ---- programs
 
@@ -78,7 +80,7 @@ speaker (ByBody name) s = name
 -- what a caller of that name may print at a call: the call's own line, or its alert
 pub data IsOwn (name : List ℕ) (call : Call) : TraceLine → Type 0 where
   own : (outcome : trace.Outcome) → IsOwn name call (trace.Call name (word_text call.word) call.arguments outcome)
-  refusing : (code : List ℕ) → IsShortText code → IsOwn name call (Alert code name (word_text call.word))
+  refusing : (code : Alert) → IsOwn name call (trace.Alert (alert_text code) name (word_text call.word))
 
 -- the scripts but for what a caller may change of them: the shared variables, and the progress of a task
 abbrev pub beside_progress : Caller → Scripts → Scripts
@@ -169,34 +171,34 @@ either_tells true o p one other = one
 either_tells false o p one other = other
 
 -- an alert refuses a call
-pub alerted_tells : (code : List ℕ) → IsShortText code → (c : Caller) (call : Call) (s r : State) → r.scripts ≡ s.scripts
+pub alerted_tells : (code : Alert) → (c : Caller) (call : Call) (s r : State) → r.scripts ≡ s.scripts
     → Tells c call s (alerted_by code c call r)
 unfolding alerted
-alerted_tells code few (ByTask t) call s r same = record {
-  lines = one_line (IsOwn (name_of r.schedule t) call) _ (refusing code few);
+alerted_tells code (ByTask t) call s r same = record {
+  lines = one_line (IsOwn (name_of r.schedule t) call) _ (refusing code);
   others = ap (without_progress_of t) same;
   programs = λ short all. same_brief s r same all;
 }
-alerted_tells code few (ByBody name) call s r same = record {
-  lines = one_line (IsOwn name call) _ (refusing code few);
+alerted_tells code (ByBody name) call s r same = record {
+  lines = one_line (IsOwn name call) _ (refusing code);
   others = ap (beside_progress (ByBody name)) same;
   programs = λ short all. same_brief s r same all;
 }
 
-refused_tells : (alert : Option (List ℕ)) → IsShortAlert alert → (c : Caller) (call : Call) (effect : State → Outcome) (s r : State)
+refused_tells : (alert : Option Alert) (c : Caller) (call : Call) (effect : State → Outcome) (s r : State)
     → r.scripts ≡ s.scripts → Tells c call s (effect r) → Tells c call s (unless_by alert c call effect r)
-refused_tells None short c call effect s r same tells = tells
-refused_tells (Some code) (coded _ few) c call effect s r same tells = alerted_tells code few c call s r same
+refused_tells None c call effect s r same tells = tells
+refused_tells (Some code) c call effect s r same tells = alerted_tells code c call s r same
 
-unless_by_tells : (alert : Option (List ℕ)) → IsShortAlert alert → (c : Caller) (call : Call) (effect : State → Outcome) (s : State)
+unless_by_tells : (alert : Option Alert) (c : Caller) (call : Call) (effect : State → Outcome) (s : State)
     → Tells c call s (effect s) → Tells c call s (unless_by alert c call effect s)
-unless_by_tells alert short c call effect s tells = refused_tells alert short c call effect s s refl tells
+unless_by_tells alert c call effect s tells = refused_tells alert c call effect s s refl tells
 
 -- ---- the words that a body may have too
 
 pub signal_tells : (c : Caller) (call : Call) (s : State) → Tells c call s (does_signal_by c call s)
 signal_tells c call s =
-    unless_by_tells (signal_alert (argument 0 call) (argument 1 call) s.scripts) (search short_codes depth 8)
+    unless_by_tells (signal_alert (argument 0 call) (argument 1 call) s.scripts)
     c call _ s (done_tells c call s _ refl)
 
 delivered_scripts : (kind port message : ℕ) (s : State) → (delivered kind port message s).scripts ≡ s.scripts
@@ -207,7 +209,6 @@ pub put_tells : (c : Caller) (call : Call) (s : State) → Tells c call s (does_
 unfolding port_rules
 put_tells c call s =
     unless_by_tells (put_alert (argument 0 call) (argument 1 call) s.memory.heap)
-    (search short_codes depth 8)
     c call _ s (leaving_tells c call _ s _ (done_tells c call s _ (delivered_scripts _ (argument 0 call) (argument 1 call) s)))
 
 taken_tells : (port : ℕ) (message : Option ℕ) (c : Caller) (call : Call) (s : State) → Tells c call s (taken_by port message c call s)
@@ -217,7 +218,7 @@ taken_tells port (Some message) c call s = leaving_tells c call _ s _ (answered_
 pub get_tells : (c : Caller) (call : Call) (s : State) → Tells c call s (does_get_msg_by c call s)
 unfolding port_rules
 get_tells c call s =
-    unless_by_tells (port_alert (argument 0 call) s.memory.heap) (search short_codes depth 8) c call _ s
+    unless_by_tells (port_alert (argument 0 call) s.memory.heap) c call _ s
     (taken_tells (argument 0 call) (first (messages_of (argument 0 call) s.memory.heap)) c call s)
 
 replied_tells : (reply : ℕ) (c : Caller) (call : Call) (message : ℕ) (s : State) → Tells c call s (replied_by reply c call message s)
@@ -228,7 +229,7 @@ replied_tells reply c call message s =
 pub reply_tells : (c : Caller) (call : Call) (s : State) → Tells c call s (does_reply_msg_by c call s)
 unfolding port_rules
 reply_tells c call s =
-    unless_by_tells (reply_alert (argument 0 call) s.memory.heap) (search short_codes depth 8) c call _ s
+    unless_by_tells (reply_alert (argument 0 call) s.memory.heap) c call _ s
     (replied_tells (content_of (argument 0 call) s.memory.heap).reply c call (argument 0 call) s)
 
 pub cause_tells : (c : Caller) (call : Call) (s : State) → Tells c call s (does_cause_by c call s)
@@ -290,7 +291,7 @@ waited_tells t call (Some bits) s r same = answered_tells (ByTask t) call bits s
 
 pub counted_tells : (t : ℕ) (call : Call) (nesting : Option Nesting) (s : State) → Tells (ByTask t) call s (gives_nesting t call nesting s)
 counted_tells t call nesting s =
-    refused_tells (nest_alert (is_some nesting)) (search short_codes depth 8) (ByTask t) call _ s (on_schedule (nested t nesting) s) refl
+    refused_tells (nest_alert (is_some nesting)) (ByTask t) call _ s (on_schedule (nested t nesting) s) refl
     (done_tells (ByTask t) call s _ refl)
 
 left_tells : (semaphore : Option ℕ) (other t : ℕ) (call : Call) (s : State) (o : Outcome) → Tells (ByTask t) call s o

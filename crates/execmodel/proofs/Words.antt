@@ -24,7 +24,7 @@ use Rattle.execmodel.proofs.Moves.{Makes, Moves, allocates_taking, any_makes, at
 use Rattle.execmodel.proofs.Shifts.{Shifted, aborts_shift, added_shifts, answered_stays, any_shifts, counted_shifts, created_shifts, done_stays, freed_alike, jumps_stays, leaves, left_shifts, looked_shifts, looks_shift, obtains_shift, own as own_schedule, own_signals, passes_shift, reprioritized_shifts, sends_shift, silent_stays, stays as stays_alike, takes as takes_own, waited_shifts}
 use Rattle.execmodel.proofs.Telling.{Tells, aborts_tells, alerted_tells, answered_tells, cause_tells, counted_tells, created_tells, done_tells, ended_tells, get_tells, jumps_tells, looked_tells, looks_tells, obtains_tells, passes_tells, put_tells, reply_tells, replying_tells, signal_tells, silent_tells, waited_tells}
 use Rattle.execmodel.proofs.Works.{Works, aborts_works, begins_works, by_asking, by_moves, created_works, goes_there, is_resting_there, is_settable_there, may_do, may_send, resting_rewritten, sends_works, waits_works}
-use Rattle.execmodel.proofs.{Asking.writes, Deeds.placed_same, GivingWay.asking_for_object_keeps, GivingWay.asking_for_port_keeps, GivingWay.either_memory, GivingWay.ready_keeps, GivingWay.removed_keeps, Setting.Leaves, Setting.aborts_same, Setting.begun_leaves, Setting.looks_same, Setting.sends_leaves, ShortAlerts.IsShortAlert, ShortAlerts.coded, ShortAlerts.short_codes, ShortAlerts.state_short, ShortAlerts.uncoded, Taking.after_asking_taking}
+use Rattle.execmodel.proofs.{Asking.writes, Deeds.placed_same, GivingWay.asking_for_object_keeps, GivingWay.asking_for_port_keeps, GivingWay.either_memory, GivingWay.ready_keeps, GivingWay.removed_keeps, Setting.Leaves, Setting.aborts_same, Setting.begun_leaves, Setting.looks_same, Setting.sends_leaves, Taking.after_asking_taking}
 use Rattle.script.specs.declared.word.Word.TheVariants as group
 use Rattle.script.specs.declared.word.plain.PlainWord.TheVariants as plain
 use Rattle.script.specs.declared.word.task_signals.SignalWord.TheVariants as signals
@@ -37,6 +37,7 @@ use Rattle.script.specs.declared.word.semaphores.SemaphoreWord.TheVariants as se
 use Rattle.script.specs.declared.word.libraries.LibraryWord.TheVariants as libraries
 use Rattle.script.specs.declared.word.requests.RequestWord.TheVariants as requests
 use Rattle.script.specs.declared.word.interrupts.InterruptWord.TheVariants as interrupts
+use Rattle.script.specs.declared.alert.Alert.{Alert}
 
 -- ---- what is known of every word
 
@@ -61,14 +62,14 @@ either_facts true o p one other = one refl
 either_facts false o p one other = other refl
 
 -- an alert refuses the call, or it has its effect
-refused_or : {Blocks : Outcome → Type 0} {rest : State → State} {word : Word} {t : ℕ} {call : Call} {s : State} (alert : Option (List ℕ))
-    → IsShortAlert alert → (effect : State → Outcome) → rest (record s { stopped = true }) ≡ rest s
+refused_or : {Blocks : Outcome → Type 0} {rest : State → State} {word : Word} {t : ℕ} {call : Call} {s : State} (alert : Option Alert)
+    (effect : State → Outcome) → rest (record s { stopped = true }) ≡ rest s
     → ((line : TraceLine) → Blocks (says line (record s { stopped = true })))
     → (alert ≡ None → Facts Blocks rest word t call s (effect s)) → Facts Blocks rest word t call s (unless alert t call effect s)
 unfolding alerted
-refused_or None short effect stops refused passes = passes refl
-refused_or {Blocks} {rest} {word} {t} {call} {s} (Some code) (coded _ few) effect stops refused passes =
-    facts (alerted_tells code few (ByTask t) call s s refl) (λ is. refused _) (λ is. (refl, stays_alike (λ p. refl) (same s.schedule))) stops
+refused_or None effect stops refused passes = passes refl
+refused_or {Blocks} {rest} {word} {t} {call} {s} (Some code) effect stops refused passes =
+    facts (alerted_tells code (ByTask t) call s s refl) (λ is. refused _) (λ is. (refl, stays_alike (λ p. refl) (same s.schedule))) stops
 
 -- a call has had its effect on the memory, and answers or not
 concluded_facts : {Blocks : Outcome → Type 0} {rest : State → State} {word : Word} {t : ℕ} {call : Call} {s : State} (answer : Option ℕ)
@@ -81,11 +82,11 @@ concluded_facts (Some value) memory blocks keeps =
     facts (answered_tells (ByTask _) _ value _ _ refl) blocks (λ is. answered_stays _ _ value _ memory) keeps
 
 -- a call that may be refused, and makes one of a few things of the blocks
-unless_facts : {rest : State → State} {word : Word} {t : ℕ} {call : Call} {s : State} (alert : Option (List ℕ)) → IsShortAlert alert
-    → (effect : State → Outcome) → rest (record s { stopped = true }) ≡ rest s
+unless_facts : {rest : State → State} {word : Word} {t : ℕ} {call : Call} {s : State} (alert : Option Alert)
+    (effect : State → Outcome) → rest (record s { stopped = true }) ≡ rest s
     → (alert ≡ None → Facts (Makes t call s) rest word t call s (effect s))
     → Facts (Makes t call s) rest word t call s (unless alert t call effect s)
-unless_facts alert short effect stops passes = refused_or alert short effect stops (λ line. (refl, stays)) passes
+unless_facts alert effect stops passes = refused_or alert effect stops (λ line. (refl, stays)) passes
 
 -- a call that any caller may make
 altered_facts : {rest : State → State} {word : Word} {t : ℕ} {call : Call} {s : State} (o : Outcome) → IsAltered s o → Tells (ByTask t) call s o
@@ -128,12 +129,12 @@ signals_facts signals.AllocSignal t call s =
     (signals_change (allocates_signal t (cast_signed w32 (argument 0 call))) s (allocates_signal_keeps t (cast_signed w32 (argument 0 call)) s.schedule))
 signals_facts signals.FreeSignal t call s =
     either_facts (nat_eq (argument 0 call) 0xffffffff) _ _ (λ is. concluded_facts None s.memory (λ word. (refl, stays)) refl)
-    (λ is. unless_facts (free_signal_alert (argument 0 call)) (search short_codes depth 8) _ refl
+    (λ is. unless_facts (free_signal_alert (argument 0 call)) _ refl
     (λ none. facts (done_tells (ByTask t) call s _ refl) (λ word. (refl, stays))
     (λ word. (goes_count t call.next s.scripts, stays_alike (λ p. refl) (freed_alike t (argument 0 call) s.schedule)))
     (signals_change (frees_signal t (argument 0 call)) s (frees_keeps t (argument 0 call) s.schedule))))
 signals_facts signals.SetSignal t call s =
-    unless_facts (mask_alert (argument 1 call)) (search short_codes depth 8) _ refl
+    unless_facts (mask_alert (argument 1 call)) _ refl
     (λ none. facts (answered_tells (ByTask t) call _ s _ refl) (λ is. (refl, stays))
     (λ is. (answered_count t call.next call.target _ s.scripts, takes_own (λ p. refl) (ap is_own_taking is) (own_signals t _ s.schedule)))
     (signals_change (sets_signals t (argument 0 call) (argument 1 call)) s (sets_keeps t (argument 0 call) (argument 1 call) s.schedule)))
@@ -142,7 +143,7 @@ signals_facts signals.Signal t call s =
     (unless_keeps beside_signals (signal_alert (argument 0 call) (argument 1 call) s.scripts) t call _ s refl
     (signals_change (signalled by_arrival (argument 0 call - 1) (argument 1 call)) s (signalled_keeps (argument 0 call - 1) (argument 1 call) s.schedule)))
 signals_facts signals.Wait t call s =
-    unless_facts (mask_alert (argument 0 call)) (search short_codes depth 8) _ refl
+    unless_facts (mask_alert (argument 0 call)) _ refl
     (λ none. let mask = argument 0 call in
     let come = come_for mask (signals_of s.schedule t) in
     facts (waited_tells t call come s _ refl) (λ is. waited_makes t call come (after_wait t mask) s)
@@ -170,13 +171,13 @@ unfolding task_rules done answered reprioritized added leaves_for_good
 tasks_facts tasks.SetTaskPri t call s =
     let k = argument 0 call - 1 in
     let pri = cast_signed w32 (argument 1 call) in
-    unless_facts (set_task_pri_alert (argument 0 call) pri s.scripts s.schedule) (search short_codes depth 8) _ refl
+    unless_facts (set_task_pri_alert (argument 0 call) pri s.scripts s.schedule) _ refl
     (λ none. facts (answered_tells (ByTask t) call _ s _ refl) (λ is. (refl, stays))
     (λ is. reprioritized_shifts t call _ k pri (is_ready (status_of s.schedule k)) s refl)
     (states_and_priorities_change (reprioritized by_arrival k pri) s (reprioritized_keeps k pri s.schedule)))
 tasks_facts tasks.AddTask t call s =
     let k = argument 0 call - 1 in
-    unless_facts (add_task_alert (argument 0 call) s.scripts) (search short_codes depth 8) _ refl
+    unless_facts (add_task_alert (argument 0 call) s.scripts) _ refl
     (λ none. facts (answered_tells (ByTask t) call _ s _ refl) (λ is. (refl, stays))
     (λ is. added_shifts t call _ (argument 0 call) (is_absent (status_of s.schedule k)) s
     (passed_first (is_task (argument 0 call) s.scripts) _ _ none).0 refl)
@@ -185,7 +186,7 @@ tasks_facts tasks.RemTask t call s =
     either_facts (is_caller t (argument 0 call)) _ _
     (λ is. facts (done_tells (ByTask t) call s _ refl) (λ word. (refl, stays))
     (λ word. (goes_count t call.next s.scripts, leaves (λ p. refl) refl)) refl)
-    (λ is. unless_facts (live_task_alert (argument 0 call) s.scripts s.schedule) (search short_codes depth 8) _ refl
+    (λ is. unless_facts (live_task_alert (argument 0 call) s.scripts s.schedule) _ refl
     (λ none. let other = argument 0 call - 1 in
     let apart = no_caller t (argument 0 call) is in
     facts (ended_tells other t call s) (λ word. ended_makes t other call s apart)
@@ -194,50 +195,50 @@ tasks_facts tasks.FindTask t call s = concluded_facts (Some _) s.memory (λ is. 
 
 -- ---- lists and memory
 
-performs_facts : {word : Word} {t : ℕ} {call : Call} {s : State} (deed : Deed) → IsShortAlert (deed.alert s.memory)
+performs_facts : {word : Word} {t : ℕ} {call : Call} {s : State} (deed : Deed)
     → (deed.alert s.memory ≡ None → Moves s.memory.asks s.memory.regions t call s.memory.heap [] (deed.heap s.memory))
     → Facts (Makes t call s) beside_memory word t call s (performs deed t call s)
 unfolding performs
-performs_facts deed short moves =
-    unless_facts (deed.alert _) short _ refl
+performs_facts deed moves =
+    unless_facts (deed.alert _) _ refl
     (λ none. concluded_facts (deed.answer _) _ (λ is. concluded_makes (deed.answer _) _ _ _ deed.heap (moves none))
     (concluded_keeps (deed.answer _) deed.heap _ _ _))
 
 pub lists_facts : (word : ListWord) (t : ℕ) (call : Call) (s : State)
     → Facts (Makes t call s) beside_memory (group.Lists word) t call s (does_lists word t call s)
 unfolding list_rules answered
-lists_facts lists.NewList t call s = performs_facts _ uncoded (λ none. (object_makes t call s is_list list_size (ListHead []) (λ heap. refl)).1)
+lists_facts lists.NewList t call s = performs_facts _ (λ none. (object_makes t call s is_list list_size (ListHead []) (λ heap. refl)).1)
 lists_facts lists.NewNode t call s =
     let pri = cast_signed w32 (argument 0 call) in
-    performs_facts _ (search short_codes depth 8)
+    performs_facts _
     (λ none. (object_makes t call s is_node node_size (Node (record { pri = pri; name = name_argument 1 call })) (λ heap. tt)).1)
 lists_facts lists.FreeList t call s =
-    performs_facts _ (search short_codes depth 8)
+    performs_facts _
     (λ none. let there = (passed_first (is_list_at (argument 0 call) s.memory.heap) _ _ none).0 in
     frees (argument 0 call) (list_goes (object_at (argument 0 call) s.memory.heap) there)
     (other_unneeded (argument 0 call) s.memory.heap (list_other (object_at (argument 0 call) s.memory.heap) there)))
 lists_facts lists.FreeNode t call s =
-    performs_facts _ (search short_codes depth 8)
+    performs_facts _
     (λ none. let there = (passed_first (is_node_at (argument 0 call) s.memory.heap) _ _ none).0 in
     frees (argument 0 call) (node_goes (object_at (argument 0 call) s.memory.heap) there)
     (other_unneeded (argument 0 call) s.memory.heap (node_other (object_at (argument 0 call) s.memory.heap) there)))
 lists_facts lists.Insert t call s =
-    performs_facts _ (search short_codes depth 8)
+    performs_facts _
     (λ none. relists (argument 0 call) _ (passed_first (is_list_at (argument 0 call) s.memory.heap) _ _ none).0)
-lists_facts lists.Remove t call s = performs_facts _ (search short_codes depth 8) (λ none. unlinks (argument 0 call))
+lists_facts lists.Remove t call s = performs_facts _ (λ none. unlinks (argument 0 call))
 lists_facts lists.RemHead t call s =
-    performs_facts _ (search short_codes depth 8)
+    performs_facts _
     (λ none. relists (argument 0 call) _ (passed_first (is_list_at (argument 0 call) s.memory.heap) _ _ none).0)
 lists_facts lists.RemTail t call s =
-    performs_facts _ (search short_codes depth 8)
+    performs_facts _
     (λ none. relists (argument 0 call) _ (passed_first (is_list_at (argument 0 call) s.memory.heap) _ _ none).0)
-lists_facts lists.First t call s = performs_facts _ (search short_codes depth 8) (λ none. stays)
-lists_facts lists.Last t call s = performs_facts _ (search short_codes depth 8) (λ none. stays)
-lists_facts lists.Succ t call s = performs_facts _ (search short_codes depth 8) (λ none. stays)
-lists_facts lists.Pred t call s = performs_facts _ (search short_codes depth 8) (λ none. stays)
-lists_facts lists.FindName t call s = performs_facts _ (search short_codes depth 8) (λ none. stays)
+lists_facts lists.First t call s = performs_facts _ (λ none. stays)
+lists_facts lists.Last t call s = performs_facts _ (λ none. stays)
+lists_facts lists.Succ t call s = performs_facts _ (λ none. stays)
+lists_facts lists.Pred t call s = performs_facts _ (λ none. stays)
+lists_facts lists.FindName t call s = performs_facts _ (λ none. stays)
 lists_facts _ t call s =
-    performs_facts _ (search short_codes depth 8)
+    performs_facts _
     (λ none. relists (argument 0 call) _ (passed_first (is_list_at (argument 0 call) s.memory.heap) _ _ none).0)
 
 pub memory_facts : (word : MemoryWord) (t : ℕ) (call : Call) (s : State)
@@ -247,15 +248,15 @@ memory_facts memory.AllocMem t call s =
     let size = argument 0 call in
     let reqs = argument 1 call in
     let asked = on_memory (after_asking size reqs) s in
-    performs_facts _ (search short_codes depth 8)
+    performs_facts _
     (λ none. (taking_makes t call s _ (after_asking_taking size reqs s _
     (allocates_taking t call asked size reqs Plain (place_for size reqs asked.memory) tt (λ address e. e)))).1)
 memory_facts memory.FreeMem t call s =
-    performs_facts _ (search short_codes depth 8)
+    performs_facts _
     (λ none. let named = (passed_first _ _ _ none).0 in
     frees (argument 0 call) (plain_goes (argument 1 call) (block_at (argument 0 call) s.memory.heap) named)
     (other_unneeded (argument 0 call) s.memory.heap (plain_other (argument 1 call) (block_at (argument 0 call) s.memory.heap) named)))
-memory_facts memory.AvailMem t call s = performs_facts _ (search short_codes depth 8) (λ none. stays)
+memory_facts memory.AvailMem t call s = performs_facts _ (λ none. stays)
 
 -- ---- ports
 
@@ -273,37 +274,37 @@ ports_facts ports.DeleteMsgPort t call s =
     let port = argument 0 call in
     let found = port_of port s.memory.heap in
     either_facts (nat_eq port 0) _ _ (λ is. concluded_facts None s.memory (λ word. (refl, stays)) refl)
-    (λ is. unless_facts (delete_alert port s.memory) (search short_codes depth 8) _ refl
+    (λ is. unless_facts (delete_alert port s.memory) _ refl
     (λ none. facts (done_tells (ByTask t) call s _ refl)
     (λ word. (refl, frees port (deletes port s.memory none) (unneeded_port port s.memory none)))
     (λ word. (goes_count t call.next s.scripts, stays_alike (λ p. refl) (freed_alike found.task found.bit s.schedule)))
     (port_signals_change (frees_signal _ _) s (frees_keeps found.task found.bit s.schedule))))
 ports_facts ports.AddPort t call s =
     let pri = cast_signed w32 (argument 2 call) in
-    unless_facts (add_port_alert (argument 0 call) pri s.memory) (search short_codes depth 8) _ refl
+    unless_facts (add_port_alert (argument 0 call) pri s.memory) _ refl
     (λ none. concluded_facts None _ (λ is. (refl, stays)) refl)
 ports_facts ports.RemPort t call s =
-    unless_facts (rem_port_alert (argument 0 call) s.memory) (search short_codes depth 8) _ refl
+    unless_facts (rem_port_alert (argument 0 call) s.memory) _ refl
     (λ none. concluded_facts None _ (λ is. (refl, stays)) refl)
 ports_facts ports.FindPort t call s = concluded_facts (Some _) s.memory (λ is. (refl, stays)) refl
 ports_facts ports.NewMsg t call s =
-    unless_facts (reply_port_alert (argument 0 call) s.memory.heap) (search short_codes depth 8) _ refl
+    unless_facts (reply_port_alert (argument 0 call) s.memory.heap) _ refl
     (λ none. made_facts is_message message_size _ (λ is. object_makes t call s is_message message_size _ (λ heap. tt))
     (λ value memory keeps. port_blocks_change (λ m. memory) s keeps))
 ports_facts ports.FreeMsg t call s =
     let message = argument 0 call in
-    unless_facts (loose_alert message s.memory.heap) (search short_codes depth 8) _ refl
+    unless_facts (loose_alert message s.memory.heap) _ refl
     (λ none. concluded_facts None _
     (λ is. (refl, frees message (frees_message message s.memory.heap none) (unneeded_message message s.memory.heap none))) refl)
 ports_facts ports.SetMsgWord t call s =
     let message = argument 0 call in
-    unless_facts (message_alert message s.memory.heap) (search short_codes depth 8) _ refl
+    unless_facts (message_alert message s.memory.heap) _ refl
     (λ none. concluded_facts None _ (λ is. (refl, touches (gives message _ s.memory.heap (is_message_there message s.memory.heap none)))) refl)
 ports_facts ports.MsgWord t call s =
-    unless_facts (message_alert (argument 0 call) s.memory.heap) (search short_codes depth 8) _ refl
+    unless_facts (message_alert (argument 0 call) s.memory.heap) _ refl
     (λ none. concluded_facts (Some _) s.memory (λ is. (refl, stays)) refl)
 ports_facts ports.MsgType t call s =
-    unless_facts (message_alert (argument 0 call) s.memory.heap) (search short_codes depth 8) _ refl
+    unless_facts (message_alert (argument 0 call) s.memory.heap) _ refl
     (λ none. concluded_facts (Some _) s.memory (λ is. (refl, stays)) refl)
 ports_facts ports.PutMsg t call s =
     altered_facts (does_put_msg t call s) (put_alters (ByTask t) call s) (put_tells (ByTask t) call s)
@@ -317,13 +318,13 @@ ports_facts ports.ReplyMsg t call s =
     (unless_keeps beside_ports (reply_alert (argument 0 call) s.memory.heap) t call _ s refl
     (replied_keeps (content_of (argument 0 call) s.memory.heap).reply t call (argument 0 call) s))
 ports_facts ports.WaitPort t call s =
-    unless_facts (wait_alert t (argument 0 call) s.memory.heap) (search short_codes depth 8) _ refl
+    unless_facts (wait_alert t (argument 0 call) s.memory.heap) _ refl
     (λ none. let message = first (messages_of (argument 0 call) s.memory.heap) in
     facts (looked_tells message _ t call s _ refl) (λ is. looked_makes message _ t call (loses t call.awaited) s)
     (λ is. looked_shifts message _ t call s (ap is_own_taking is))
     (looked_keeps message _ t call s _ (port_signals_change (loses t call.awaited) s (sets_keeps t 0 call.awaited s.schedule))))
 ports_facts _ t call s =
-    unless_facts (port_alert (argument 0 call) s.memory.heap) (search short_codes depth 8) _ refl
+    unless_facts (port_alert (argument 0 call) s.memory.heap) _ refl
     (λ none. concluded_facts None _ (λ is. (refl, sets _ (argument 0 call) (is_port_there (argument 0 call) s.memory.heap none))) refl)
 
 -- ---- semaphores
@@ -337,27 +338,27 @@ semaphores_facts semaphores.NewSem t call s =
     (λ value memory keeps. ap (λ (memory : Memory). record (beside_semaphores s) { memory = memory }) keeps)
 semaphores_facts semaphores.FreeSem t call s =
     let semaphore = argument 0 call in
-    unless_facts (free_sem_alert semaphore s.memory.heap) (search short_codes depth 8) _ refl
+    unless_facts (free_sem_alert semaphore s.memory.heap) _ refl
     (λ none. concluded_facts None _
     (λ is. (refl, frees semaphore (frees_semaphore semaphore s.memory.heap none) (unneeded_semaphore semaphore s.memory.heap none))) refl)
 semaphores_facts semaphores.ObtainSemaphore t call s =
     let semaphore = argument 0 call in
     let sem = sem_of semaphore s.memory.heap in
     either_facts (is_tried_again t s.scripts) _ _ (λ is. concluded_facts None s.memory (λ word. (refl, stays)) refl)
-    (λ is. unless_facts (obtain_alert t semaphore s.memory.heap) (search short_codes depth 8) _ refl
+    (λ is. unless_facts (obtain_alert t semaphore s.memory.heap) _ refl
     (λ none. facts (obtains_tells (outcome_for t sem) semaphore t call s _ refl)
     (λ word. obtaining (is_open t sem) semaphore t call s (is_semaphore_there t semaphore s.memory.heap none) refl)
     (λ word. obtains_shift (outcome_for t sem) semaphore t call s _) (obtains_keeps (outcome_for t sem) semaphore t call s _ refl)))
 semaphores_facts semaphores.AttemptSemaphore t call s =
     let semaphore = argument 0 call in
-    unless_facts (obtain_alert t semaphore s.memory.heap) (search short_codes depth 8) _ refl
+    unless_facts (obtain_alert t semaphore s.memory.heap) _ refl
     (λ none. concluded_facts (Some _) _
     (λ is. attempting (is_open t (sem_of semaphore s.memory.heap)) semaphore t call
     (if is_open t (sem_of semaphore s.memory.heap) then 1 else 0) s (is_semaphore_there t semaphore s.memory.heap none) refl) refl)
 semaphores_facts semaphores.ReleaseSemaphore t call s =
     let semaphore = argument 0 call in
     let owner = heir semaphore s.memory.heap in
-    unless_facts (release_alert t semaphore s.memory.heap) (search short_codes depth 8) _ refl
+    unless_facts (release_alert t semaphore s.memory.heap) _ refl
     (λ none. facts (passes_tells owner semaphore t call s _ refl)
     (λ word. releasing (is_last (sem_of semaphore s.memory.heap)) semaphore t call s
     (record { word = word; names = refl; owns = is_owned_there t semaphore s.memory.heap none }) (is_released_there t semaphore s.memory.heap none) refl)
@@ -387,19 +388,19 @@ libraries_facts libraries.CloseLibrary t call s =
     let base = argument 0 call in
     let goes = nat_eq (count_of base s.memory.heap) 1 && is_delayed base s.memory.heap in
     either_facts (nat_eq base 0) _ _ (λ is. concluded_facts None s.memory (λ word. (refl, stays)) refl)
-    (λ is. unless_facts (close_alert base s.memory.heap) (search short_codes depth 8) _ refl
+    (λ is. unless_facts (close_alert base s.memory.heap) _ refl
     (λ none. concluded_facts None _
     (λ word. closed_makes goes base t call s word refl (passed_first (is_library_at base s.memory.heap) _ _ none).0 refl)
     (blocks_change (closed base) s (either_memory goes _ _ s.memory refl refl))))
 libraries_facts libraries.RemLibrary t call s =
     let base = argument 0 call in
-    unless_facts (library_alert base s.memory.heap) (search short_codes depth 8) _ refl
+    unless_facts (library_alert base s.memory.heap) _ refl
     (λ none. concluded_facts None _
     (λ word. removed_makes (nat_eq (count_of base s.memory.heap) 0) base t call s word refl
     (is_library_there (is_library_at base s.memory.heap) _ none) refl)
     (blocks_change (library_removed base) s (removed_keeps base s.memory)))
 libraries_facts libraries.LibOpenCnt t call s =
-    unless_facts (library_alert (argument 0 call) s.memory.heap) (search short_codes depth 8) _ refl
+    unless_facts (library_alert (argument 0 call) s.memory.heap) _ refl
     (λ none. concluded_facts (Some _) s.memory (λ is. (refl, stays)) refl)
 
 -- ---- requests
@@ -409,10 +410,10 @@ abbrev pub Asked : RequestWord → ℕ → Call → State → Outcome → Type 0
 Asked word t call s o = Works t call s o × Leaves word (argument 0 call) s o.state
 
 -- a call on a request that may be refused
-asking_facts : {word : RequestWord} {t : ℕ} {call : Call} {s : State} (alert : Option (List ℕ)) → IsShortAlert alert → (effect : State → Outcome)
+asking_facts : {word : RequestWord} {t : ℕ} {call : Call} {s : State} (alert : Option Alert) (effect : State → Outcome)
     → (alert ≡ None → Facts (Asked word t call s) beside_requests (group.Requests word) t call s (effect s))
     → Facts (Asked word t call s) beside_requests (group.Requests word) t call s (unless alert t call effect s)
-asking_facts alert short effect passes = refused_or alert short effect refl (λ line. (by_moves (refl, stays) refl, inl refl)) passes
+asking_facts alert effect passes = refused_or alert effect refl (λ line. (by_moves (refl, stays) refl, inl refl)) passes
 
 wait_io_facts : {word : RequestWord} (t : ℕ) (call : Call) (s : State) → is_own_taking (group.Requests word) ≡ true
     → Facts (Asked word t call s) beside_requests (group.Requests word) t call s (does_wait_io t call s)
@@ -420,7 +421,7 @@ unfolding request_rules sets_signals
 wait_io_facts t call s taking =
     let request = argument 0 call in
     let how = (request_of request s.memory.heap).state in
-    asking_facts (wait_io_alert t request s.memory.heap) (search (short_codes, state_short)) _
+    asking_facts (wait_io_alert t request s.memory.heap) _
     (λ none. let there = passed_first (is_request_at request s.memory.heap) _ _ none in
     facts (looks_tells how request t call s _ refl)
     (λ is. (
@@ -436,7 +437,7 @@ unfolding request_rules port_rules done answered
 requests_facts requests.CreateIORequest t call s =
     let port = argument 0 call in
     either_facts (nat_eq port 0) _ _ (λ is. concluded_facts (Some 0) s.memory (λ word. (by_moves (refl, stays) refl, inl refl)) refl)
-    (λ is. asking_facts (port_alert port s.memory.heap) (search short_codes depth 8) _
+    (λ is. asking_facts (port_alert port s.memory.heap) _
     (λ none. let asked = after_asking_for_object is_request request_size s.memory in
     let object = Request (idle_request port) in
     made_facts is_request request_size object
@@ -449,22 +450,22 @@ requests_facts requests.CreateIORequest t call s =
 requests_facts requests.DeleteIORequest t call s =
     let request = argument 0 call in
     either_facts (nat_eq request 0) _ _ (λ is. concluded_facts None s.memory (λ word. (by_moves (refl, stays) refl, inl refl)) refl)
-    (λ is. asking_facts (delete_request_alert request s.memory.heap) (search short_codes depth 8) _
+    (λ is. asking_facts (delete_request_alert request s.memory.heap) _
     (λ none. concluded_facts None _
     (λ word. let goes = goes_there request s.memory.heap none in (by_moves (refl, frees request goes.0 goes.1) refl, inl refl)) refl))
 requests_facts requests.OpenDevice t call s =
     let request = argument 2 call in
-    asking_facts (resting_alert request s.memory.heap) (search short_codes depth 8) _
+    asking_facts (resting_alert request s.memory.heap) _
     (λ none. let there = is_resting_there request s.memory.heap none in
     concluded_facts (Some _) _ (λ is. (by_asking refl (writes request _ _ (resting_rewritten request _ s there.0 refl there.1 there.1)), inl refl)) refl)
 requests_facts requests.CloseDevice t call s =
     let request = argument 0 call in
-    asking_facts (resting_alert request s.memory.heap) (search short_codes depth 8) _
+    asking_facts (resting_alert request s.memory.heap) _
     (λ none. let there = is_resting_there request s.memory.heap none in
     concluded_facts None _ (λ is. (by_asking refl (writes request _ _ (resting_rewritten request _ s there.0 refl there.1 there.1)), inl refl)) refl)
 requests_facts requests.SetIO t call s =
     let request = argument 0 call in
-    asking_facts (set_io_alert (argument 1 call) request s.memory.heap) (search short_codes depth 8) _
+    asking_facts (set_io_alert (argument 1 call) request s.memory.heap) _
     (λ none. let there = is_settable_there (argument 1 call) request s.memory.heap none in
     concluded_facts None _ (λ is. (by_asking refl (writes request _ _ (resting_rewritten request _ s there.0 refl there.1 there.1)), inl refl)) refl)
 requests_facts requests.DoIO t call s =
@@ -472,7 +473,7 @@ requests_facts requests.DoIO t call s =
     let next = on_memory (begun_at true request) s in
     let how = (request_of request next.memory.heap).state in
     either_facts (is_tried_again t s.scripts) _ _ (λ is. wait_io_facts t call s refl)
-    (λ is. asking_facts (do_alert t request s.memory.heap) (search short_codes depth 8) _
+    (λ is. asking_facts (do_alert t request s.memory.heap) _
     (λ none. facts (looks_tells how request t call s next refl)
     (λ word. (
       begins_works t call request s (may_do t request s.memory.heap none),
@@ -485,7 +486,7 @@ requests_facts requests.SendIO t call s =
     let port = replying_port false request s.memory in
     let act = acting_at port s.memory.heap in
     let next = on_memory (begun_at false request) s in
-    asking_facts (send_alert request s.memory.heap) (search short_codes depth 8) _
+    asking_facts (send_alert request s.memory.heap) _
     (λ none. facts (replying_tells port request t call s _ (done_tells (ByTask t) call s _ (performed_scripts _ _)))
     (λ is. (sends_works t call request s (may_send request s.memory.heap none), sends_leaves request t call port act s))
     (λ is. sends_shift port request t call act s (begun_at false request s.memory))
@@ -494,12 +495,12 @@ requests_facts requests.WaitIO t call s = wait_io_facts t call s refl
 requests_facts requests.AbortIO t call s =
     let request = argument 0 call in
     let test = is_under_way (request_of request s.memory.heap) in
-    asking_facts (request_alert request s.memory.heap) (search short_codes depth 8) _
+    asking_facts (request_alert request s.memory.heap) _
     (λ none. facts (aborts_tells test request t call s) (λ is. (aborts_works test t call request s refl, inl (aborts_same test request t call s)))
     (λ is. aborts_shift test request t call s)
     (aborts_keeps test request t call s))
 requests_facts _ t call s =
-    asking_facts (request_alert (argument 0 call) s.memory.heap) (search short_codes depth 8) _
+    asking_facts (request_alert (argument 0 call) s.memory.heap) _
     (λ none. concluded_facts (Some _) s.memory (λ is. (by_moves (refl, stays) refl, inl refl)) refl)
 
 -- ---- the words of a group change their part of the state alone

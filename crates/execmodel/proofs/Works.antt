@@ -13,6 +13,7 @@ use Rattle.execmodel.specs.Requests.{is_request, is_request_at, request_size, re
 use Rattle.execmodel.specs.{Calls.done, Calls.answered, Calls.waiting, Objects.object_at, Objects.is_kind, Objects.place_for_object, GivingWay.after_asking_for_object, Memory.extents, Memory.block_at, Memory.placed, Memory.makes_object, Ports.is_port_at, Ports.is_queued, Ports.has_message, Ports.messages_in, Ports.messages_of, Ports.messages_of_object, Ports.performed, Ports.port_alert, Ports.wait_alert, Agreement.once_if, Laws.times_waiting}
 use Rattle.execmodel.proofs.Asking.{Asks, writes, IsLoose, IsRewritten, ports_written, request_written, written_again, waits_last, finished_rests, answering, reply_marks, reply_asks, ended_asks, without_reply}
 use Rattle.execmodel.proofs.{Heaps.true_is_not_false, GivingWay.asking_for_object_keeps, Queues.IsAway, Posts.Post, Posts.APort, Posts.post_at, Posts.messages_at, Posts.is_a_port, Posts.may_stand, Posts.IsTidy, Posts.messages_are, Posts.request_is, Posts.port_is, Posts.request_there, Fifo.is_away, Commands.none_some, Commands.passed_first, Commands.passed_other, Commands.is_port_there, Commands.performed_memory, Moves.Makes, Moves.MayGo, Moves.IsUnneeded, Moves.stays, Moves.both_true, Moves.mail_unneeded, Moves.object_makes}
+use Rattle.script.specs.declared.alert.Alert.{Alert}
 
 pub data Works (t : ℕ) (call : Call) (s : State) (o : Outcome) : Type 0 where
   by_moves : Makes t call s o → o.state.memory.timer.waiting ≡ s.memory.timer.waiting → Works t call s o
@@ -94,7 +95,7 @@ not_true : (b : Bool) → not b ≡ true → b ≡ false
 not_true true e = sym e
 not_true false e = refl
 
-may_begin : (of_port : Option (List ℕ)) (request : ℕ) (heap : Heap) → begin_alert of_port request heap ≡ None
+may_begin : (of_port : Option Alert) (request : ℕ) (heap : Heap) → begin_alert of_port request heap ≡ None
     → (of_port ≡ None → is_port_at (request_of request heap).port heap ≡ true) → MayBegin request heap
 may_begin of_port request heap none port =
     let there = passed_first (is_request_at request heap) _ _ none in
@@ -379,7 +380,7 @@ queued_lives request s there queued tidy = tested (is_port_at (request_of reques
 
 -- ---- a task looks for a request
 
-replied_there : (test : Bool) (code : List ℕ) → (if test then None else Some code) ≡ None → test ≡ true
+replied_there : (test : Bool) (code : Alert) → (if test then None else Some code) ≡ None → test ≡ true
 replied_there true code e = refl
 replied_there false code e = none_some e
 

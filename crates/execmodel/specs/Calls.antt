@@ -1,12 +1,14 @@
 -- Calls: the values of their arguments, and how they end. A call that waits is kept with its values, so that a variable that
 -- changes meanwhile is not read again; all other calls leave nothing after.
 use Rattle.std.specs.Prelude.{ℕ, ◌+◌, true, List, Option, None, Some, map, slice_get, slice_index_or, slice_set}
-use Rattle.exectrace.specs.Trace.{Argument, Value, Quoted, Done, Answers, Waits, Alert}
+use Rattle.exectrace.specs.Trace.{Argument, Value, Quoted, Done, Answers, Waits}
 use Rattle.exectrace.specs.Trace as trace
+use Rattle.script.specs.Alerts.{alert_text}
 use Rattle.script.specs.declared.variable.Variable.TheVariants.{Private, Shared}
 use Rattle.script.specs.{declared.variable.Variable.Variable, Commands.ArgumentData, Commands.number, Commands.variable, Commands.quoted, Commands.place, Commands.CommandData, Words.word_text}
 use Rattle.scheduler.specs.Schedule.{name_of}
 use Rattle.execmodel.specs.State.{Call, Scripts, State, Outcome, quiet, says, program_of, with_program, on_scripts}
+use Rattle.script.specs.declared.alert.Alert.{Alert}
 
 -- ---- variables
 
@@ -107,8 +109,8 @@ unfoldable pub silent : ℕ → Call → ℕ → State → Outcome
 silent t call value s = quiet (on_scripts (λ scripts. goes_on t call.next (stored t call.target value scripts)) s)
 
 -- The call is refused: it changes nothing, and the machine stops for good (project rule).
-unfoldable pub alerted : List ℕ → ℕ → Call → State → Outcome
-alerted code t call s = says (Alert code (name_of s.schedule t) (word_text call.word)) (record s { stopped = true })
+unfoldable pub alerted : Alert → ℕ → Call → State → Outcome
+alerted code t call s = says (trace.Alert (alert_text code) (name_of s.schedule t) (word_text call.word)) (record s { stopped = true })
 
 -- ---- who makes a call
 
@@ -140,9 +142,9 @@ silent_by (ByTask t) call value s = silent t call value s
 silent_by (ByBody name) call value s = quiet (on_scripts (stored_shared call.target value) s)
 
 -- a call is refused by an alert, for either caller: the machine stops
-abbrev pub alerted_by : List ℕ → Caller → Call → State → Outcome
+abbrev pub alerted_by : Alert → Caller → Call → State → Outcome
 alerted_by code (ByTask t) call s = alerted code t call s
-alerted_by code (ByBody name) call s = says (Alert code name (word_text call.word)) (record s { stopped = true })
+alerted_by code (ByBody name) call s = says (trace.Alert (alert_text code) name (word_text call.word)) (record s { stopped = true })
 
 -- the value of an argument in a body
 abbrev pub evaluated_in_body : Scripts → ArgumentData → Argument
@@ -165,10 +167,10 @@ call_in_body command scripts = record {
 -- ---- refusing
 
 -- a call that may be refused: by its alert, or else it has its effect
-abbrev pub unless_by : Option (List ℕ) → Caller → Call → (State → Outcome) → State → Outcome
+abbrev pub unless_by : Option Alert → Caller → Call → (State → Outcome) → State → Outcome
 unless_by None c call effect s = effect s
 unless_by (Some code) c call effect s = alerted_by code c call s
 
 -- a call of a task that may be refused: by its alert, or else it has its effect
-abbrev pub unless : Option (List ℕ) → ℕ → Call → (State → Outcome) → State → Outcome
+abbrev pub unless : Option Alert → ℕ → Call → (State → Outcome) → State → Outcome
 unless alert t call effect s = unless_by alert (ByTask t) call effect s

@@ -2,10 +2,11 @@
 -- caller goes on. Each word of lists is such a value, and each of memory.
 use Rattle.std.specs.Prelude.{ℕ, Bool, List, Option, None, Some, unwrap_or}
 use Rattle.execmodel.specs.{State.Call, State.Object, State.Heap, State.Memory, State.State, State.Outcome, State.on_memory, Calls.done, Calls.answered, Calls.unless, Places.placed, Places.freed, Objects.place_for_object, GivingWay.after_asking_for_object}
+use Rattle.script.specs.declared.alert.Alert.{Alert}
 
 -- the alert that refuses the call, if one does; else the blocks after it, and what it answers, if it answers: all of the memory before the call
 pub record Deed : Type 0 where
-  pub alert : Memory → Option (List ℕ)
+  pub alert : Memory → Option Alert
   pub heap : Memory → Heap
   pub answer : Memory → Option ℕ
 
@@ -23,25 +24,25 @@ performs deed t call s =
 -- ---- the forms that most words have
 
 -- the blocks change, and nothing is answered
-abbrev pub changes : (Heap → Option (List ℕ)) → (Heap → Heap) → Deed
+abbrev pub changes : (Heap → Option Alert) → (Heap → Heap) → Deed
 changes alert next = record { alert = λ memory. alert memory.heap; heap = λ memory. next memory.heap; answer = λ memory. None }
 
 -- a value of the blocks is answered, and they change
-abbrev pub takes : (Heap → Option (List ℕ)) → (Heap → ℕ) → (Heap → Heap) → Deed
+abbrev pub takes : (Heap → Option Alert) → (Heap → ℕ) → (Heap → Heap) → Deed
 takes alert value next =
     record { alert = λ memory. alert memory.heap; heap = λ memory. next memory.heap; answer = λ memory. Some (value memory.heap) }
 
 -- a value of the blocks is answered, and they stay as they are
-abbrev pub reads : (Heap → Option (List ℕ)) → (Heap → ℕ) → Deed
+abbrev pub reads : (Heap → Option Alert) → (Heap → ℕ) → Deed
 reads alert value = takes alert value (λ heap. heap)
 
 -- the block at an address is freed
-abbrev pub frees : (Heap → Option (List ℕ)) → ℕ → Deed
+abbrev pub frees : (Heap → Option Alert) → ℕ → Deed
 frees alert address =
     record { alert = λ memory. alert memory.heap; heap = λ memory. (freed address memory).heap; answer = λ memory. None }
 
 -- An object takes that many bytes if it has a place after libraries were asked, and its address is answered, or 0 if it has none.
-abbrev pub allots : Option (List ℕ) → (asked : Memory → Memory) → (place : Memory → Option ℕ) → ℕ → Object → Deed
+abbrev pub allots : Option Alert → (asked : Memory → Memory) → (place : Memory → Option ℕ) → ℕ → Object → Deed
 allots alert asked place size object = record {
   alert = λ memory. alert;
   heap = λ memory. (placed size object (place (asked memory)) (asked memory)).heap;
@@ -49,5 +50,5 @@ allots alert asked place size object = record {
 }
 
 -- an object of a kind is made, which takes that many bytes, and its address is answered, or 0 if it has no place
-abbrev pub makes : Option (List ℕ) → (Object → Bool) → ℕ → Object → Deed
+abbrev pub makes : Option Alert → (Object → Bool) → ℕ → Object → Deed
 makes alert kind size object = allots alert (after_asking_for_object kind size) (place_for_object kind size) size object

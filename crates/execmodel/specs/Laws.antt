@@ -18,6 +18,7 @@ use Rattle.execmodel.specs.State.{Call, Scripts, Object, Plain, Block, Heap, Mem
 use Rattle.execmodel.specs.{Calls.argument, Calls.alerted, Calls.next_call, Calls.call_in_body, Keeping.without_blocks, GivingWay.gives_way, GivingWay.after_asking, GivingWay.after_asking_for_object, Libraries.is_library_at, Libraries.number_of, Libraries.count_of, Libraries.is_delayed, Libraries.ready_to_open, Memory.block_at, Memory.extents, Memory.place_for, Memory.does_memory, Objects.object_at, Ports.is_port_at, Ports.messages_of, Ports.after_asking_for_port, Requests.request_of, Semaphores.sem_of, Semaphores.waiters_of, Pending.allows_interrupts, Pending.next_softint, Pending.with_latch_of, Interrupts.interrupts, Interrupts.runs_softint, Interrupts.softint_at, Interrupts.server_at, Step.does, Step.ends, Step.acts, Step.step, Step.tick, Step.request, Step.settle, Step.switches, Step.all_added, Step.starts, Step.events, Step.run, Agreement.Agrees, Agreement.once_if, Queues.IsInOrder, Marks.turns_at_port, Marks.turns_at_semaphore}
 use Rattle.iorequest.specs.Request.{is_under_way, sets_time, time_of}
 use Rattle.timerdev.specs.Timing.{offset, ticked}
+use Rattle.script.specs.declared.alert.Alert.TheVariants as an_alert
 
 -- Something holds in every state that a run comes to. A state in the midst of an event is the last one of the run of other events: of those
 -- before, and of that one cut short.
@@ -55,7 +56,7 @@ EachByteHasOneOwner =
 abbrev pub FreeMemRefusesObjects : Type 0
 FreeMemRefusesObjects =
     (t : ℕ) (call : Call) (s : State) (object : Object) → object_at (argument 0 call) s.memory.heap ≡ Some object → object ≢ Plain
-    → does_memory FreeMem t call s ≡ alerted (codes "MEM") t call s
+    → does_memory FreeMem t call s ≡ alerted an_alert.Mem t call s
 
 -- ---- actions
 

@@ -6,13 +6,15 @@ use Rattle.script.specs.{File.LibraryData, declared.word.libraries.LibraryWord.L
 use Rattle.script.specs.declared.word.libraries.LibraryWord.TheVariants as word
 use Rattle.execmodel.specs.{State.Call, State.Library, State.Heap, State.Memory, State.State, State.Outcome, State.on_memory, State.on_heap, Calls.argument, Calls.name_argument, Calls.done, Calls.answered, Calls.unless, Places.freed, Places.place_for, Places.placed, GivingWay.after_asking}
 use Rattle.execlib.specs.Libraries.{public_memory, most_openings, only_if}
+use Rattle.script.specs.declared.alert.Alert.TheVariants as an_alert
+use Rattle.script.specs.declared.alert.Alert.{Alert}
 unfoldable pub use Rattle.execmodel.specs.Loaded.{is_library, is_library_at, library_number, count_in, delayed_in, number_of, count_of, is_delayed, with_library, is_numbered, base_of, removed}
 
 -- ---- refusals
 
 -- the alert of a call on a library
-unfoldable pub library_alert : ℕ → Heap → Option (List ℕ)
-library_alert base heap = if not (is_library_at base heap) then Some (codes "HANDLE") else None
+unfoldable pub library_alert : ℕ → Heap → Option Alert
+library_alert base heap = if not (is_library_at base heap) then Some an_alert.Handle else None
 
 -- ---- opening
 
@@ -96,10 +98,10 @@ does_open_library t call s =
 -- ---- closing and removing
 
 -- the alert of CloseLibrary: the library must be open
-unfoldable pub close_alert : ℕ → Heap → Option (List ℕ)
+unfoldable pub close_alert : ℕ → Heap → Option Alert
 close_alert base heap =
-    if not (is_library_at base heap) then Some (codes "HANDLE")
-    else (if nat_eq (count_of base heap) 0 then Some (codes "LIB") else None)
+    if not (is_library_at base heap) then Some an_alert.Handle
+    else (if nat_eq (count_of base heap) 0 then Some an_alert.Lib else None)
 
 -- a library is open once less; one that is to be expunged, and is open no more, is freed (autodoc CloseLibrary)
 unfoldable pub closed : ℕ → Memory → Memory

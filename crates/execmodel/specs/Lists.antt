@@ -7,6 +7,8 @@ use Rattle.execlist.specs.{Order.enqueue, Order.first, Order.without, Lists.Key,
 use Rattle.script.specs.declared.word.lists.ListWord.{ListWord}
 use Rattle.script.specs.declared.word.lists.ListWord.TheVariants as word
 use Rattle.execmodel.specs.{State.Call, State.Object, State.ListHead, State.Node, State.Block, State.Heap, State.State, State.Outcome, Calls.argument, Calls.name_argument, Deeds.Deed, Deeds.performs, Deeds.changes, Deeds.takes, Deeds.reads, Deeds.frees, Deeds.makes, Objects.object_at, Objects.is_kind, Tasks.is_priority}
+use Rattle.script.specs.declared.alert.Alert.TheVariants as an_alert
+use Rattle.script.specs.declared.alert.Alert.{Alert}
 
 -- ---- lists and nodes in memory
 
@@ -102,29 +104,29 @@ abbrev pub node_size : ℕ
 node_size = 14
 
 -- the alert of a call that frees a list: it has to be empty
-unfoldable pub free_list_alert : ℕ → Heap → Option (List ℕ)
+unfoldable pub free_list_alert : ℕ → Heap → Option Alert
 free_list_alert list heap =
-    if not (is_list_at list heap) then Some (codes "HANDLE")
-    else (if is_some (first (nodes_of list heap)) then Some (codes "LINK") else None)
+    if not (is_list_at list heap) then Some an_alert.Handle
+    else (if is_some (first (nodes_of list heap)) then Some an_alert.Link else None)
 
 -- the alert of NewNode: the priority has to be one that a task may have
-abbrev pub new_node_alert : ℤ → Option (List ℕ)
-new_node_alert pri = if not (is_priority pri) then Some (codes "VALUE") else None
+abbrev pub new_node_alert : ℤ → Option Alert
+new_node_alert pri = if not (is_priority pri) then Some an_alert.Value else None
 
 -- the alert of a call that frees a node: it must not be linked
-unfoldable pub free_node_alert : ℕ → Heap → Option (List ℕ)
+unfoldable pub free_node_alert : ℕ → Heap → Option Alert
 free_node_alert node heap =
-    if not (is_node_at node heap) then Some (codes "HANDLE")
-    else (if is_linked node heap then Some (codes "LINK") else None)
+    if not (is_node_at node heap) then Some an_alert.Handle
+    else (if is_linked node heap then Some an_alert.Link else None)
 
 -- ---- linking
 
 -- the alert of a call that links a node into a list: it must not be linked
-unfoldable pub link_alert : ℕ → ℕ → Heap → Option (List ℕ)
+unfoldable pub link_alert : ℕ → ℕ → Heap → Option Alert
 link_alert list node heap =
-    if not (is_list_at list heap) then Some (codes "HANDLE")
-    else (if not (is_node_at node heap) then Some (codes "HANDLE")
-    else (if is_linked node heap then Some (codes "LINK") else None))
+    if not (is_list_at list heap) then Some an_alert.Handle
+    else (if not (is_node_at node heap) then Some an_alert.Handle
+    else (if is_linked node heap then Some an_alert.Link else None))
 
 -- the node is put first
 unfoldable pub added_head : ℕ → ℕ → Heap → Heap
@@ -149,8 +151,8 @@ is_pred_at None heap = true
 is_pred_at (Some pred) heap = is_node_at pred heap
 
 -- the alert of a predecessor that is no node
-abbrev pub pred_alert : Option ℕ → Heap → Option (List ℕ)
-pred_alert pred heap = if not (is_pred_at pred heap) then Some (codes "HANDLE") else None
+abbrev pub pred_alert : Option ℕ → Heap → Option Alert
+pred_alert pred heap = if not (is_pred_at pred heap) then Some an_alert.Handle else None
 
 -- a predecessor, if there is one, is in the list
 abbrev pub is_pred_in : Option ℕ → ℕ → Heap → Bool
@@ -158,13 +160,13 @@ is_pred_in None list heap = true
 is_pred_in (Some pred) list heap = stands_in pred (nodes_of list heap)
 
 -- the alert of Insert: the node must not be linked, and the predecessor has to be in the list
-unfoldable pub insert_alert : ℕ → ℕ → ℕ → Heap → Option (List ℕ)
+unfoldable pub insert_alert : ℕ → ℕ → ℕ → Heap → Option Alert
 insert_alert list node pred heap =
-    if not (is_list_at list heap) then Some (codes "HANDLE")
-    else (if not (is_node_at node heap) then Some (codes "HANDLE")
-    else (if not (is_pred_at (predecessor pred) heap) then Some (codes "HANDLE")
-    else (if is_linked node heap then Some (codes "LINK")
-    else (if not (is_pred_in (predecessor pred) list heap) then Some (codes "LINK") else None))))
+    if not (is_list_at list heap) then Some an_alert.Handle
+    else (if not (is_node_at node heap) then Some an_alert.Handle
+    else (if not (is_pred_at (predecessor pred) heap) then Some an_alert.Handle
+    else (if is_linked node heap then Some an_alert.Link
+    else (if not (is_pred_in (predecessor pred) list heap) then Some an_alert.Link else None))))
 
 -- the node is put after its predecessor, or first for 0
 unfoldable pub inserted : ℕ → ℕ → ℕ → Heap → Heap
@@ -173,14 +175,14 @@ inserted list node pred heap = with_nodes list (put_after (predecessor pred) nod
 -- ---- unlinking
 
 -- the alert of a call on a linked node
-unfoldable pub linked_alert : ℕ → Heap → Option (List ℕ)
+unfoldable pub linked_alert : ℕ → Heap → Option Alert
 linked_alert node heap =
-    if not (is_node_at node heap) then Some (codes "HANDLE")
-    else (if not (is_linked node heap) then Some (codes "LINK") else None)
+    if not (is_node_at node heap) then Some an_alert.Handle
+    else (if not (is_linked node heap) then Some an_alert.Link else None)
 
 -- the alert of a call on a list
-unfoldable pub list_alert : ℕ → Heap → Option (List ℕ)
-list_alert list heap = if not (is_list_at list heap) then Some (codes "HANDLE") else None
+unfoldable pub list_alert : ℕ → Heap → Option Alert
+list_alert list heap = if not (is_list_at list heap) then Some an_alert.Handle else None
 
 -- the first node of a list, or 0 if it is empty
 unfoldable pub first_of : ℕ → Heap → ℕ
@@ -209,7 +211,7 @@ unfoldable pub pred_of : ℕ → Heap → ℕ
 pred_of node heap = or_none (last (part_before node (sequence_with node heap)))
 
 -- the alert of FindName: it begins at a list, or after a linked node
-unfoldable pub find_alert : ℕ → Heap → Option (List ℕ)
+unfoldable pub find_alert : ℕ → Heap → Option Alert
 find_alert start heap = if is_list_at start heap then None else linked_alert start heap
 
 -- the nodes among which FindName looks: those of the list, or those after the node

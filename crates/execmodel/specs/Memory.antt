@@ -5,6 +5,8 @@ use Rattle.script.specs.declared.word.memory.MemoryWord.{MemoryWord}
 use Rattle.script.specs.declared.word.memory.MemoryWord.TheVariants as word
 use Rattle.execmodel.specs.{State.Call, State.Object, State.Plain, State.Block, State.Heap, State.State, State.Outcome, State.on_memory, Calls.argument, Calls.answered, Deeds.Deed, Deeds.performs, Deeds.allots, Deeds.frees, Objects.place_for_object, GivingWay.after_asking}
 pub use Rattle.execmodel.specs.Places.{block_at, extents, place_for, placed, freed}
+use Rattle.script.specs.declared.alert.Alert.TheVariants as an_alert
+use Rattle.script.specs.declared.alert.Alert.{Alert}
 
 -- ---- AllocMem
 
@@ -25,8 +27,8 @@ abbrev pub makes_object : ℕ → Call → (Object → Bool) → ℕ → Object 
 makes_object t call kind size object s = allocates t call size object (place_for_object kind size s.memory) s
 
 -- the alert of AllocMem: it knows no other requirements
-abbrev pub alloc_alert : ℕ → Option (List ℕ)
-alloc_alert reqs = if not (has_only alloc_bits reqs) then Some (codes "VALUE") else None
+abbrev pub alloc_alert : ℕ → Option Alert
+alloc_alert reqs = if not (has_only alloc_bits reqs) then Some an_alert.Value else None
 
 -- ---- FreeMem
 
@@ -41,8 +43,8 @@ is_named size None = false
 is_named size (Some block) = is_plain block.object && nat_lt 0 size && nat_eq (round size) block.size
 
 -- the alert of FreeMem: a plain block begins at the address, and the size names it
-abbrev pub free_alert : ℕ → ℕ → Heap → Option (List ℕ)
-free_alert address size heap = if not (is_named size (block_at address heap)) then Some (codes "MEM") else None
+abbrev pub free_alert : ℕ → ℕ → Heap → Option Alert
+free_alert address size heap = if not (is_named size (block_at address heap)) then Some an_alert.Mem else None
 
 -- ---- AvailMem
 
@@ -55,8 +57,8 @@ abbrev pub can_be_asked : ℕ → Bool
 can_be_asked reqs = has_only avail_bits reqs && not (asks 17 reqs && asks 19 reqs)
 
 -- the alert of AvailMem
-abbrev pub avail_alert : ℕ → Option (List ℕ)
-avail_alert reqs = if not (can_be_asked reqs) then Some (codes "VALUE") else None
+abbrev pub avail_alert : ℕ → Option Alert
+avail_alert reqs = if not (can_be_asked reqs) then Some an_alert.Value else None
 
 -- ---- the words of this group
 

@@ -6,10 +6,12 @@ use Rattle.scheduler.specs.Schedule.{nesting_of, nested}
 use Rattle.script.specs.declared.word.nesting.NestingWord.{NestingWord}
 use Rattle.script.specs.declared.word.nesting.NestingWord.TheVariants as word
 use Rattle.execmodel.specs.{State.Call, State.State, State.Outcome, State.on_schedule, Calls.done, Calls.unless}
+use Rattle.script.specs.declared.alert.Alert.TheVariants as an_alert
+use Rattle.script.specs.declared.alert.Alert.{Alert}
 
 -- the alert of such a call: the count has no room for it
-abbrev pub nest_alert : Bool → Option (List ℕ)
-nest_alert fits = if not fits then Some (codes "NEST") else None
+abbrev pub nest_alert : Bool → Option Alert
+nest_alert fits = if not fits then Some an_alert.Nest else None
 
 -- such a call is done, or refused
 abbrev pub done_or_nest : Bool → ℕ → Call → State → Outcome

@@ -15,6 +15,8 @@ use Rattle.script.specs.declared.word.ports.PortWord.{PortWord}
 use Rattle.script.specs.declared.word.ports.PortWord.TheVariants as word
 use Rattle.execmodel.specs.State.{Call, Object, MsgPort, Message, Request, Block, Heap, PublicPort, Memory, State, Outcome, put, got, leaving, on_schedule, on_memory, on_heap}
 use Rattle.execmodel.specs.{Calls.Caller, Calls.ByTask, Calls.argument, Calls.name_argument, Calls.done, Calls.done_by, Calls.answered, Calls.answered_by, Calls.waiting, Calls.unless, Calls.unless_by, Pending.causes, Pending.softint_named, GivingWay.after_asking_for_object, Memory.makes_object, Memory.freed, Memory.placed, Objects.object_at, Objects.is_kind, Objects.place_for_object, Objects.replaced, Tasks.is_priority}
+use Rattle.script.specs.declared.alert.Alert.TheVariants as an_alert
+use Rattle.script.specs.declared.alert.Alert.{Alert}
 
 -- ---- ports and messages in memory
 
@@ -96,12 +98,12 @@ with_content address content heap =
     if is_message_at address heap then map (replaced address (Message content)) heap else heap
 
 -- the alert of a call on a port: HANDLE if no port begins at the address
-unfoldable pub port_alert : ℕ → Heap → Option (List ℕ)
-port_alert port heap = if not (is_port_at port heap) then Some (codes "HANDLE") else None
+unfoldable pub port_alert : ℕ → Heap → Option Alert
+port_alert port heap = if not (is_port_at port heap) then Some an_alert.Handle else None
 
 -- the alert of a call on a message: HANDLE if no message begins at the address
-unfoldable pub message_alert : ℕ → Heap → Option (List ℕ)
-message_alert message heap = if not (is_message_at message heap) then Some (codes "HANDLE") else None
+unfoldable pub message_alert : ℕ → Heap → Option Alert
+message_alert message heap = if not (is_message_at message heap) then Some an_alert.Handle else None
 
 -- ---- public ports
 
@@ -182,12 +184,12 @@ unfoldable pub is_awaited_at : ℕ → Heap → Bool
 is_awaited_at port heap = list_any (λ (entry : ℕ × Block). replies_to port entry.1.object) heap
 
 -- the alert of a call that frees a port: it must have no message, not be public, and no request under way must have it as reply port
-unfoldable pub delete_alert : ℕ → Memory → Option (List ℕ)
+unfoldable pub delete_alert : ℕ → Memory → Option Alert
 delete_alert port memory =
-    if not (is_port_at port memory.heap) then Some (codes "HANDLE")
-    else (if is_some (first (messages_of port memory.heap)) then Some (codes "PORT")
-    else (if is_public port memory then Some (codes "PORT")
-    else (if is_awaited_at port memory.heap then Some (codes "PORT") else None)))
+    if not (is_port_at port memory.heap) then Some an_alert.Handle
+    else (if is_some (first (messages_of port memory.heap)) then Some an_alert.Port
+    else (if is_public port memory then Some an_alert.Port
+    else (if is_awaited_at port memory.heap then Some an_alert.Port else None)))
 
 -- the task of a port has its signal no more (autodoc DeleteMsgPort)
 abbrev pub gives_back : Port → Schedule → Schedule
@@ -205,11 +207,11 @@ does_delete_msg_port t call s =
 -- ---- public ports: calls
 
 -- the alert of AddPort: the port must not be public
-unfoldable pub add_port_alert : ℕ → ℤ → Memory → Option (List ℕ)
+unfoldable pub add_port_alert : ℕ → ℤ → Memory → Option Alert
 add_port_alert port pri memory =
-    if not (is_port_at port memory.heap) then Some (codes "HANDLE")
-    else (if not (is_priority pri) then Some (codes "VALUE")
-    else (if is_public port memory then Some (codes "LINK") else None))
+    if not (is_port_at port memory.heap) then Some an_alert.Handle
+    else (if not (is_priority pri) then Some an_alert.Value
+    else (if is_public port memory then Some an_alert.Link else None))
 
 -- AddPort port name pri: the port is public under the name; its messages stay (autodoc exec.library/AddPort; that the priority is read as
 -- a signed word, that the messages stay, and the alerts: project rule)
@@ -221,10 +223,10 @@ does_add_port t call s =
     unless (add_port_alert port pri s.memory) t call (λ s. done t call (on_memory (made_public port name pri) s)) s
 
 -- the alert of RemPort: the port has to be public
-unfoldable pub rem_port_alert : ℕ → Memory → Option (List ℕ)
+unfoldable pub rem_port_alert : ℕ → Memory → Option Alert
 rem_port_alert port memory =
-    if not (is_port_at port memory.heap) then Some (codes "HANDLE")
-    else (if is_public port memory then None else Some (codes "LINK"))
+    if not (is_port_at port memory.heap) then Some an_alert.Handle
+    else (if is_public port memory then None else Some an_alert.Link)
 
 -- RemPort port: the port is public no more (autodoc exec.library/RemPort; the alerts: project rule)
 unfoldable pub does_rem_port : ℕ → Call → State → Outcome
@@ -267,7 +269,7 @@ does_port_ignore t call s =
 -- ---- making and freeing messages
 
 -- the alert of a reply port: it is 0 for none, or a port
-unfoldable pub reply_port_alert : ℕ → Heap → Option (List ℕ)
+unfoldable pub reply_port_alert : ℕ → Heap → Option Alert
 reply_port_alert port heap = if nat_eq port 0 then None else port_alert port heap
 
 -- NewMsg port word: answers the address of a new message with that reply port, or none for 0, and that word; or 0 (project rule)
@@ -279,10 +281,10 @@ does_new_msg t call s =
     (λ s. makes_object t call is_message message_size (Message content) (on_memory (after_asking_for_object is_message message_size) s)) s
 
 -- the alert of a call on a message that is in no port
-unfoldable pub loose_alert : ℕ → Heap → Option (List ℕ)
+unfoldable pub loose_alert : ℕ → Heap → Option Alert
 loose_alert message heap =
-    if not (is_message_at message heap) then Some (codes "HANDLE")
-    else (if is_queued message heap then Some (codes "LINK") else None)
+    if not (is_message_at message heap) then Some an_alert.Handle
+    else (if is_queued message heap then Some an_alert.Link else None)
 
 -- FreeMsg message: a message that is in no port is freed (project rule)
 unfoldable pub does_free_msg : ℕ → Call → State → Outcome
@@ -342,8 +344,8 @@ delivered kind port message s =
     performed (acting (port_of port s.memory.heap)) (on_memory (on_heap (posted kind port message)) s)
 
 -- the alert of PutMsg: the message must be in no port
-unfoldable pub put_alert : ℕ → ℕ → Heap → Option (List ℕ)
-put_alert port message heap = if not (is_port_at port heap) then Some (codes "HANDLE") else loose_alert message heap
+unfoldable pub put_alert : ℕ → ℕ → Heap → Option Alert
+put_alert port message heap = if not (is_port_at port heap) then Some an_alert.Handle else loose_alert message heap
 
 -- PutMsg port message: the message is put at the port, after those that it has (autodoc exec.library/PutMsg; the alerts: project rule)
 abbrev pub does_put_msg_by : Caller → Call → State → Outcome
@@ -358,10 +360,10 @@ unfoldable pub does_put_msg : ℕ → Call → State → Outcome
 does_put_msg t call s = does_put_msg_by (ByTask t) call s
 
 -- the alert of ReplyMsg: the message must be in no port, and its reply port is to live, if it has one
-unfoldable pub reply_alert : ℕ → Heap → Option (List ℕ)
+unfoldable pub reply_alert : ℕ → Heap → Option Alert
 reply_alert message heap =
-    if not (is_message_at message heap) then Some (codes "HANDLE")
-    else (if is_queued message heap then Some (codes "LINK") else reply_port_alert (content_of message heap).reply heap)
+    if not (is_message_at message heap) then Some an_alert.Handle
+    else (if is_queued message heap then Some an_alert.Link else reply_port_alert (content_of message heap).reply heap)
 
 -- a message with that reply port, or 0, is replied
 abbrev pub replied_by : ℕ → Caller → Call → ℕ → State → Outcome
@@ -409,10 +411,10 @@ unfoldable pub does_get_msg : ℕ → Call → State → Outcome
 does_get_msg t call s = does_get_msg_by (ByTask t) call s
 
 -- the alert of WaitPort for task t: the port has to signal that task
-unfoldable pub wait_alert : ℕ → ℕ → Heap → Option (List ℕ)
+unfoldable pub wait_alert : ℕ → ℕ → Heap → Option Alert
 wait_alert t port heap =
-    if not (is_port_at port heap) then Some (codes "HANDLE")
-    else (if is_some (wait_bit t (port_of port heap)) then None else Some (codes "PORT"))
+    if not (is_port_at port heap) then Some an_alert.Handle
+    else (if is_some (wait_bit t (port_of port heap)) then None else Some an_alert.Port)
 
 -- signals of a mask leave those that task t has received
 abbrev pub loses : ℕ → ℕ → Schedule → Schedule

@@ -17,6 +17,8 @@ use Rattle.script.specs.declared.word.requests.RequestWord.TheVariants as word
 use Rattle.execmodel.specs.State.{Call, Object, Request, Heap, AtClock, AtSystem, Timer as Clock, Memory, State, Outcome, put, out, leaving, quiet, says, andthen, on_schedule, on_memory, on_heap, on_timer}
 use Rattle.execmodel.specs.{Calls.argument, Calls.name_argument, Calls.done, Calls.answered, Calls.waiting, Calls.unless, GivingWay.after_asking_for_object, Memory.makes_object, Memory.freed, Objects.object_at, Objects.is_kind, Objects.replaced, Ports.appended, Ports.is_port_at, Ports.is_queued, Ports.loses, Ports.messages_of, Ports.performed, Ports.port_alert, Ports.port_of, Ports.wait_alert, Ports.with_port, Semaphores.is_tried_again}
 use Rattle.timerdev.specs.Timing.{begins_to_wait, due_next, looked_at, system_set, until_next, waits_no_more}
+use Rattle.script.specs.declared.alert.Alert.TheVariants as an_alert
+use Rattle.script.specs.declared.alert.Alert.{Alert}
 
 -- ---- requests in memory
 
@@ -51,54 +53,54 @@ with_request address content heap =
 -- ---- refusals
 
 -- the alert of a call on a request
-unfoldable pub request_alert : ℕ → Heap → Option (List ℕ)
-request_alert request heap = if not (is_request_at request heap) then Some (codes "HANDLE") else None
+unfoldable pub request_alert : ℕ → Heap → Option Alert
+request_alert request heap = if not (is_request_at request heap) then Some an_alert.Handle else None
 
 -- the alert of a call on a request that is not to be under way
-unfoldable pub resting_alert : ℕ → Heap → Option (List ℕ)
+unfoldable pub resting_alert : ℕ → Heap → Option Alert
 resting_alert request heap =
-    if not (is_request_at request heap) then Some (codes "HANDLE")
-    else (if is_under_way (request_of request heap) then Some (codes "IO") else None)
+    if not (is_request_at request heap) then Some an_alert.Handle
+    else (if is_under_way (request_of request heap) then Some an_alert.Io else None)
 
 -- the alert of a call that frees a request: its reply is not to be queued either
-unfoldable pub delete_request_alert : ℕ → Heap → Option (List ℕ)
+unfoldable pub delete_request_alert : ℕ → Heap → Option Alert
 delete_request_alert request heap =
-    if not (is_request_at request heap) then Some (codes "HANDLE")
-    else (if is_under_way (request_of request heap) then Some (codes "IO")
-    else (if is_queued request heap then Some (codes "LINK") else None))
+    if not (is_request_at request heap) then Some an_alert.Handle
+    else (if is_under_way (request_of request heap) then Some an_alert.Io
+    else (if is_queued request heap then Some an_alert.Link else None))
 
 -- a request may begin: it is not under way, and open
 abbrev pub can_begin : TimerRequest → Bool
 can_begin content = not (is_under_way content) && is_open content
 
 -- the alert of a call that begins a request, whose reply port is judged by the last alert
-abbrev pub begin_alert : Option (List ℕ) → ℕ → Heap → Option (List ℕ)
+abbrev pub begin_alert : Option Alert → ℕ → Heap → Option Alert
 begin_alert of_port request heap =
-    if not (is_request_at request heap) then Some (codes "HANDLE")
-    else (if not (can_begin (request_of request heap)) then Some (codes "IO")
-    else (if is_queued request heap then Some (codes "LINK") else of_port))
+    if not (is_request_at request heap) then Some an_alert.Handle
+    else (if not (can_begin (request_of request heap)) then Some an_alert.Io
+    else (if is_queued request heap then Some an_alert.Link else of_port))
 
 -- the alert of SendIO: the reply port has to live
-unfoldable pub send_alert : ℕ → Heap → Option (List ℕ)
+unfoldable pub send_alert : ℕ → Heap → Option Alert
 send_alert request heap = begin_alert (port_alert (request_of request heap).port heap) request heap
 
 -- the alert of DoIO for task t: the reply port has to live and to signal that task
-unfoldable pub do_alert : ℕ → ℕ → Heap → Option (List ℕ)
+unfoldable pub do_alert : ℕ → ℕ → Heap → Option Alert
 do_alert t request heap = begin_alert (wait_alert t (request_of request heap).port heap) request heap
 
 -- the alert of WaitIO for task t by how far the request has come: it was begun; if it is under way, its reply port has to signal that task;
 -- if it was replied, its reply is still queued
-abbrev pub state_alert : ReqState → ℕ → ℕ → Heap → Option (List ℕ)
-state_alert Idle t request heap = Some (codes "IO")
+abbrev pub state_alert : ReqState → ℕ → ℕ → Heap → Option Alert
+state_alert Idle t request heap = Some an_alert.Io
 state_alert UnderWay t request heap = wait_alert t (request_of request heap).port heap
 state_alert Quick t request heap = None
-state_alert Replied t request heap = if is_queued request heap then None else Some (codes "LINK")
+state_alert Replied t request heap = if is_queued request heap then None else Some an_alert.Link
 
 -- the alerts of WaitIO: HANDLE; IO for a request that was never begun; LINK for one that was replied and whose reply is in no port; of one
 -- in progress the alert of WaitPort at its reply port
-unfoldable pub wait_io_alert : ℕ → ℕ → Heap → Option (List ℕ)
+unfoldable pub wait_io_alert : ℕ → ℕ → Heap → Option Alert
 wait_io_alert t request heap =
-    if not (is_request_at request heap) then Some (codes "HANDLE")
+    if not (is_request_at request heap) then Some an_alert.Handle
     else state_alert (request_of request heap).state t request heap
 
 -- ---- finishing
@@ -248,11 +250,11 @@ abbrev pub is_command : ℕ → Bool
 is_command command = nat_lt command 65536
 
 -- the alert of SetIO
-unfoldable pub set_io_alert : ℕ → ℕ → Heap → Option (List ℕ)
+unfoldable pub set_io_alert : ℕ → ℕ → Heap → Option Alert
 set_io_alert command request heap =
-    if not (is_request_at request heap) then Some (codes "HANDLE")
-    else (if not (is_command command) then Some (codes "VALUE")
-    else (if is_under_way (request_of request heap) then Some (codes "IO") else None))
+    if not (is_request_at request heap) then Some an_alert.Handle
+    else (if not (is_command command) then Some an_alert.Value
+    else (if is_under_way (request_of request heap) then Some an_alert.Io else None))
 
 -- SetIO request cmd secs micros: the request gets that command and that time (RKM Devices, Introduction to Amiga System Devices: io_Command;
 -- Devices, timer device: tr_time; that there is a call for it, and the alerts: project rule)

@@ -12,6 +12,8 @@ use Rattle.script.specs.declared.word.semaphores.SemaphoreWord.{SemaphoreWord}
 use Rattle.script.specs.declared.word.semaphores.SemaphoreWord.TheVariants as word
 use Rattle.execmodel.specs.State.{Call, Scripts, Object, Semaphore, Block, Heap, State, Outcome, asked, passed, left, leaving, program_of, on_schedule, on_memory, on_heap}
 use Rattle.execmodel.specs.{Calls.argument, Calls.done, Calls.answered, Calls.waiting, Calls.unless, GivingWay.after_asking_for_object, Memory.makes_object, Memory.freed, Objects.object_at, Objects.is_kind, Objects.replaced}
+use Rattle.script.specs.declared.alert.Alert.TheVariants as an_alert
+use Rattle.script.specs.declared.alert.Alert.{Alert}
 
 -- ---- semaphores in memory
 
@@ -57,8 +59,8 @@ unfoldable pub with_semaphore : ℕ → Sem → List ℕ → Heap → Heap
 with_semaphore address sem waiters heap = map (replaced address (Semaphore sem waiters)) heap
 
 -- the alert of a call on a semaphore
-unfoldable pub semaphore_alert : ℕ → Heap → Option (List ℕ)
-semaphore_alert semaphore heap = if not (is_semaphore_at semaphore heap) then Some (codes "HANDLE") else None
+unfoldable pub semaphore_alert : ℕ → Heap → Option Alert
+semaphore_alert semaphore heap = if not (is_semaphore_at semaphore heap) then Some an_alert.Handle else None
 
 -- ---- owners
 
@@ -107,10 +109,10 @@ does_new_sem t call s =
     makes_object t call is_semaphore semaphore_size (Semaphore free_sem []) (on_memory (after_asking_for_object is_semaphore semaphore_size) s)
 
 -- the alert of a call that frees a semaphore: no task is to own it
-unfoldable pub free_sem_alert : ℕ → Heap → Option (List ℕ)
+unfoldable pub free_sem_alert : ℕ → Heap → Option Alert
 free_sem_alert semaphore heap =
-    if not (is_semaphore_at semaphore heap) then Some (codes "HANDLE")
-    else (if is_owned (sem_of semaphore heap) then Some (codes "SEM") else None)
+    if not (is_semaphore_at semaphore heap) then Some an_alert.Handle
+    else (if is_owned (sem_of semaphore heap) then Some an_alert.Sem else None)
 
 -- FreeSem semaphore: a semaphore that no task owns is freed (project rule)
 unfoldable pub does_free_sem : ℕ → Call → State → Outcome
@@ -121,10 +123,10 @@ does_free_sem t call s =
 -- ---- obtaining
 
 -- the alert of a call by which task t asks for a semaphore: if it owns it, the count must not go past 32767
-unfoldable pub obtain_alert : ℕ → ℕ → Heap → Option (List ℕ)
+unfoldable pub obtain_alert : ℕ → ℕ → Heap → Option Alert
 obtain_alert t semaphore heap =
-    if not (is_semaphore_at semaphore heap) then Some (codes "HANDLE")
-    else (if is_too_deep t (sem_of semaphore heap) then Some (codes "SEM") else None)
+    if not (is_semaphore_at semaphore heap) then Some an_alert.Handle
+    else (if is_too_deep t (sem_of semaphore heap) then Some an_alert.Sem else None)
 
 -- the semaphore is the task's at once, or the task waits for it (autodocs ObtainSemaphore and AttemptSemaphore)
 unfoldable pub obtained : ℕ → ℕ → Heap → Heap
@@ -164,10 +166,10 @@ does_attempt_semaphore t call s =
 -- ---- releasing
 
 -- the alert of ReleaseSemaphore for task t: it has to own the semaphore
-unfoldable pub release_alert : ℕ → ℕ → Heap → Option (List ℕ)
+unfoldable pub release_alert : ℕ → ℕ → Heap → Option Alert
 release_alert t semaphore heap =
-    if not (is_semaphore_at semaphore heap) then Some (codes "HANDLE")
-    else (if is_owner t (sem_of semaphore heap) then None else Some (codes "SEM"))
+    if not (is_semaphore_at semaphore heap) then Some an_alert.Handle
+    else (if is_owner t (sem_of semaphore heap) then None else Some an_alert.Sem)
 
 -- the task that a release makes the owner: the last release the first one that waits, and else none (autodoc ReleaseSemaphore)
 unfoldable pub heir : ℕ → Heap → Option ℕ

@@ -7,6 +7,8 @@ use Rattle.scheduler.specs.{Schedule.signals_of, Schedule.come_for, Schedule.aft
 use Rattle.script.specs.declared.word.task_signals.SignalWord.{SignalWord}
 use Rattle.script.specs.declared.word.task_signals.SignalWord.TheVariants as word
 use Rattle.execmodel.specs.{State.Call, State.Scripts, State.State, State.Outcome, State.on_schedule, Calls.Caller, Calls.ByTask, Calls.argument, Calls.done, Calls.done_by, Calls.answered, Calls.waiting, Calls.unless, Calls.unless_by}
+use Rattle.script.specs.declared.alert.Alert.TheVariants as an_alert
+use Rattle.script.specs.declared.alert.Alert.{Alert}
 
 -- there is a task of that number; the first one is 1
 abbrev pub is_task : ℕ → Scripts → Bool
@@ -17,8 +19,8 @@ abbrev pub is_mask : ℕ → Bool
 is_mask mask = nat_eq (bit_and mask 0xfff) 0
 
 -- the alert of a mask
-abbrev pub mask_alert : ℕ → Option (List ℕ)
-mask_alert mask = if not (is_mask mask) then Some (codes "MASK") else None
+abbrev pub mask_alert : ℕ → Option Alert
+mask_alert mask = if not (is_mask mask) then Some an_alert.Mask else None
 
 -- ---- allocating signals
 
@@ -30,8 +32,8 @@ does_alloc_signal t call s =
     answered t call (cast_unsigned w32 (grant_number (grant n (signals_of s.schedule t)))) (on_schedule (allocates t n) s)
 
 -- the alert of FreeSignal: the number is that of a signal that a task may allocate
-abbrev pub free_signal_alert : ℕ → Option (List ℕ)
-free_signal_alert n = if not (is_own_signal n) then Some (codes "MASK") else None
+abbrev pub free_signal_alert : ℕ → Option Alert
+free_signal_alert n = if not (is_own_signal n) then Some an_alert.Mask else None
 
 -- FreeSignal a: the signal is not allocated any more; -1 does nothing (autodoc exec.library/FreeSignal; the alert: project rule)
 unfoldable pub does_free_signal : ℕ → Call → State → Outcome
@@ -52,8 +54,8 @@ does_set_signal t call s =
 -- ---- signalling and waiting
 
 -- the alert of Signal: there is a task of that number, and the mask is one of scripts
-abbrev pub signal_alert : ℕ → ℕ → Scripts → Option (List ℕ)
-signal_alert number mask scripts = if not (is_task number scripts) then Some (codes "HANDLE") else mask_alert mask
+abbrev pub signal_alert : ℕ → ℕ → Scripts → Option Alert
+signal_alert number mask scripts = if not (is_task number scripts) then Some an_alert.Handle else mask_alert mask
 
 -- Signal t mask: the task of that number receives the signals of the mask (autodoc exec.library/Signal; the alerts: project rule)
 abbrev pub does_signal_by : Caller → Call → State → Outcome

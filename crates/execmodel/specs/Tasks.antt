@@ -7,6 +7,8 @@ use Rattle.scheduler.specs.{Schedule.Schedule, Schedule.status_of, Schedule.prio
 use Rattle.script.specs.declared.word.tasks.TaskWord.{TaskWord}
 use Rattle.script.specs.declared.word.tasks.TaskWord.TheVariants as word
 use Rattle.execmodel.specs.{State.Call, State.Scripts, State.State, State.Outcome, State.on_schedule, State.on_memory, State.on_heap, Calls.argument, Calls.name_argument, Calls.done, Calls.answered, Calls.unless, Signals.is_task, Semaphores.awaited_by, Semaphores.dropped, Semaphores.leaving_queue}
+use Rattle.script.specs.declared.alert.Alert.TheVariants as an_alert
+use Rattle.script.specs.declared.alert.Alert.{Alert}
 
 -- there is a live task of that number
 abbrev pub is_live_task : ℕ → Scripts → Schedule → Bool
@@ -17,14 +19,14 @@ abbrev pub is_priority : ℤ → Bool
 is_priority pri = int_le (negsuc 127) pri && int_le pri (pos 127)
 
 -- the alert of a call on a live task
-abbrev pub live_task_alert : ℕ → Scripts → Schedule → Option (List ℕ)
-live_task_alert number scripts schedule = if not (is_live_task number scripts schedule) then Some (codes "HANDLE") else None
+abbrev pub live_task_alert : ℕ → Scripts → Schedule → Option Alert
+live_task_alert number scripts schedule = if not (is_live_task number scripts schedule) then Some an_alert.Handle else None
 
 -- the alert of SetTaskPri: the task lives, and may have the priority
-abbrev pub set_task_pri_alert : ℕ → ℤ → Scripts → Schedule → Option (List ℕ)
+abbrev pub set_task_pri_alert : ℕ → ℤ → Scripts → Schedule → Option Alert
 set_task_pri_alert number pri scripts schedule =
-    if not (is_live_task number scripts schedule) then Some (codes "HANDLE")
-    else (if not (is_priority pri) then Some (codes "VALUE") else None)
+    if not (is_live_task number scripts schedule) then Some an_alert.Handle
+    else (if not (is_priority pri) then Some an_alert.Value else None)
 
 -- SetTaskPri task pri: answers the old priority; a ready task arrives anew. The priority is read as a signed word, and answered as
 -- one (autodoc exec.library/SetTaskPri).
@@ -38,8 +40,8 @@ does_set_task_pri t call s =
     answered t call (cast_unsigned w32 old) (on_schedule (reprioritized by_arrival (number - 1) pri) s)) s
 
 -- the alert of AddTask: there is a task of that number
-abbrev pub add_task_alert : ℕ → Scripts → Option (List ℕ)
-add_task_alert number scripts = if not (is_task number scripts) then Some (codes "HANDLE") else None
+abbrev pub add_task_alert : ℕ → Scripts → Option Alert
+add_task_alert number scripts = if not (is_task number scripts) then Some an_alert.Handle else None
 
 -- AddTask task: begins a task that never was added, and answers its number; 0 for any other (autodoc exec.library/AddTask; that an
 -- ended task is not begun again: project rule)

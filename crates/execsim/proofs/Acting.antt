@@ -1,7 +1,8 @@
 -- How the public calls follow from what the machine does without its failure to write.
-use Rattle.std.proofs.Common.{◌≡◌, ℕ, ◌+◌, Bool, true, false, refl, ap, sym, ◌∙◌, arith, List, Result, Ok, Err, IsOk}
+use Rattle.std.proofs.Common.{◌≡◌, ℕ, ◌+◌, Bool, true, false, not, refl, ap, sym, ◌∙◌, arith, List, Result, Ok, Err, IsOk}
 use Rattle.exectrace.specs.{Sink.Tape, declared.sinks.SinkState.TheVariants.Good, declared.sinks.WriteFault.WriteFault}
 use Rattle.exectrace.proofs.Pieces.{puts_written}
+use Rattle.exectrace.specs.Hearing.{Hearing}
 use Rattle.exectrace.specs.Printing.{is_good, printing}
 use Rattle.script.specs.{File.MachineData, declared.event.Event.Event}
 use Rattle.taskscript.specs.{declared.fault.FileFault.FileFault, declared.fault.EventFault.EventFault}
@@ -32,6 +33,20 @@ known_after_action {next} {m} {n} {failed} {a} {b} {result} reaches known follow
       reached = reaches known.state known.reached;
     }
     by_result (Err why) finishes = let bad : true ≡ false = sym finishes.failing ∙ going in absurd cc
+
+-- who listens is good, if the answer is not that it is not
+pub still_good : (b good : Bool) → b ≡ good → not b ≡ false → good ≡ true
+still_good true good is going = sym is
+still_good false good is going = let bad : true ≡ false = going in cc
+
+-- a machine shows a state that it comes to by an action, if it showed one before and is listened to
+pub known_after : {H : Hearing} {next : State → Outcome} {m n : Seen} {a b : H.Told}
+    → ((s : State) → IsReached s → IsReached (next s).state) → IsKnown m → FollowsWhileGood H next m n a b → H.good b ≡ true → IsKnown n
+known_after {H} {next} {m} {n} {a} {b} reaches known follows good = record {
+  state = (next known.state).state;
+  agrees = follows.agrees known.state known.agrees good;
+  reached = reaches known.state known.reached;
+}
 
 -- of the time that a machine has, an action that was written whole takes no more than what it brings of ticks
 pub time_after : {next : State → Outcome} {m n : Seen} {failed : Bool} {a b : Tape} {result : Result Flow WriteFault} (spent : ℕ)

@@ -8,6 +8,7 @@ use Rattle.execmodel.proofs.{Deeds.allotting, GivingWay.asking_keeps}
 use Rattle.execsim.specs.Agreement.{Seen, Follows, queues_in_order}
 use Rattle.execsim.proofs.{GivingWay.asking-in_order, Following.reads_memory, Following.moves_memory, Following.follows_as, Following.follows_change}
 use Rattle.exectrace.specs.Hearing.{Hearing}
+use Rattle.script.specs.declared.alert.Alert.TheVariants as an_alert
 
 pub placed-in_order : (size : ℕ) (object : Object) (place : Option ℕ) (y : Memory)
     → placed size object place (queues_in_order y) ≡ queues_in_order (placed size object place y)
@@ -19,7 +20,7 @@ abbrev takes_block : ℕ → Call → (size reqs : ℕ) → State → Outcome
 takes_block t call size reqs s = allocates t call size Plain (place_for size reqs s.memory) s
 
 module _ {H : Hearing} {m n : Seen} {a b : H.Told} (t : ℕ) (call : Call) where
-  pub alloc_refused : has_only alloc_bits (argument 1 call) ≡ false → Follows H (alerted (codes "VALUE") t call) m n a b → Follows H (does_memory words.AllocMem t call) m n a b
+  pub alloc_refused : has_only alloc_bits (argument 1 call) ≡ false → Follows H (alerted an_alert.Value t call) m n a b → Follows H (does_memory words.AllocMem t call) m n a b
   unfolding performs memory_deed
   alloc_refused refused follows = follows_as (λ s e. rw refused refl) follows
 
@@ -53,7 +54,7 @@ module _ {H : Hearing} {m n o : Seen} {a b : H.Told} (t : ℕ) (call : Call) whe
 
 module _ {H : Hearing} {m n : Seen} {a b : H.Told} (t : ℕ) (call : Call) where
   pub free_refused : is_named (argument 1 call) (block_at (argument 0 call) m.memory.heap) ≡ false
-      → Follows H (alerted (codes "MEM") t call) m n a b → Follows H (does_memory words.FreeMem t call) m n a b
+      → Follows H (alerted an_alert.Mem t call) m n a b → Follows H (does_memory words.FreeMem t call) m n a b
   unfolding performs memory_deed
   free_refused refused follows = follows_as
       (λ s e.
@@ -74,7 +75,7 @@ module _ {H : Hearing} {m n : Seen} {a b : H.Told} (t : ℕ) (call : Call) where
       (follows_change (moves_memory (freed (argument 0 call)) (freed (argument 0 call)) (λ y. refl) is) follows)
 
   pub avail_refused : can_be_asked (argument 0 call) ≡ false
-      → Follows H (alerted (codes "VALUE") t call) m n a b → Follows H (does_memory words.AvailMem t call) m n a b
+      → Follows H (alerted an_alert.Value t call) m n a b → Follows H (does_memory words.AvailMem t call) m n a b
   unfolding performs memory_deed
   avail_refused refused follows = follows_as (λ s e. rw refused refl) follows
 

@@ -15,6 +15,7 @@ use Rattle.execmodel.specs.{Keeping.clock_alone, State.Bodies, State.Call, State
 use Rattle.timerdev.specs.Timing.{due_next}
 use Rattle.softint.specs.declared.source.Source.{Source}
 use Rattle.softint.specs.declared.source.Source.TheVariants as source
+use Rattle.script.specs.declared.alert.Alert.{Alert}
 
 -- what interrupts execute, and the clock of the timer
 abbrev pub held : State → Bodies × Clock
@@ -33,7 +34,7 @@ keeps_delivered : (kind port message : ℕ) (s : State) → held (delivered kind
 unfolding delivered
 keeps_delivered kind port message s = keeps_performed (acting (port_of port s.memory.heap)) (on_memory (on_heap (posted kind port message)) s)
 
-keeps_allowed : (name : List ℕ) (call : Call) (effect : State → Outcome) (alert : Option (List ℕ)) (s : State) → held (effect s).state ≡ held s
+keeps_allowed : (name : List ℕ) (call : Call) (effect : State → Outcome) (alert : Option Alert) (s : State) → held (effect s).state ≡ held s
     → held (unless_by alert (ByBody name) call effect s).state ≡ held s
 keeps_allowed name call effect None s kept = kept
 keeps_allowed name call effect (Some code) s kept = refl

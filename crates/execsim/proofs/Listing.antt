@@ -8,10 +8,12 @@ use Rattle.execheap.specs.{declared.refusal.Refusal.Refusal, Refusals.alert_of, 
 use Rattle.execsim.specs.{Agreement.Seen, Agreement.Follows, Agreement.queues_in_order, Endings.done_or_alerted, Endings.answered_or_alerted}
 use Rattle.execsim.proofs.{Allocating.placed-in_order, Following.reads_memory, Following.moves_memory, Following.follows_as, Following.follows_change, GivingWay.asking_for_object-in_order}
 use Rattle.exectrace.specs.Hearing.{Hearing}
+use Rattle.script.specs.declared.alert.Alert.TheVariants as an_alert
+use Rattle.script.specs.declared.alert.Alert.{Alert}
 
 -- ---- calls that may be refused
 
-module _ {H : Hearing} {m o : Seen} {a b : H.Told} (c : Caller) (call : Call) (alert : Memory → Option (List ℕ)) (blind : (y : Memory) → alert (queues_in_order y) ≡ alert y) where
+module _ {H : Hearing} {m o : Seen} {a b : H.Told} (c : Caller) (call : Call) (alert : Memory → Option Alert) (blind : (y : Memory) → alert (queues_in_order y) ≡ alert y) where
   -- a refused call ends in its alert, whoever makes it
   pub follows_refused_by : (effect : State → Outcome) (why : Refusal) → Some (code_of why) ≡ alert m.memory
       → Follows H (alerted_by (code_of why) c call) m o a b → Follows H (λ s. unless_by (alert s.memory) c call effect s) m o a b
@@ -28,7 +30,7 @@ module _ {H : Hearing} {m o : Seen} {a b : H.Told} (c : Caller) (call : Call) (a
       (λ s e. let same : alert s.memory ≡ None = reads_memory alert blind (sym says) s e in rw same refl)
       follows
 
-module _ {H : Hearing} {m o : Seen} {a b : H.Told} (t : ℕ) (call : Call) (alert : Memory → Option (List ℕ)) (blind : (y : Memory) → alert (queues_in_order y) ≡ alert y) where
+module _ {H : Hearing} {m o : Seen} {a b : H.Told} (t : ℕ) (call : Call) (alert : Memory → Option Alert) (blind : (y : Memory) → alert (queues_in_order y) ≡ alert y) where
   pub follows_refused : (effect : State → Outcome) (why : Refusal) → Some (code_of why) ≡ alert m.memory
       → Follows H (alerted (code_of why) t call) m o a b → Follows H (λ s. unless (alert s.memory) t call effect s) m o a b
   follows_refused = follows_refused_by (ByTask t) call alert blind
@@ -74,7 +76,7 @@ module _ {H : Hearing} {m o : Seen} {a b : H.Told} (t : ℕ) (call : Call) (aler
   follows_read answer same (Err why) says tells follows = follows_refused (λ s. answered t call (answer s.memory) s) why says follows
 
 -- the same of an alert and an answer that read the blocks alone
-module _ {H : Hearing} {m o : Seen} {a b : H.Told} (t : ℕ) (call : Call) (alert : Heap → Option (List ℕ)) where
+module _ {H : Hearing} {m o : Seen} {a b : H.Told} (t : ℕ) (call : Call) (alert : Heap → Option Alert) where
   pub heap_changed : (next : Memory → Memory) → ((y : Memory) → next (queues_in_order y) ≡ queues_in_order (next y)) → (x : Memory)
       (result : Result (Unit {0}) Refusal) → alert_of result ≡ alert m.memory.heap → OnOk result (x ≡ next m.memory) → OnErr result (x ≡ m.memory)
       → Follows H (done_or_alerted result t call) (record m { memory = x }) o a b
@@ -146,7 +148,7 @@ new_node_is t call s = making (new_node_alert (cast_signed w32 (argument 0 call)
 
 module _ {H : Hearing} {m o : Seen} {a b : H.Told} (t : ℕ) (call : Call) where
   pub node_refused : is_priority (cast_signed w32 (argument 0 call)) ≡ false
-      → Follows H (alerted (codes "VALUE") t call) m o a b → Follows H (does_lists lists.NewNode t call) m o a b
+      → Follows H (alerted an_alert.Value t call) m o a b → Follows H (does_lists lists.NewNode t call) m o a b
   node_refused outside follows = follows_as (λ s e. new_node_is t call s ∙ rw outside refl) follows
 
 module _ {H : Hearing} {m n o : Seen} {a b : H.Told} (t : ℕ) (call : Call) where

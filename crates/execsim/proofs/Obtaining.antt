@@ -11,6 +11,7 @@ use Rattle.execsim.specs.{Actions.obtains_or_alerted, Actions.passes_or_alerted,
 use Rattle.execsim.proofs.Following.{reads_memory, reads_scripts, moves_memory, moves_schedule, follows_as, follows_change, follows_leaving}
 use Rattle.execsim.proofs.{Listing.follows_allowed, Listing.follows_made, Listing.follows_refused, Ordering.arrives-in_order}
 use Rattle.exectrace.specs.Hearing.{Hearing}
+use Rattle.script.specs.declared.alert.Alert.{Alert}
 
 -- ---- waiting
 
@@ -30,7 +31,7 @@ semaphore_made t call place = follows_made t call is_semaphore semaphore_size (S
 -- ---- calls that go on as they read
 
 -- a call that is not refused changes the memory, and goes on as it read it before
-goes_on_as : {H : Hearing} {X : Type 0} {m o : Seen} {a b : H.Told} (t : ℕ) (call : Call) (alert : Heap → Option (List ℕ)) (read : Heap → X)
+goes_on_as : {H : Hearing} {X : Type 0} {m o : Seen} {a b : H.Told} (t : ℕ) (call : Call) (alert : Heap → Option Alert) (read : Heap → X)
     (ends : X → State → Outcome) (next : Heap → Heap) (x : Memory) (value : X) → None ≡ alert m.memory.heap → value ≡ read m.memory.heap
     → x ≡ on_heap next m.memory → Follows H (ends value) (record m { memory = x }) o a b
     → Follows H (λ s. unless (alert s.memory.heap) t call (λ s. ends (read s.memory.heap) (on_memory (on_heap next) s)) s) m o a b

@@ -16,6 +16,7 @@ use Rattle.execsim.specs.{Actions.given_back_or_alerted, Actions.performed, Acti
 use Rattle.execsim.proofs.Following.{reads_schedule, reads_memory, reads_bodies, moves_schedule, moves_caused, moves_nowhere, moves_memory, follows_as, follows_change, follows_leaving}
 use Rattle.execsim.proofs.{GivingWay.asking_for_object-in_order, Listing.follows_allowed, Listing.follows_allowed_by, Listing.follows_made, Listing.follows_refused, Listing.follows_refused_by, Listing.heap_changed, Listing.room-in_order, Ordering.signalled-in_order, PortOrder.add_port_alert-in_order, PortOrder.delete_alert-in_order, PortOrder.found-in_order, PortOrder.listed-in_order, Signalling.allocates-in_order, Signalling.frees-in_order, Signalling.sets_signals-in_order}
 use Rattle.exectrace.specs.Hearing.{Hearing}
+use Rattle.script.specs.declared.alert.Alert.TheVariants as an_alert
 
 -- ---- ports made
 
@@ -135,7 +136,7 @@ gives_back_done t call owner is follows =
 
 module _ {H : Hearing} {m n : Seen} {a b : H.Told} (t : ℕ) (call : Call) where
   pub add_outside : is_priority (cast_signed w32 (argument 2 call)) ≡ false → is_port_at (argument 0 call) m.memory.heap ≡ true
-      → Follows H (alerted (codes "VALUE") t call) m n a b → Follows H (model.does_add_port t call) m n a b
+      → Follows H (alerted an_alert.Value t call) m n a b → Follows H (model.does_add_port t call) m n a b
   unfolding model.does_add_port model.add_port_alert
   add_outside outside there follows = follows_as
       (λ s e.
@@ -144,7 +145,7 @@ module _ {H : Hearing} {m n : Seen} {a b : H.Told} (t : ℕ) (call : Call) where
       rw (same, outside) refl) follows
 
   pub add_unknown : is_port_at (argument 0 call) m.memory.heap ≡ false
-      → Follows H (alerted (codes "HANDLE") t call) m n a b → Follows H (model.does_add_port t call) m n a b
+      → Follows H (alerted an_alert.Handle t call) m n a b → Follows H (model.does_add_port t call) m n a b
   unfolding model.does_add_port model.add_port_alert
   add_unknown unknown follows = follows_as
       (λ s e.

@@ -23,6 +23,7 @@ use Rattle.execsim.specs.{Actions.aborts_or_alerted, Actions.finishes_all_until,
 use Rattle.execsim.proofs.Following.{reads_memory, reads_scripts, moves_memory, moves_schedule, follows_as, follows_change, follows_leaving, follows_nothing, follows_saying, follows_then}
 use Rattle.execsim.proofs.{Listing.follows_allowed, Listing.follows_made, Listing.follows_refused, Listing.heap_changed, Porting.performed_moves, Signalling.sets_signals-in_order}
 use Rattle.exectrace.specs.Hearing.{Hearing}
+use Rattle.script.specs.declared.alert.Alert.TheVariants as an_alert
 
 -- ---- changes that look at no order
 
@@ -164,7 +165,7 @@ module _ {H : Hearing} {m o : Seen} {a b : H.Told} (t : ℕ) (call : Call) where
       heap_changed t call (resting_alert (argument 0 call)) (on_heap (model.closed_device (argument 0 call))) (λ y. refl) x result says changed kept follows
 
   pub set_outside : 65536 ≤ argument 1 call → is_request_at (argument 0 call) m.memory.heap ≡ true
-      → Follows H (alerted (codes "VALUE") t call) m o a b → Follows H (model.does_set_io t call) m o a b
+      → Follows H (alerted an_alert.Value t call) m o a b → Follows H (model.does_set_io t call) m o a b
   unfolding model.does_set_io set_io_alert
   set_outside outside there follows = follows_as
       (λ s e.
@@ -174,7 +175,7 @@ module _ {H : Hearing} {m o : Seen} {a b : H.Told} (t : ℕ) (call : Call) where
       rw (same, past) refl) follows
 
   pub set_unknown : is_request_at (argument 0 call) m.memory.heap ≡ false
-      → Follows H (alerted (codes "HANDLE") t call) m o a b → Follows H (model.does_set_io t call) m o a b
+      → Follows H (alerted an_alert.Handle t call) m o a b → Follows H (model.does_set_io t call) m o a b
   unfolding model.does_set_io set_io_alert
   set_unknown unknown follows = follows_as
       (λ s e.

@@ -10,6 +10,7 @@ use Rattle.execmodel.specs.{State.Call, State.on_schedule, Calls.Caller, Calls.a
 use Rattle.execsim.specs.Agreement.{Seen, Follows, in_order}
 use Rattle.execsim.proofs.{Following.reads_schedule, Following.reads_scripts, Following.moves_schedule, Following.follows_as, Following.follows_change, Ordering.by_test, Ordering.signalled-in_order}
 use Rattle.exectrace.specs.Hearing.{Hearing}
+use Rattle.script.specs.declared.alert.Alert.TheVariants as an_alert
 
 pub allocates-in_order : (t : ℕ) (n : ℤ) (y : Schedule) → allocates t n (in_order y) ≡ in_order (allocates t n y)
 unfolding allocates
@@ -41,7 +42,7 @@ module _ {H : Hearing} {m n : Seen} {a b : H.Told} (t : ℕ) (call : Call) where
   free_none none follows = follows_as (λ s e. rw none refl) follows
 
   pub free_other : nat_eq (argument 0 call) 0xffffffff ≡ false → is_own_signal (argument 0 call) ≡ false
-      → Follows H (alerted (codes "MASK") t call) m n a b → Follows H (does_free_signal t call) m n a b
+      → Follows H (alerted an_alert.Mask t call) m n a b → Follows H (does_free_signal t call) m n a b
   unfolding does_free_signal
   free_other some other follows = follows_as (λ s e. rw (some, other) refl) follows
 
@@ -51,7 +52,7 @@ module _ {H : Hearing} {m n : Seen} {a b : H.Told} (t : ℕ) (call : Call) where
   free_own some own is follows = follows_as {g = λ s. done t call (on_schedule (frees t (argument 0 call)) s)} (λ s e. rw (some, own) refl)
       (follows_change (moves_schedule (frees t (argument 0 call)) (frees t (argument 0 call)) (frees-in_order t (argument 0 call)) is) follows)
 
-  pub set_unmasked : is_mask (argument 1 call) ≡ false → Follows H (alerted (codes "MASK") t call) m n a b → Follows H (does_set_signal t call) m n a b
+  pub set_unmasked : is_mask (argument 1 call) ≡ false → Follows H (alerted an_alert.Mask t call) m n a b → Follows H (does_set_signal t call) m n a b
   unfolding does_set_signal
   set_unmasked unmasked follows = follows_as (λ s e. rw unmasked refl) follows
 
@@ -68,17 +69,17 @@ module _ {H : Hearing} {m n : Seen} {a b : H.Told} (t : ℕ) (call : Call) where
       (follows_change (moves_schedule change change (sets_signals-in_order t (argument 0 call) (argument 1 call)) is) follows)
 
 module _ {H : Hearing} {m n : Seen} {a b : H.Told} (t : ℕ) (call : Call) where
-  pub wait_unmasked : is_mask (argument 0 call) ≡ false → Follows H (alerted (codes "MASK") t call) m n a b → Follows H (does_wait t call) m n a b
+  pub wait_unmasked : is_mask (argument 0 call) ≡ false → Follows H (alerted an_alert.Mask t call) m n a b → Follows H (does_wait t call) m n a b
   unfolding does_wait
   wait_unmasked unmasked follows = follows_as (λ s e. rw unmasked refl) follows
 
 module _ {H : Hearing} {m n : Seen} {a b : H.Told} (c : Caller) (call : Call) where
-  pub signal_unknown : is_task (argument 0 call) m.scripts ≡ false → Follows H (alerted_by (codes "HANDLE") c call) m n a b → Follows H (does_signal_by c call) m n a b
+  pub signal_unknown : is_task (argument 0 call) m.scripts ≡ false → Follows H (alerted_by an_alert.Handle c call) m n a b → Follows H (does_signal_by c call) m n a b
   signal_unknown unknown follows = follows_as
       (λ s e. let same : is_task (argument 0 call) s.scripts ≡ false = reads_scripts (is_task (argument 0 call)) unknown s e in rw same refl) follows
 
   pub signal_unmasked : is_task (argument 0 call) m.scripts ≡ true → is_mask (argument 1 call) ≡ false
-      → Follows H (alerted_by (codes "MASK") c call) m n a b → Follows H (does_signal_by c call) m n a b
+      → Follows H (alerted_by an_alert.Mask c call) m n a b → Follows H (does_signal_by c call) m n a b
   signal_unmasked known unmasked follows = follows_as
       (λ s e. let same : is_task (argument 0 call) s.scripts ≡ true = reads_scripts (is_task (argument 0 call)) known s e in rw (same, unmasked) refl) follows
 

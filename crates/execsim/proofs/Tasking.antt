@@ -9,6 +9,7 @@ use Rattle.execsim.specs.Agreement.{Seen, Agrees, Follows, in_order}
 use Rattle.execsim.proofs.Following.{reads_schedule, reads_scripts, moves_memory, moves_schedule, moves_schedule_seen, follows_as, follows_change}
 use Rattle.execsim.proofs.Ordering.{added-in_order, leaves-in_order, removed-in_order, reprioritized-in_order}
 use Rattle.exectrace.specs.Hearing.{Hearing}
+use Rattle.script.specs.declared.alert.Alert.TheVariants as an_alert
 
 -- the same numbers are those of live tasks
 live_same : {m : Seen} (number : ℕ) (s : State) → Agrees m s → is_live_task number s.scripts s.schedule ≡ is_live_task number m.scripts m.schedule
@@ -40,14 +41,14 @@ found_number-in_order t None y = refl
 found_number-in_order t (Some name) y = refl
 
 module _ {H : Hearing} {m n : Seen} {a b : H.Told} (t : ℕ) (call : Call) where
-  pub pri_unknown : is_live_task (argument 0 call) m.scripts m.schedule ≡ false → Follows H (alerted (codes "HANDLE") t call) m n a b
+  pub pri_unknown : is_live_task (argument 0 call) m.scripts m.schedule ≡ false → Follows H (alerted an_alert.Handle t call) m n a b
       → Follows H (does_set_task_pri t call) m n a b
   unfolding does_set_task_pri
   pri_unknown unknown follows = follows_as
       (λ s e. let same : is_live_task (argument 0 call) s.scripts s.schedule ≡ false = live_same (argument 0 call) s e ∙ unknown in rw same refl) follows
 
   pub pri_outside : is_live_task (argument 0 call) m.scripts m.schedule ≡ true → is_priority (cast_signed w32 (argument 1 call)) ≡ false
-      → Follows H (alerted (codes "VALUE") t call) m n a b → Follows H (does_set_task_pri t call) m n a b
+      → Follows H (alerted an_alert.Value t call) m n a b → Follows H (does_set_task_pri t call) m n a b
   unfolding does_set_task_pri
   pri_outside live outside follows = follows_as
       (λ s e. let same : is_live_task (argument 0 call) s.scripts s.schedule ≡ true = live_same (argument 0 call) s e ∙ live in rw (same, outside) refl) follows
@@ -70,7 +71,7 @@ module _ {H : Hearing} {m n : Seen} {a b : H.Told} (t : ℕ) (call : Call) where
       (λ y e. reprioritized-in_order (argument 0 call - 1) (cast_signed w32 (argument 1 call)) y
       (subst (λ (z : Schedule). (x : ℕ) → times x z.queue.ready ≡ (if is_ready (status_of z x) then 1 else 0)) e stand)) is) follows)
 
-  pub add_unknown : is_task (argument 0 call) m.scripts ≡ false → Follows H (alerted (codes "HANDLE") t call) m n a b → Follows H (does_add_task t call) m n a b
+  pub add_unknown : is_task (argument 0 call) m.scripts ≡ false → Follows H (alerted an_alert.Handle t call) m n a b → Follows H (does_add_task t call) m n a b
   unfolding does_add_task
   add_unknown unknown follows = follows_as
       (λ s e. let same : is_task (argument 0 call) s.scripts ≡ false = reads_scripts (is_task (argument 0 call)) unknown s e in rw same refl) follows
@@ -96,7 +97,7 @@ module _ {H : Hearing} {m n : Seen} {a b : H.Told} (t : ℕ) (call : Call) where
       (follows_change (moves_schedule (leaves t) (leaves t) (leaves-in_order t) is) follows)
 
   pub rem_unknown : is_caller t (argument 0 call) ≡ false → is_live_task (argument 0 call) m.scripts m.schedule ≡ false
-      → Follows H (alerted (codes "HANDLE") t call) m n a b → Follows H (does_rem_task t call) m n a b
+      → Follows H (alerted an_alert.Handle t call) m n a b → Follows H (does_rem_task t call) m n a b
   unfolding does_rem_task
   rem_unknown other unknown follows = follows_as
       (λ s e. let same : is_live_task (argument 0 call) s.scripts s.schedule ≡ false = live_same (argument 0 call) s e ∙ unknown in rw (other, same) refl) follows

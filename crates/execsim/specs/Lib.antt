@@ -5,6 +5,7 @@ pub mod Callers
 pub mod Changes
 pub mod Endings
 pub mod Headline
+pub mod Playing
 pub mod Reached
 pub mod Readers
 pub mod Reading

@@ -4,7 +4,6 @@ ghost use Rattle.std.specs.Prelude.{◌≡◌, ◌≤◌, ℕ, List, [], ◌∷�
 ghost use Rattle.execlist.specs.Disciplines.{by_priority};
 ghost use Rattle.exectrace.specs.{Short.short_argument, Shown.shown_outcome, Trace.Quoted, Trace.Value};
 ghost use Rattle.exectrace.specs.Trace as trace;
-ghost use Rattle.script.specs.Alerts.{alert_text};
 ghost use Rattle.script.specs.{Words.word_text, Commands.argument_view, Commands.command_view};
 ghost use Rattle.scheduler.specs.Dispatch.{signalled};
 ghost use Rattle.execmodel.specs.{Bodies.does_in_body, Bodies.does_interrupts_by, Bodies.does_plain_by, Bodies.does_ports_by, Bodies.does_signals_by, Bodies.runs_body, State.Scripts, State.State, Calls.ByBody, Calls.alerted_by, Calls.answered_by, Calls.argument, Calls.call_in_body, Calls.done_by, Calls.evaluated_in_body, Calls.number_in, Calls.silent_by, Calls.stored_shared};
@@ -254,7 +253,7 @@ impl<S: ListSpace> Kernel<S> {
         call: &Call,
         out: &mut W,
     )
-        ensures { Follows W.hearing (alerted_by (alert_text code) (ByBody name.now.bytes) (call_view call.now)) self.old self.new (W.told out.old) (W.told out.new) }
+        ensures { Follows W.hearing (alerted_by code (ByBody name.now.bytes) (call_view call.now)) self.old self.new (W.told out.old) (W.told out.new) }
     {
         out.hear(&Said::Alert {
             code,

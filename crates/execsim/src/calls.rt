@@ -9,7 +9,6 @@ ghost use Rattle.exectrace.specs.{Shown.shown_outcome};
 ghost use Rattle.execmodel.specs.Calls.{done, done_by, answered, answered_by, waiting, silent, silent_by, alerted, alerted_by};
 ghost use Rattle.execsim.specs.{Agreement.Quietly, Callers.HasTask, Callers.HasCaller, Agreement.Follows, Agreement.line_seen, Endings.answered_or_alerted, Endings.answered_or_alerted_by, Endings.done_or_alerted, Views.call_view, Views.caller_view};
 ghost use Rattle.execheap.specs.Refusals.{code_of};
-ghost use Rattle.script.specs.Alerts.{alert_text};
 
 use crate::call::{Call, Caller};
 use crate::kernel::Kernel;
@@ -19,20 +18,6 @@ use exectrace::lines::CallOutcome;
 use exectrace::{Name, Said, ShortArg, Witness};
 use script::{Alert, Word};
 use taskq::TaskId;
-
-/// The alert of a refusal.
-fn alert_of(why: Refusal) -> Alert
-    ensures { alert_text result ≡ code_of why }
-{
-    match why {
-        Refusal::Handle => Alert::Handle,
-        Refusal::Link => Alert::Link,
-        Refusal::Port => Alert::Port,
-        Refusal::Sem => Alert::Sem,
-        Refusal::Lib => Alert::Lib,
-        Refusal::Io => Alert::Io,
-    }
-}
 
 impl<S: ListSpace> Kernel<S> {
     /// Says that there was a call of task t.
@@ -115,7 +100,7 @@ impl<S: ListSpace> Kernel<S> {
     #[cold]
     pub(crate) fn alerted<W: Witness>(&mut self, code: Alert, t: TaskId, call: &Call, out: &mut W)
         requires { HasTask t self.old }
-        ensures { Follows W.hearing (alerted (alert_text code) t (call_view call.now)) self.old self.new (W.told out.old) (W.told out.new) }
+        ensures { Follows W.hearing (alerted code t (call_view call.now)) self.old self.new (W.told out.old) (W.told out.new) }
     {
         let by = self.name(t);
         out.hear(&Said::Alert {
@@ -177,7 +162,7 @@ impl<S: ListSpace> Kernel<S> {
         out: &mut W,
     )
         requires { HasCaller caller.now self.old }
-        ensures { Follows W.hearing (alerted_by (alert_text code) (caller_view caller.now) (call_view call.now)) self.old self.new (W.told out.old) (W.told out.new) }
+        ensures { Follows W.hearing (alerted_by code (caller_view caller.now) (call_view call.now)) self.old self.new (W.told out.old) (W.told out.new) }
     {
         match caller {
             Caller::Task(t) => self.alerted(code, *t, call, out),
@@ -196,7 +181,7 @@ impl<S: ListSpace> Kernel<S> {
         requires { HasCaller caller.now self.old }
         ensures { Follows W.hearing (alerted_by (code_of why) (caller_view caller.now) (call_view call.now)) self.old self.new (W.told out.old) (W.told out.new) }
     {
-        self.alerted_by(alert_of(why), caller, call, out);
+        self.alerted_by(why.alert(), caller, call, out);
     }
 
     // ---- a call on an object: done, or refused
@@ -206,7 +191,7 @@ impl<S: ListSpace> Kernel<S> {
         requires { HasTask t self.old }
         ensures { Follows W.hearing (alerted (code_of why) t (call_view call.now)) self.old self.new (W.told out.old) (W.told out.new) }
     {
-        self.alerted(alert_of(why), t, call, out);
+        self.alerted(why.alert(), t, call, out);
     }
 
     /// A call that answers nothing: it is done, or refused by its alert.

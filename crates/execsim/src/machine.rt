@@ -3,7 +3,7 @@ ghost use Rattle.std.specs.Prelude.{◌≡◌, ◌+◌, ℕ, true, false, sum_by
 ghost use Rattle.exectrace.specs.{Sink.Writes, Trace.printed, declared.sinks.SinkState.SinkState};
 ghost use Rattle.script.specs.Events.{ticks as ticks_of};
 ghost use Rattle.execmodel.specs.{State.State, State.booted, State.andthen, Step.starts, Step.event, Step.events};
-ghost use Rattle.execsim.specs.{Advancing.Advances, Advancing.Ends, Agreement.Agrees, Headline.Acts, Headline.StaysFailed, Headline.Finishes, Headline.flow_of, Reached.QueuesAgree, Time.HasTimeFor};
+ghost use Rattle.execsim.specs.{Advancing.Advances, Advancing.Ends, Agreement.Agrees, Headline.Acts, Headline.StaysFailed, Headline.Finishes, Headline.flow_of, Playing.Plays, Reached.QueuesAgree, Time.HasTimeFor};
 
 mod queues;
 mod readers;
@@ -13,7 +13,7 @@ use crate::boot::{inits_of, kernel_of};
 use crate::kernel::Kernel;
 use execlist::space::ListSpace;
 use exectrace::sinks::written;
-use exectrace::{Sink, WriteFault};
+use exectrace::{Sink, Witness, WriteFault};
 pub use readers::{MachineView, TaskView};
 use script::{Event, MachineFile};
 use std::alloc::{AllocError, Global};
@@ -209,6 +209,24 @@ impl<S: ListSpace> Machine<S> {
         ensures { self.now.failed ≡ false → QueuesAgree self.now.seen }
     {
         let _ = &self.kernel;
+    }
+
+    /// Plays a run: starts the machine, does one event after another, and says to `witness` what happens, as it happens.
+    ///
+    /// A witness that listens no more ends the run, and the machine has failed. After it the machine can be looked at.
+    ///
+    /// Source: project rule.
+    pub fn play<W: Witness>(&mut self, list: &[Event], witness: &mut W) -> Flow
+        requires going { self.old.failed ≡ false }
+        requires listens { W.hearing.good (W.told witness.old) ≡ true }
+        requires time { HasTimeFor (sum_by ticks_of list.now) self.old.seen }
+        ensures { Plays W.hearing (andthen starts (events list.now)) self.old self.new (W.told witness.old) (W.told witness.new) result }
+    {
+        self.rests = false;
+        self.kernel.start(witness);
+        self.kernel.events(list, witness);
+        self.failed = !witness.is_good();
+        flow_for(self.kernel.is_stopped())
     }
 
     /// Starts the machine and does one event after another.

@@ -1,4 +1,3 @@
 -- The lemma files of `wayrun`.
-mod Texts
-mod Steps
+mod Keeping
 mod Standing

@@ -1,11 +1,9 @@
 -- How the tasks of a machine are, by the state that it agrees with.
 use Rattle.std.proofs.Common.{◌≡◌, ◌∙◌, ℕ, zero, suc, Bool, true, false, Option, None, Some, List, ◌++◌, refl, ap, ap₂}
-use Rattle.exectrace.specs.Trace.{printed}
 use Rattle.scheduler.specs.Schedule.{Schedule, task_count}
-use Rattle.execmodel.specs.State.{Outcome, Scripts, State}
+use Rattle.execmodel.specs.State.{Scripts, State}
 use Rattle.execsim.specs.{Agreement.Agrees, Agreement.Seen, Agreement.in_order, Headline.flow_of, declared.machine.Flow.Flow, Standing.runs_text, Standing.standing_text, Standing.wait_text, Standing.waits_text}
-use Rattle.wayrun.specs.{Seen.ending, Seen.last_in, SoFar.stops, declared.see.See.See}
-use Rattle.wayrun.proofs.Steps.{stops_flow}
+use Rattle.wayrun.specs.Seen.{ending, stops}
 
 -- in which order the ready tasks are kept makes no difference
 waits_in_order : (n : ℕ) (s : Schedule) (scripts : Scripts) → waits_text n (in_order s) scripts ≡ waits_text n s scripts
@@ -19,17 +17,19 @@ runs_in_order (Some t) s = refl
 standing_in_order : (s : Schedule) (scripts : Scripts) → standing_text (in_order s) scripts ≡ standing_text s scripts
 standing_in_order s scripts = ap₂ (λ (a b : List ℕ). a ++ b) (runs_in_order s.running s) (waits_in_order (task_count s) s scripts)
 
-pub standing_agrees : (seen : Seen) (s : State) → Agrees seen s → standing_text seen.schedule seen.scripts ≡ standing_text s.schedule s.scripts
+standing_agrees : (seen : Seen) (s : State) → Agrees seen s → standing_text seen.schedule seen.scripts ≡ standing_text s.schedule s.scripts
 standing_agrees seen s agrees = ap₂ standing_text agrees.schedule agrees.scripts ∙ standing_in_order s.schedule s.scripts
 
-same : (b : Bool) (see : See) (last : List ℕ) (seen : Seen) (s : State) → Agrees seen s
-    → ending b see last seen.schedule seen.scripts ≡ ending b see last s.schedule s.scripts
-same true see last seen s agrees = refl
-same false see last seen s agrees = standing_agrees seen s agrees
+same : (b : Bool) (seen : Seen) (s : State) → Agrees seen s → ending b seen.schedule seen.scripts ≡ ending b s.schedule s.scripts
+same true seen s agrees = refl
+same false seen s agrees = standing_agrees seen s agrees
+
+stops_flow : (b : Bool) → stops (flow_of b) ≡ b
+stops_flow true = refl
+stops_flow false = refl
 
 -- how a run ends, as its machine reports it
-pub ending_is : (see : See) (flow : Flow) (last : List ℕ) (seen : Seen) (o : Outcome) → flow ≡ flow_of o.state.stopped → last ≡ last_in (printed o.lines) → Agrees seen o.state
-    → ending (stops flow) see last seen.schedule seen.scripts ≡ ending o.state.stopped see (last_in (printed o.lines)) o.state.schedule o.state.scripts
-ending_is see flow last seen o is_flow is_last agrees =
-    ap₂ (λ (b : Bool) (l : List ℕ). ending b see l seen.schedule seen.scripts) (ap stops is_flow ∙ stops_flow o.state.stopped) is_last
-    ∙ same o.state.stopped see (last_in (printed o.lines)) seen o.state agrees
+pub ending_is : (flow : Flow) (seen : Seen) (s : State) → flow ≡ flow_of seen.stopped → Agrees seen s
+    → ending (stops flow) seen.schedule seen.scripts ≡ ending s.stopped s.schedule s.scripts
+ending_is flow seen s is agrees =
+    ap (λ (b : Bool). ending b seen.schedule seen.scripts) (ap stops is ∙ stops_flow seen.stopped ∙ agrees.stopped) ∙ same s.stopped seen s agrees

@@ -1,5 +1,4 @@
+pub mod Look
 pub mod Seen
-pub mod SoFar
 pub mod Sought
-pub mod Texts
 pub mod Words

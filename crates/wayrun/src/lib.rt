@@ -1,13 +1,12 @@
 //! What is seen of each way: one way is run from the first state of its machine, and a search notes what is seen of all ways of a part.
 #![tactic(auto)]
 
-mod lines;
+mod look;
 mod room;
 mod running;
 mod searching;
 mod see;
 
-pub use room::Room;
 pub use running::{Bench, run_way};
 pub use searching::{Runs, search};
 pub use see::See;

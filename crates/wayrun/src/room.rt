@@ -1,21 +1,19 @@
-//! Room for the lines of one event.
+//! Room for what is seen of a way.
 ghost use Rattle.std.specs.Prelude.{◌≡◌, [], Some};
 ghost use Rattle.exectrace.specs.{Sink.Tape, declared.sinks.SinkState.SinkState};
 
 use exectrace::{Sink, SinkFault, SinkState};
 use std::alloc::Global;
 
-/// Room for the lines of one event.
+/// Room for what is seen of a way.
 #[derive(Drop)]
-pub struct Room {
+pub(crate) struct Room {
     pub bytes: Vec<u8>,
     pub state: SinkState,
 }
 
 impl Room {
-    /// Room with no line in it.
-    ///
-    /// Source: project rule.
+    /// Room with nothing in it.
     pub fn new(alloc: Global) -> Room
         ensures bytes { result.bytes.items ≡ [] }
         ensures state { result.state ≡ SinkState.Good }

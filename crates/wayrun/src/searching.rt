@@ -2,7 +2,7 @@
 ghost use Rattle.std.specs.Prelude.{◌≡◌, ◌≤◌, ◌+◌, [], true, IfOk, OnOk, List, ℕ, length, sum_by};
 ghost use Rattle.script.specs.Events.{ticks as ticks_of};
 ghost use Rattle.ways.specs.{Ways.ways as ways_of, Ways.part_of, Tables.number_where, Tables.table_of};
-ghost use Rattle.wayrun.specs.{Seen.is_alerted, Seen.seen_of, SoFar.stops};
+ghost use Rattle.wayrun.specs.Seen.{is_alerted, seen_of, stops};
 
 use crate::running::{Bench, run_way};
 use crate::see::See;

@@ -7,6 +7,7 @@ use Rattle.execheap.specs.Numbered.{shown_heap}
 use Rattle.execheap.proofs.objects.Objects.request_to_wait_for.Goals.{After-is_reply_queued-queued, After-reply_port, After-state}
 use Rattle.execheap.proofs.{Posted.port_of_shown, RequestAlerts.reply_shown, RequestAlerts.wait_io_past, RequestAlerts.wait_io_refused, Passed.passed_on}
 use Rattle.execheap.proofs.objects.Objects.request_to_wait_for.Goals as goal
+use Rattle.script.specs.declared.alert.Alert.TheVariants as an_alert
 
 -- what its state asks for
 module _ (g : _) (c : After-state g) where
@@ -20,8 +21,8 @@ port g c = c.reply_port.ensures ∙ ap (λ x. (request_at c.in_ok-r.r x).port) c
 
 replied : (g : _) (c : After-is_reply_queued-queued g)
     → state_alert Replied c.args.task c.args.request (shown_heap c.args.self.now) ≡ wait_io_alert c.args.task c.args.request (shown_heap c.args.self.now)
-    → (if c.is_reply_queued-queued.result then None else Some (codes "LINK")) ≡ wait_io_alert c.args.task c.args.request (shown_heap c.args.self.now)
-replied g c is = ap (λ b. if b then None else Some (codes "LINK"))
+    → (if c.is_reply_queued-queued.result then None else Some an_alert.Link) ≡ wait_io_alert c.args.task c.args.request (shown_heap c.args.self.now)
+replied g c is = ap (λ b. if b then None else Some an_alert.Link)
     (c.is_reply_queued-queued.ensures.value ∙ sym (reply_shown c.in_ok-r.ensures.known.sound c.in_ok-r.ensures.known.ports c.in_ok-r.r c.args.request c.in_ok-r.ensures.found))
     ∙ is
 
@@ -52,7 +53,7 @@ returns-in_ok-bit-in-UnderWay-clause-bit g c way =
     ∙ ap (λ a. (port_of a (shown_heap c.args.self.now)).bit) (port g (goal.at.returns-in_ok-bit-in-UnderWay-clause-bit g c).After-reply_port)
 
 pub returns-then-queued-clause-alert : goal.returns-then-queued-clause-alert
-returns-then-queued-clause-alert g c = ap (λ b. if b then None else Some (codes "LINK")) (sym c.if-queued.true) ∙ replied g (goal.at.returns-then-queued-clause-alert g c).After-is_reply_queued-queued (in_state g (goal.at.returns-then-queued-clause-alert g c).After-state c.in-Replied.is)
+returns-then-queued-clause-alert g c = ap (λ b. if b then None else Some an_alert.Link) (sym c.if-queued.true) ∙ replied g (goal.at.returns-then-queued-clause-alert g c).After-is_reply_queued-queued (in_state g (goal.at.returns-then-queued-clause-alert g c).After-state c.in-Replied.is)
 
 pub returns-else-queued-clause-alert : goal.returns-else-queued-clause-alert
-returns-else-queued-clause-alert g c = ap (λ b. if b then None else Some (codes "LINK")) (sym c.if-queued.false) ∙ replied g (goal.at.returns-else-queued-clause-alert g c).After-is_reply_queued-queued (in_state g (goal.at.returns-else-queued-clause-alert g c).After-state c.in-Replied.is)
+returns-else-queued-clause-alert g c = ap (λ b. if b then None else Some an_alert.Link) (sym c.if-queued.false) ∙ replied g (goal.at.returns-else-queued-clause-alert g c).After-is_reply_queued-queued (in_state g (goal.at.returns-else-queued-clause-alert g c).After-state c.in-Replied.is)
