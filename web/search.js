@@ -34,13 +34,13 @@ class Search {
     }
   }
 
-  /** Lists the outcomes of a report. */
+  /** Lists the outcomes of a report, which are between its head and its last line. */
   show(status, report) {
-    const [head, ...parts] = report.trim().split(/\n\n(?=outcome )/);
+    const [head, ...parts] = report.trim().split(/\n\n(?=outcome |lines above: )/);
     const lines = head.split('\n'), isDone = status === RAN || status === ALERTED;
     $('searched').textContent = isDone ? `${lines[0].replace(/^.*?: /, '')}; ${lines.at(-1)}` : head;
     if (!isDone) return;
-    $('outcomes').replaceChildren(...parts.map((part, i) => this.outcome(part, i + 1)));
+    $('outcomes').replaceChildren(...parts.slice(0, -1).map((part, i) => this.outcome(part, i + 1)));
   }
 
   outcome(part, number) {

@@ -2,7 +2,9 @@
 
 use crate::failure::Failure;
 use crate::options::{Options, View, number_in};
+use clap::error::ErrorKind;
 use clap::{Arg, ArgAction, ArgMatches, Command, Error};
+use escape::{HIDDEN_WORD, words_if_hidden};
 use std::alloc::{AllocError, Global};
 
 /// The paths of a command line.
@@ -238,6 +240,22 @@ fn options_in<'a>(matches: &ArgMatches<'a>) -> Result<Options<'a>, Failure<'a>> 
     Ok(options)
 }
 
+/// What `clap` answers to words as they are shown, if it refuses them as they were refused, or a refusal that has none of them.
+fn error_over(alloc: Global, words: &[String], kind: ErrorKind) -> Result<Error, AllocError> {
+    match command(alloc)?.try_get_matches_from(words) {
+        Err(error) if error.kind() == kind => Ok(error),
+        _ => command(alloc)?.error(kind, HIDDEN_WORD),
+    }
+}
+
+/// What `clap` answers to some words, with the words as they are shown.
+fn error_shown(alloc: Global, words: &[&str], error: Error) -> Result<Error, AllocError> {
+    match words_if_hidden(alloc, words)? {
+        None => Ok(error),
+        Some(shown) => error_over(alloc, shown.as_slice(), error.kind()),
+    }
+}
+
 /// What the words of a command line ask for.
 ///
 /// # Errors
@@ -249,7 +267,10 @@ pub fn asked_by<'a>(
     alloc: Global,
     words: &'a [&'a str],
 ) -> Result<(Paths<'a>, Options<'a>), Refusal<'a>> {
-    let matches = command(alloc)?.try_get_matches_from(words)?;
+    let matches = match command(alloc)?.try_get_matches_from(words) {
+        Ok(matches) => matches,
+        Err(error) => return Err(Refusal::Words(error_shown(alloc, words, error)?)),
+    };
     let (Some(machine), Some(events)) = (matches.get_str("MACHINE"), matches.get_str("EVENTS"))
     else {
         return Err(Refusal::Command(Failure::Option(
@@ -265,7 +286,7 @@ pub fn asked_by<'a>(
 /// Source: project rule.
 pub fn not_text_error(alloc: Global) -> Result<Error, AllocError> {
     command(alloc)?.error(
-        clap::error::ErrorKind::InvalidValue,
+        ErrorKind::InvalidValue,
         "invalid UTF-8 was detected in one or more arguments",
     )
 }
