@@ -211,11 +211,30 @@ fn paths_given<'a>(alloc: Global, matches: &ArgMatches<'a>) -> Result<Vec<&'a st
     Ok(paths)
 }
 
+/// Parses words as they are shown.
+fn parse_shown(alloc: Global, words: &[String]) -> Result<(), Error> {
+    let _matches = command(alloc)?.try_get_matches_from(words)?;
+    Ok(())
+}
+
+/// A refusal of a kind that has none of the words.
+fn bare_error(alloc: Global, kind: ErrorKind) -> Result<Error, AllocError> {
+    command(alloc)?.error(kind, HIDDEN_WORD)
+}
+
+/// An error, if it is of a kind, or a refusal of that kind that has none of the words.
+fn error_of_kind(alloc: Global, error: Error, kind: ErrorKind) -> Result<Error, AllocError> {
+    if error.kind() == kind {
+        return Ok(error);
+    }
+    bare_error(alloc, kind)
+}
+
 /// What `clap` answers to words as they are shown, if it refuses them as they were refused, or a refusal that has none of them.
 fn error_over(alloc: Global, words: &[String], kind: ErrorKind) -> Result<Error, AllocError> {
-    match command(alloc)?.try_get_matches_from(words) {
-        Err(error) if error.kind() == kind => Ok(error),
-        _ => command(alloc)?.error(kind, HIDDEN_WORD),
+    match parse_shown(alloc, words) {
+        Ok(()) => bare_error(alloc, kind),
+        Err(error) => error_of_kind(alloc, error, kind),
     }
 }
 
