@@ -15,7 +15,7 @@ function withInterrupt(text, place, kind) {
 
 /** A report of a search: its head, what it says of itself, and its outcomes, each with its count, its first way and its lines. */
 function readReport(text) {
-  const [head, ...parts] = text.trim().split(/\n\n(?=outcome \d+: )/), [, kinds = '', ways = '0'] = head.match(/ more of ([\w,]+): (\d+) ways?/) ?? [];
+  const [head, ...parts] = text.trim().split(/\n\n(?=outcome \d+: |lines above: )/).filter(part => !part.startsWith('lines above: ')), [, kinds = '', ways = '0'] = head.match(/ more of ([\w,]+): (\d+) ways?/) ?? [];
   const outcomes = parts.map(part => {
     const [first, ...lines] = part.split('\n'), [, count, way] = first.match(/^outcome \d+: (\d+) ways?, first (.*)$/);
     return { count: Number(count), way, lines: lines.map(line => line.replace(/^ {2}/, '')) };

@@ -1,7 +1,7 @@
 //! Why there is no answer, and what the program says of it.
 ghost use Rattle.std.specs.Prelude.{◌≡◌};
 
-use execadvice::shown;
+use escape::shown_text;
 use std::alloc::{AllocError, Global};
 use std::io::Write;
 
@@ -30,7 +30,7 @@ impl From<AllocError> for Failure<'_> {
 
 /// What is said of a file that could not be read. The path is shown with the characters escaped that a terminal obeys.
 fn cannot_read_text(alloc: Global, path: &str) -> Result<String, AllocError> {
-    let path = shown(alloc, path)?;
+    let path = shown_text(alloc, path)?;
     format!(in alloc; "execcheck: cannot read {path}\n")
 }
 

@@ -1,9 +1,9 @@
 //! Lines in the manner of C: assignments without a word, and calls with parentheses.
 
-use crate::escaped::is_hidden;
 use crate::made::Made;
 use crate::said::said_by;
 use crate::variables::is_variable;
+use escape::is_hidden;
 use std::alloc::Global;
 use taskscript::number_of;
 

@@ -1,11 +1,12 @@
 //! What is said of bytes that are no TOML document.
 
-use crate::escaped::{hidden_reason, is_hidden};
+use crate::escaped::hidden_reason;
 use crate::events::is_event;
 use crate::made::Made;
 use crate::show::{Advice, Span, width_of};
 use crate::text::{Text, text_or_nothing};
 use crate::written::FilePlace;
+use escape::is_hidden;
 use std::alloc::Global;
 use std::str::from_utf8;
 

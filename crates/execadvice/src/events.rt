@@ -3,13 +3,13 @@ ghost use Rattle.std.specs.Prelude.{◌≡◌, Some, IfOk};
 ghost use Rattle.taskscript.specs.Events.{script_of};
 ghost use Rattle.execadvice.specs.Findings.{fault_of};
 
-use crate::escaped::is_hidden;
 use crate::file::first_line;
 use crate::made::Made;
 use crate::near::{are_digits, proposing_nearest};
 use crate::show::{Advice, Span, field_span, width_of};
 use crate::spacing::hidden_advice;
 use crate::text::{Text, is_line_feed, text_or_nothing};
+use escape::is_hidden;
 use std::alloc::{AllocError, Global};
 use std::str::from_utf8;
 use taskscript::{EventFault, read_events};

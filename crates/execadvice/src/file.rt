@@ -1,11 +1,12 @@
 //! A machine file that has a tree, and what there is to say of a line of its code.
 
 use crate::bodies::{array_of, line_at};
-use crate::escaped::{shown, shown_name};
+use crate::escaped::shown_name;
 use crate::made::Made;
 use crate::members::name_of;
 use crate::show::{Advice, push_marked};
 use crate::written::{FilePlace, Written};
+use escape::shown_text;
 use std::alloc::{AllocError, Global};
 use taskscript::{Array, LinePlace, items_at};
 use toml::Table;
@@ -27,7 +28,7 @@ pub fn first_line(
     words: &str,
     name: &str,
 ) -> Made<String> {
-    let path = shown(alloc, path)?;
+    let path = shown_text(alloc, path)?;
     match place {
         None => format!(in alloc; "{path}: {words}{name}\n"),
         Some(place) => {

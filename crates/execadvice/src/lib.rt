@@ -28,7 +28,6 @@ mod warnings;
 mod written;
 
 pub use bodies::line_at;
-pub use escaped::shown;
 pub use events::{EventsFinding, check_events};
 pub use file::line_text;
 pub use finding::{Finding, check_machine};

@@ -1,8 +1,9 @@
 //! Mistakes of a line that are seen before its words: spaces, tabs, characters that are not seen, commas and comments.
 
-use crate::escaped::{hidden_reason, is_hidden};
+use crate::escaped::hidden_reason;
 use crate::made::Made;
 use crate::show::{Advice, Span, field_span};
+use escape::is_hidden;
 use std::alloc::Global;
 
 /// What a part is that no line has, if it is one: a comment, or one with a comma or a semicolon at its end.

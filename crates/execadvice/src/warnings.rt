@@ -13,8 +13,8 @@ use std::collections::HashSet;
 use taskscript::{LinePlace, Owner, items_at, quoted_in};
 use toml::{Table, Value};
 
-/// The most pairs of names that are compared for the proposals of a file.
-const MOST_PAIRS: usize = 500_000;
+/// The most pairs of names that are compared for the proposals to one kind of line: about a tenth of a second of work.
+const MOST_PAIRS: usize = 12_000;
 
 /// A line that is worth a warning.
 #[derive(Drop)]

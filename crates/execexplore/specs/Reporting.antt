@@ -1,10 +1,11 @@
 -- The report of a search: what was searched, and the table of what is seen.
 use Rattle.std.specs.Prelude.{ℕ, ◌++◌, List, [], ◌∷◌, Option, option_map, codes, length, map, decimal, flat_map, string_bytes}
+use Rattle.escape.specs.Shown.{shown}
 use Rattle.script.specs.declared.event.Event.TheVariants.{Run, Tick, Irq}
 use Rattle.script.specs.{Sources.source_text, declared.event.Event.Event}
 use Rattle.ways.specs.{Ways.part_of, Ways.ways, Tables.Entry, Tables.number_where, Tables.table_of, declared.visiting.Window.Window}
 use Rattle.wayrun.specs.{Seen.is_alerted, Seen.seen_of, Words.see_text, declared.see.See.See}
-use Rattle.wayreport.specs.{Reports.ReportData, Reports.told, Reports.ways_text, declared.report.Part.Part}
+use Rattle.wayreport.specs.{Reports.ReportData, Reports.told, declared.report.Part.Part}
 use Rattle.execexplore.specs.{declared.stretch.Stretch.Stretch, declared.frame.Frame.Frame, declared.whole.Paths.Paths}
 
 -- ---- what was searched
@@ -22,17 +23,13 @@ kinds_text [] = []
 kinds_text (kind ∷ rest) = kind_text kind ++ flat_map marked_kind rest
 
 abbrev pub names_text : Paths → List ℕ
-names_text names = names.machine.now ++ (codes ", " ++ (names.events.now ++ codes ": "))
+names_text names = shown names.machine.now ++ (codes ", " ++ (shown names.events.now ++ codes ": "))
 
 abbrev pub limits_text : (actions extra : ℕ) → List ℕ
 limits_text actions extra = decimal actions ++ (codes " actions, at most " ++ (decimal extra ++ codes " more of "))
 
-abbrev pub number_text : ℕ → List ℕ
-number_text ways = codes ": " ++ ways_text ways
-
 abbrev pub title_text : Paths → (extra : ℕ) → Frame → List ℕ
-title_text names extra f =
-    ((names_text names ++ limits_text (length f.actions.items) extra) ++ kinds_text f.kinds.items) ++ number_text f.ways
+title_text names extra f = (names_text names ++ limits_text (length f.actions.items) extra) ++ kinds_text f.kinds.items
 
 -- ---- what is seen
 
@@ -48,6 +45,7 @@ part_in stretch window = record { number = stretch.number; of = stretch.of; ways
 abbrev pub report_with : Paths → See → Option Stretch → Frame → Window → (alerts : ℕ) → List (Entry (List Event)) → ReportData
 report_with names see stretch f window alerts entries = record {
   title = title_text names f.sizes.most f;
+  all = f.ways;
   machine = string_bytes f.machine;
   events = string_bytes f.events;
   see = see_text see;

@@ -1,12 +1,13 @@
 //! Why there is no answer, what the command says of it, and the status that it ends with.
 ghost use Rattle.std.specs.Prelude.{◌≤◌};
 
+use escape::Shown;
 use execrun::Fault;
 use std::alloc::{AllocError, AllocFailed};
 use std::fmt;
 use std::io::Write;
 use taskscript::{EventFault, FileFault};
-use wayreport::SumFault;
+use wayreport::{REPORT_LIMIT, ReportFault, SumFault, VERSION};
 use ways::SearchFault;
 
 /// Why there is no answer. A path is that of the text that is meant.
@@ -32,8 +33,8 @@ pub enum Failure<'a> {
     TooManyTicks(u64),
     /// The outcome of this number is wanted, and there are fewer.
     NoOutcome(u64, usize),
-    /// The text at this path is no report.
-    NotAReport(&'a str),
+    /// The text at this path is no report that can be summed, and why.
+    NotAReport(ReportFault, &'a str),
     /// The reports have no sum; the path is that of the report that is meant, if one is.
     NoSum(SumFault, Option<&'a str>),
 }
@@ -93,7 +94,7 @@ fn show_no_sum<W: fmt::Write>(
     path: Option<&str>,
     f: &mut fmt::Formatter<W>,
 ) -> fmt::Result {
-    let path = path.unwrap_or("a report");
+    let path = Shown(path.unwrap_or("a report"));
     match fault {
         SumFault::OutOfMemory => f.write_str("no memory"),
         SumFault::NoReport => {
@@ -119,6 +120,33 @@ fn show_no_sum<W: fmt::Write>(
     }
 }
 
+/// Writes why a text is no report that can be summed.
+fn show_not_a_report<W: fmt::Write>(
+    fault: ReportFault,
+    path: &str,
+    f: &mut fmt::Formatter<W>,
+) -> fmt::Result {
+    let path = Shown(path);
+    match fault {
+        ReportFault::OutOfMemory => f.write_str("no memory"),
+        ReportFault::NotAReport => write!(f, "{path}: this is no report of execexplore"),
+        ReportFault::IsChanged => write!(
+            f,
+            "{path}: the last line is not the SHA-256 of the lines above it: this report was cut off or changed; make the part again"
+        ),
+        ReportFault::IsOtherVersion => write!(
+            f,
+            "{path}: this report is of another version of execexplore than {VERSION}; make all parts with one version"
+        ),
+        ReportFault::TooLong => {
+            write!(
+                f,
+                "{path}: this is longer than a report may be, {REPORT_LIMIT} bytes"
+            )
+        }
+    }
+}
+
 /// Writes for what an event text is refused.
 fn show_event_fault<W: fmt::Write>(fault: EventFault, f: &mut fmt::Formatter<W>) -> fmt::Result {
     match fault {
@@ -133,7 +161,7 @@ impl fmt::Display for Failure<'_> {
     fn fmt<W: fmt::Write>(&self, f: &mut fmt::Formatter<W>) -> fmt::Result {
         match self {
             Failure::NoMemory => f.write_str("no memory"),
-            Failure::CannotRead(path) => write!(f, "cannot read {path}"),
+            Failure::CannotRead(path) => write!(f, "cannot read {}", Shown(path)),
             Failure::WriteFailed => f.write_str("write failed"),
             Failure::Machine(fault) => write!(f, "machine: {}", fault.name()),
             Failure::Events(fault) => show_event_fault(*fault, f),
@@ -157,7 +185,7 @@ impl fmt::Display for Failure<'_> {
             Failure::NoOutcome(number, outcomes) => {
                 write!(f, "--events {number}: there are {outcomes} outcomes")
             }
-            Failure::NotAReport(path) => { write!(f, "{path}: this is no report of execexplore") }
+            Failure::NotAReport(fault, path) => show_not_a_report(*fault, path, f),
             Failure::NoSum(fault, path) => show_no_sum(*fault, *path, f),
         }
     }

@@ -5,13 +5,15 @@ use execrun::Texts;
 use std::alloc::Global;
 use std::io;
 use std::io::{ErrorKind, Read};
-use wayreport::{Report, ReportFault, SumFault, read_report, report_text, sum_reports};
+use wayreport::{
+    REPORT_LIMIT, Report, ReportFault, SumFault, read_report, report_text, sum_reports,
+};
 
-/// The bytes of a report, which may be of any length.
+/// The bytes of a report. Of a longer text than a report may be, one byte more is read.
 fn read_whole<T: Texts>(texts: &T, alloc: Global, path: &str) -> io::Result<Vec<u8>> {
-    let mut text = texts.open_text(path)?;
+    let text = texts.open_text(path)?;
     let mut bytes = Vec::new(alloc);
-    text.read_to_end(&mut bytes)?;
+    text.take(REPORT_LIMIT as u64 + 1).read_to_end(&mut bytes)?;
     Ok(bytes)
 }
 
@@ -25,7 +27,7 @@ fn report_at<'a, T: Texts>(texts: &T, alloc: Global, path: &'a str) -> Result<Re
     match read_report(alloc, &bytes) {
         Ok(report) => Ok(report),
         Err(ReportFault::OutOfMemory) => Err(Failure::NoMemory),
-        Err(ReportFault::NotAReport) => Err(Failure::NotAReport(path)),
+        Err(fault) => Err(Failure::NotAReport(fault, path)),
     }
 }
 

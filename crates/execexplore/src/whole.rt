@@ -1,21 +1,19 @@
 //! The search that a command line asks for, from two texts to the text of its report.
 ghost use Rattle.std.specs.Prelude.{◌≡◌, IfOk, None, option_map, string_bytes};
-ghost use Rattle.hex.specs.Hex.{encode_lower};
-ghost use Rattle.sha2.specs.Sha256.{sha256};
 ghost use Rattle.ways.specs.Entries.{entries_of};
 ghost use Rattle.wayreport.specs.Reports.{report_view, text_of};
-ghost use Rattle.execexplore.specs.Reporting.{limits_text, names_text, number_text, part_in, report_in, report_with, title_text};
+ghost use Rattle.execexplore.specs.Reporting.{limits_text, names_text, part_in, report_in, report_with, title_text};
 
 use crate::failure::Failure;
 use crate::frame::{Frame, MOST_ACTIONS, MOST_WAYS, check_ticks, kinds_for, number_of};
 use crate::options::{Options, kinds_text};
 use crate::stretch::{Stretch, stretch_window};
+use escape::Shown;
 use execrun::{Texts, read_text};
 use script::{Event, Events, MachineFile};
-use sha2::{Digest, Sha256};
 use std::alloc::{AllocError, Global};
 use taskscript::{EventFault, FileFault, read_events, read_machine};
-use wayreport::{Part, Report, found_of, lines_of, report_text, ways_text};
+use wayreport::{Part, Report, digest, found_of, lines_of, report_text};
 use wayrun::search;
 use ways::{Outcome, Sizes, Watcher, Window, actions_of};
 
@@ -42,13 +40,6 @@ impl<'a> Paths<'a> {
             events: name_in(self.events),
         }
     }
-}
-
-/// The SHA-256 of some bytes, in hexadecimal digits.
-fn digest(alloc: Global, bytes: &[u8]) -> Result<String, AllocError>
-    ensures { IfOk result (λ text. string_bytes text ≡ encode_lower (sha256 bytes.now)) }
-{
-    hex::encode(alloc, Sha256::digest(bytes))
 }
 
 /// The machine file of a text.
@@ -130,12 +121,12 @@ pub fn window_of(frame: &Frame, options: &Options<'_>) -> Window {
     }
 }
 
-/// The names of both files.
+/// The names of both files, as they are shown.
 fn names_text(alloc: Global, names: Paths<'_>) -> Result<String, AllocError>
     ensures { IfOk result (λ text. string_bytes text ≡ names_text names.entry) }
 {
-    let machine = names.machine;
-    let events = names.events;
+    let machine = Shown(names.machine);
+    let events = Shown(names.events);
     format!(in alloc; "{machine}, {events}: ")
 }
 
@@ -144,15 +135,6 @@ fn limits_text(alloc: Global, actions: usize, extra: usize) -> Result<String, Al
     ensures { IfOk result (λ text. string_bytes text ≡ limits_text actions extra) }
 {
     format!(in alloc; "{actions} actions, at most {extra} more of ")
-}
-
-/// The number of ways.
-fn number_text(alloc: Global, ways: u64) -> Result<String, AllocError>
-    ensures { IfOk result (λ text. string_bytes text ≡ number_text ways) }
-{
-    let counted = ways_text(alloc, ways)?;
-    let number = counted.as_str();
-    format!(in alloc; ": {number}")
 }
 
 /// What a report says of what was searched.
@@ -164,8 +146,6 @@ fn title_of(alloc: Global, names: Paths<'_>, frame: &Frame) -> Result<String, Al
     text.push_str(limits.as_str())?;
     let kinds = kinds_text(alloc, &frame.kinds)?;
     text.push_str(kinds.as_str())?;
-    let number = number_text(alloc, frame.ways)?;
-    text.push_str(number.as_str())?;
     Ok(text)
 }
 
@@ -206,6 +186,7 @@ fn report_of(
 {
     Ok(Report {
         title: title_of(alloc, names, frame)?,
+        all: frame.ways,
         machine: owned(alloc, frame.machine.as_str())?,
         events: owned(alloc, frame.events.as_str())?,
         see: owned(alloc, options.see.text())?,

@@ -2,6 +2,10 @@
 use Rattle.std.proofs.Common.{◌≡◌, ◌<◌, ◌∙◌, Bool, ℕ, zero, suc, List, [], ◌∷◌, true, false, Option, refl, sym, ap, ap₂, subst, inl, inr, arith, slice_index, codes, is_some, All}
 use Rattle.clap.specs.Words.{IsPlainArg, Text, app_of, args_of, first_of, first_value, found_of, App, IsParsedFrom, groups_of, is_simple, is_simple_and_free, matches_of, rule_of, with_rule, AddsArg, HasMatchesOf}
 use Rattle.clap.specs.Built.{FitsChain, HasDistinctIds, TakesValue}
+use Rattle.clap.specs.Words.{kind_of}
+use Rattle.clap.specs.Kinds.{HasKind, IsAmong, Kinds}
+use Rattle.clap.specs.declared.error.Error.{Error}
+use Rattle.clap.specs.declared.error.kind.ErrorKind.{ErrorKind}
 use Rattle.clap.specs.declared.builder.arg.Arg.{Arg}
 use Rattle.clap.specs.declared.builder.command.Command.{Command}
 use Rattle.clap.specs.declared.builder.command.Command.TheViews.{out-Command}
@@ -96,3 +100,8 @@ pub given_value : (app : App) → is_simple app ≡ true → (cmd : Command) (m 
 given_value app simple cmd m words name value is matches same =
     sym (ap (λ a. first_of name (matches_of a words)) is)
     ∙ (sym (ap (first_of name) (matches (ap is_simple is ∙ simple)).0) ∙ (sym (first_value-rows (found_of m) name) ∙ sym same))
+
+-- an error of the same kind is one of the same kinds
+pub fails_as_shown : (kinds : Kinds) (error shown : Error) → HasKind kinds error → kind_of shown ≡ kind_of error → HasKind kinds shown
+fails_as_shown kinds error shown (inl memory) same = inl (same ∙ memory)
+fails_as_shown kinds error shown (inr among) same = inr (subst (λ (k : ErrorKind). IsAmong k kinds) (sym same) among)

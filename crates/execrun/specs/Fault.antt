@@ -7,6 +7,7 @@ use Rattle.execsim.specs.declared.simulation.SimFault.TheVariants as sim
 use Rattle.execrun.specs.declared.fault.Fault.TheVariants.{Machine, Events, NoMemory, CannotRead, WriteFailed}
 use Rattle.execrun.specs.{declared.fault.Fault.Fault, Message.event_fault_text}
 use Rattle.taskscript.specs.Faults.{file_fault_name}
+use Rattle.escape.specs.Shown.{shown}
 
 -- memory that a reader was refused is memory that was refused
 abbrev pub fault_of : SimFault → Fault
@@ -22,7 +23,7 @@ abbrev pub message_of : Fault → List ℕ
 message_of (Machine fault) = codes "execsim: machine: " ++ file_fault_name fault
 message_of (Events fault) = codes "execsim: events: " ++ event_fault_text fault
 message_of NoMemory = codes "execsim: no memory"
-message_of (CannotRead path) = codes "execsim: cannot read " ++ path.now
+message_of (CannotRead path) = codes "execsim: cannot read " ++ shown path.now
 message_of WriteFailed = codes "execsim: write failed"
 
 -- and with it

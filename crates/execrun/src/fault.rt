@@ -1,6 +1,7 @@
-//! What can go wrong once the command line is right, and the line that says so.
+//! What can go wrong once the command line is right, and the line that says so. A path is shown as a terminal may get it.
 ghost use Rattle.std.specs.Prelude.{◌≡◌, Some};
 
+use escape::Shown;
 use execsim::SimFault;
 use std::fmt;
 use taskscript::{EventFault, FileFault};
@@ -49,7 +50,7 @@ impl fmt::Display for Fault<'_> {
             Fault::Machine(fault) => write!(f, "machine: {}", fault.name()),
             Fault::Events(fault) => write!(f, "events: {}", ShownEventFault(*fault)),
             Fault::NoMemory => f.write_str("no memory"),
-            Fault::CannotRead(path) => write!(f, "cannot read {path}"),
+            Fault::CannotRead(path) => write!(f, "cannot read {}", Shown(path)),
             Fault::WriteFailed => f.write_str("write failed"),
         }
     }

@@ -9,6 +9,7 @@ mod tasks;
 use crate::page::Page;
 use crate::run::Run;
 use crate::values::push_number;
+use escape::shown_text;
 use execlist::space::ListSpace;
 use execsim::Machine;
 use std::alloc::{AllocError, Global};
@@ -39,8 +40,9 @@ pub fn page_of<S: ListSpace>(
     number: u64,
     last: u64,
 ) -> Result<String, AllocError> {
+    let path = shown_text(alloc, path)?;
     let mut page = Page::new(alloc);
-    push_title(&mut page, path, number, last);
+    push_title(&mut page, path.as_str(), number, last);
     machine::push_machine(&mut page, machine, run);
     tasks::push_tasks(&mut page, machine, run);
     memory::push_memory(&mut page, machine, run);

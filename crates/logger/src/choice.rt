@@ -3,6 +3,7 @@
 use crate::command_line::Paths;
 use crate::failure::Failure;
 use crate::options::Options;
+use escape::Shown;
 use execlog::{Body, Book, Filter, Who};
 use logforms::{Run, last_number};
 use std::alloc::{AllocError, Global};
@@ -84,6 +85,7 @@ fn has_line(bodies: &[Body], line: u64) -> bool {
 
 /// What is said of a line that has no command.
 fn no_command(alloc: Global, book: &Book, path: &str, line: u64) -> Result<String, AllocError> {
+    let path = Shown(path);
     match neighbours(book, line) {
         (None, None) => format!(in alloc;
             "--at {line}: it is not known in which lines of {path} its commands are; write each as a string of its own line below a header [[task]], [[server]] or [[softint]]"
@@ -129,6 +131,8 @@ fn push_names(sentence: &mut String, bodies: &[Body], is_first: bool) -> Result<
 
 /// What is said of a name that nobody has.
 fn no_name(alloc: Global, book: &Book, path: &str, name: &str) -> Result<String, AllocError> {
+    let path = Shown(path);
+    let name = Shown(name);
     let mut sentence = format!(in alloc;
         "--task {name}: no task, server or software interrupt of {path} has that name; "
     )?;

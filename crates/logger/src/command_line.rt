@@ -2,7 +2,9 @@
 
 use crate::failure::Failure;
 use crate::options::{Options, View, number_in};
+use clap::error::ErrorKind;
 use clap::{Arg, ArgAction, ArgMatches, Command, Error};
+use escape::{HIDDEN_WORD, words_if_hidden};
 use std::alloc::{AllocError, Global};
 
 /// The paths of a command line.
@@ -238,6 +240,41 @@ fn options_in<'a>(matches: &ArgMatches<'a>) -> Result<Options<'a>, Failure<'a>> 
     Ok(options)
 }
 
+/// Parses words as they are shown.
+fn parse_shown(alloc: Global, words: &[String]) -> Result<(), Error> {
+    let _matches = command(alloc)?.try_get_matches_from(words)?;
+    Ok(())
+}
+
+/// A refusal of a kind that has none of the words.
+fn bare_error(alloc: Global, kind: ErrorKind) -> Result<Error, AllocError> {
+    command(alloc)?.error(kind, HIDDEN_WORD)
+}
+
+/// An error, if it is of a kind, or a refusal of that kind that has none of the words.
+fn error_of_kind(alloc: Global, error: Error, kind: ErrorKind) -> Result<Error, AllocError> {
+    if error.kind() == kind {
+        return Ok(error);
+    }
+    bare_error(alloc, kind)
+}
+
+/// What `clap` answers to words as they are shown, if it refuses them as they were refused, or a refusal that has none of them.
+fn error_over(alloc: Global, words: &[String], kind: ErrorKind) -> Result<Error, AllocError> {
+    match parse_shown(alloc, words) {
+        Ok(()) => bare_error(alloc, kind),
+        Err(error) => error_of_kind(alloc, error, kind),
+    }
+}
+
+/// What `clap` answers to some words, with the words as they are shown.
+fn error_shown(alloc: Global, words: &[&str], error: Error) -> Result<Error, AllocError> {
+    match words_if_hidden(alloc, words)? {
+        None => Ok(error),
+        Some(shown) => error_over(alloc, shown.as_slice(), error.kind()),
+    }
+}
+
 /// What the words of a command line ask for.
 ///
 /// # Errors
@@ -249,7 +286,10 @@ pub fn asked_by<'a>(
     alloc: Global,
     words: &'a [&'a str],
 ) -> Result<(Paths<'a>, Options<'a>), Refusal<'a>> {
-    let matches = command(alloc)?.try_get_matches_from(words)?;
+    let matches = match command(alloc)?.try_get_matches_from(words) {
+        Ok(matches) => matches,
+        Err(error) => return Err(Refusal::Words(error_shown(alloc, words, error)?)),
+    };
     let (Some(machine), Some(events)) = (matches.get_str("MACHINE"), matches.get_str("EVENTS"))
     else {
         return Err(Refusal::Command(Failure::Option(
@@ -265,7 +305,7 @@ pub fn asked_by<'a>(
 /// Source: project rule.
 pub fn not_text_error(alloc: Global) -> Result<Error, AllocError> {
     command(alloc)?.error(
-        clap::error::ErrorKind::InvalidValue,
+        ErrorKind::InvalidValue,
         "invalid UTF-8 was detected in one or more arguments",
     )
 }

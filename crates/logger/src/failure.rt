@@ -1,6 +1,7 @@
 //! Why the command does not show what is asked for, what it says of it, and the status that it ends with.
 ghost use Rattle.std.specs.Prelude.{◌≤◌};
 
+use escape::Shown;
 use execlog::LogFault;
 use execpicture::PictureFault;
 use execrun::Fault;
@@ -129,7 +130,7 @@ impl fmt::Display for Failure<'_> {
     fn fmt<W: fmt::Write>(&self, f: &mut fmt::Formatter<W>) -> fmt::Result {
         match self {
             Failure::NoMemory => f.write_str("no memory"),
-            Failure::CannotRead(path) => write!(f, "cannot read {path}"),
+            Failure::CannotRead(path) => write!(f, "cannot read {}", Shown(path)),
             Failure::WriteFailed => f.write_str("write failed"),
             Failure::Machine(fault) => write!(f, "machine: {}", fault.name()),
             Failure::Events(fault) => show_event_fault(*fault, f),

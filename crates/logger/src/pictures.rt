@@ -4,6 +4,7 @@ use crate::choice::number_or;
 use crate::command_line::Paths;
 use crate::failure::Failure;
 use crate::options::{Options, View};
+use escape::shown_text;
 use execpicture::{Stretch, write_chrome, write_svg};
 use exectrace::WriteSink;
 use logforms::{Run, last_number};
@@ -48,7 +49,8 @@ pub fn write_picture<'a, W: Write>(
     out: &mut W,
 ) -> Result<bool, Failure<'a>> {
     let part = stretch_of(alloc, run, options)?;
-    let title = file_name(paths.machine);
+    let shown = shown_text(alloc, file_name(paths.machine))?;
+    let title = shown.as_str();
     let mut sink = WriteSink::new(&mut *out);
     if options.view == View::Svg {
         Ok(write_svg(alloc, &run.listed, &run.events, title, part, &mut sink)?)

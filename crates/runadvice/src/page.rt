@@ -3,7 +3,8 @@ ghost use Rattle.std.specs.Prelude.{◌≡◌, option_map};
 ghost use Rattle.taskscript.specs.declared.place.Owner.{Owner};
 ghost use Rattle.runadvice.specs.Alerts.{line_in, name_in};
 
-use execadvice::{Advice, Span, Written, field_span, line_at, line_text, said_by, shown};
+use escape::shown_text;
+use execadvice::{Advice, Span, Written, field_span, line_at, line_text, said_by};
 use script::MachineFile;
 use std::alloc::{AllocError, Global};
 use taskscript::{Array, LinePlace, Listed, Listing, Owner};
@@ -146,7 +147,7 @@ impl<'a> Page<'a> {
 
     /// Adds what was found at a task whose code has no command.
     fn add_to_empty(&mut self, task: usize, header: &str, reason: &str) -> Result<(), AllocError> {
-        let path = shown(self.alloc, self.path)?;
+        let path = shown_text(self.alloc, self.path)?;
         let name = name_of(self.file, Owner::Task, task).unwrap_or("");
         let (line, column) = match self.written.head(Array::Task, task) {
             None => (1, 1),

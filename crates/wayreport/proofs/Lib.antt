@@ -1,5 +1,6 @@
 -- The lemma files of `wayreport`.
 mod Adding
+mod Distinct
 mod Entering
 mod Finding
 mod Parting

@@ -2,4 +2,5 @@ pub mod Events
 pub mod Reports
 pub mod Sums
 pub mod Parts
+pub mod Right
 pub mod Totals

@@ -29,6 +29,7 @@ parts_of (Some part) = part.of
 -- a report is of one of that many parts of the same search as another
 pub record IsPartOf (whole : Report) (parts : ℕ) (r : Report) : Type 0 where
   pub title : string_bytes r.title ≡ string_bytes whole.title
+  pub all : r.all ≡ whole.all
   pub machine : string_bytes r.machine ≡ string_bytes whole.machine
   pub events : string_bytes r.events ≡ string_bytes whole.events
   pub see : string_bytes r.see ≡ string_bytes whole.see

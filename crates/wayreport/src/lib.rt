@@ -5,12 +5,13 @@ mod events;
 pub mod laws;
 mod reading;
 mod report;
+mod right;
 mod sum;
 mod text;
 mod total;
 
 pub use events::{first_text, lines_of};
-pub use reading::{ReportFault, read_report};
+pub use reading::{REPORT_LIMIT, ReportFault, read_report};
 pub use report::{Found, Part, Report, found_of};
 pub use sum::{SumFault, sum_reports};
-pub use text::{report_text, ways_text};
+pub use text::{VERSION, digest, report_text, ways_text};

@@ -1,10 +1,14 @@
 //! The reading of a report.
-ghost use Rattle.std.specs.Prelude.{◌≡◌, All, IfOk, OnOk, string_bytes};
-ghost use Rattle.wayreport.specs.Reports.{IsFirst, report_view, text_of};
+ghost use Rattle.std.specs.Prelude.{◌≡◌, true, All, IfOk, OnOk, string_bytes};
+ghost use Rattle.std.specs.{List.list_all, Str.chars};
+ghost use Rattle.escape.specs.Shown.{is_plain_character};
+ghost use Rattle.wayreport.specs.{Reports.IsFirst, Reports.report_view, Reports.text_of, Right.IsRight};
 
 use crate::events::first_text;
 use crate::report::{Found, Part, Report};
-use crate::text::report_text;
+use crate::right::check_right;
+use crate::text::{VERSION, closing_line, report_text};
+use escape::is_plain;
 use script::Event;
 use std::alloc::{AllocError, AllocFailed, Global};
 use taskscript::{EventFault, read_events};
@@ -13,6 +17,12 @@ use ways::actions_of;
 /// How many actions a way may have: those of the longest event text and a few more.
 const MOST_ACTIONS: u64 = 2_100_008;
 
+/// How many bytes a report may have.
+pub const REPORT_LIMIT: usize = 268_435_456;
+
+/// What is before the digest in the last line.
+const CLOSING: &str = "lines above: SHA-256 ";
+
 /// Why a text is no report.
 #[derive(Clone, Copy)]
 pub enum ReportFault {
@@ -20,6 +30,12 @@ pub enum ReportFault {
     OutOfMemory,
     /// The text is not what a search prints.
     NotAReport,
+    /// The last line is not that of the lines above it: the report was cut off or changed.
+    IsChanged,
+    /// The report is of another version of the program.
+    IsOtherVersion,
+    /// The text is longer than `REPORT_LIMIT`.
+    TooLong,
 }
 
 impl From<AllocError> for ReportFault {
@@ -71,12 +87,20 @@ fn between<'a>(text: &'a str, front: &str, mark: &str) -> Result<(&'a str, &'a s
     cut(after(text, front)?, mark)
 }
 
-/// What is before the last comma of the first line, of which the number of outcomes follows.
-fn title_in(line: &str) -> Result<&str, ReportFault> {
-    match line.rsplit_once(", ") {
+/// What is before and after the last mark in a text.
+fn cut_last<'a>(text: &'a str, mark: &str) -> Result<(&'a str, &'a str), ReportFault> {
+    match text.rsplit_once(mark) {
         None => Err(ReportFault::NotAReport),
-        Some((title, _)) => Ok(title),
+        Some(parts) => Ok(parts),
     }
+}
+
+/// What is said of the search in the first line, and the number of all ways; the number of outcomes follows.
+fn title_in(line: &str) -> Result<(&str, u64), ReportFault> {
+    let (front, _) = cut_last(line, ", ")?;
+    let (title, ways) = cut_last(front, ": ")?;
+    let (all, _) = cut(ways, " way")?;
+    Ok((title, number_in(all)?))
 }
 
 /// The part that a line names, as `part 2 of 4: 226 ways`.
@@ -133,6 +157,7 @@ fn found_in(alloc: Global, text: &str) -> Result<Vec<Found>, ReportFault> {
 #[derive(Clone, Copy)]
 struct Head<'a> {
     title: &'a str,
+    all: u64,
     part: Option<Part>,
     machine: &'a str,
     events: &'a str,
@@ -154,14 +179,19 @@ fn part_before(text: &str) -> Result<(Option<Part>, &str), ReportFault> {
 /// The lines before the outcomes.
 fn head_in(text: &str) -> Result<Head<'_>, ReportFault> {
     let (line, rest) = cut(text, "\n")?;
-    let title = title_in(line)?;
+    let (title, all) = title_in(line)?;
     let (part, rest) = part_before(rest)?;
+    let (version, rest) = between(rest, "program: execexplore ", "\n")?;
+    if version != VERSION {
+        return Err(ReportFault::IsOtherVersion);
+    }
     let (machine, rest) = between(rest, "machine file: SHA-256 ", "\n")?;
     let (events, rest) = between(rest, "event text: SHA-256 ", "\n")?;
     let (see, rest) = between(rest, "seen of a way: ", "\n")?;
     let (alerts, after) = between(rest, "ways that end in an alert: ", "\n")?;
     Ok(Head {
         title,
+        all,
         part,
         machine,
         events,
@@ -171,11 +201,23 @@ fn head_in(text: &str) -> Result<Head<'_>, ReportFault> {
     })
 }
 
-/// The report that a text has, if it is one.
+/// The lines above the last one, if that is theirs.
+fn lines_above(alloc: Global, text: &str) -> Result<&str, ReportFault> {
+    let (above, sum) = cut_last(text, CLOSING)?;
+    let closing = closing_line(alloc, above.as_bytes())?;
+    if closing.as_str().strip_prefix(CLOSING) == Some(sum) {
+        Ok(above)
+    } else {
+        Err(ReportFault::IsChanged)
+    }
+}
+
+/// The report that the lines of a text above its last one have, if it is one.
 fn report_in(alloc: Global, text: &str) -> Result<Report, ReportFault> {
     let head = head_in(text)?;
     Ok(Report {
         title: String::from_str(alloc, head.title)?,
+        all: head.all,
         machine: String::from_str(alloc, head.machine)?,
         events: String::from_str(alloc, head.events)?,
         see: String::from_str(alloc, head.see)?,
@@ -244,21 +286,37 @@ fn check_firsts(alloc: Global, found: &[Found]) -> Result<(), ReportFault>
     Ok(())
 }
 
-/// Reads a report. What is read prints the same text again, byte for byte, and each first way is the text of a way: any other text is refused.
+/// The text of some bytes, if a terminal shows it as it is.
+fn plain_text(bytes: &[u8]) -> Result<&str, ReportFault>
+    ensures same { IfOk result (λ text. text.now ≡ bytes.now) }
+    ensures plain { IfOk result (λ text. list_all is_plain_character (chars text.now) ≡ true) }
+{
+    match std::str::from_utf8(bytes) {
+        Ok(text) if is_plain(text) => Ok(text),
+        _ => Err(ReportFault::NotAReport),
+    }
+}
+
+/// Reads a report. What is read prints the same text again, byte for byte, its numbers fit together, each first way is the text of a way, and a
+/// terminal shows each character as it is: any other text is refused.
 ///
 /// # Errors
 ///
-/// `NotAReport`, and `OutOfMemory`.
+/// `TooLong`; `IsChanged` if the last line is not that of the lines above it, `IsOtherVersion`, `NotAReport`, and `OutOfMemory`.
 ///
 /// Source: project rule.
 pub fn read_report(alloc: Global, text: &[u8]) -> Result<Report, ReportFault>
     ensures text { IfOk result (λ report. text_of (report_view report) ≡ text.now) }
+    ensures right { IfOk result (λ report. IsRight (report_view report)) }
     ensures firsts { IfOk result (λ report. All (λ f. IsFirst (string_bytes f.first)) report.found.items) }
+    ensures plain { OnOk result (list_all is_plain_character (chars text.now) ≡ true) }
 {
-    let Ok(shown) = std::str::from_utf8(text) else {
-        return Err(ReportFault::NotAReport);
-    };
-    let report = report_in(alloc, shown)?;
+    if text.len() > REPORT_LIMIT {
+        return Err(ReportFault::TooLong);
+    }
+    let shown = plain_text(text)?;
+    let report = report_in(alloc, lines_above(alloc, shown)?)?;
+    check_right(alloc, &report)?;
     check_firsts(alloc, &report.found)?;
     let printed = report_text(alloc, &report)?;
     if printed.as_slice() == text {

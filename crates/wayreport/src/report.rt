@@ -30,8 +30,10 @@ pub struct Part {
 /// A report.
 #[derive(Drop)]
 pub struct Report {
-    /// What was searched: the paths of both texts, the actions, the extras and the number of all ways.
+    /// What was searched: the names of both texts, the actions and the extras.
     pub title: String,
+    /// The number of all ways.
+    pub all: u64,
     /// The SHA-256 of the machine file, in hexadecimal digits.
     pub machine: String,
     /// The SHA-256 of the event text.

@@ -39,7 +39,7 @@ impl<T: Drop> From<AllocFailed<T>> for SumFault {
 }
 
 /// Adds the outcomes of later ways.
-fn merge(alloc: Global, total: &mut Total, more: &[Found]) -> Result<(), SumFault>
+pub(crate) fn merge(alloc: Global, total: &mut Total, more: &[Found]) -> Result<(), SumFault>
     ensures { OnOk result (total.new ≡ merged total.old (map found_view more.now)) }
 {
     for one in more {
@@ -112,6 +112,7 @@ fn is_part_of(whole: &Report, parts: usize, report: &Report) -> bool
     ensures { result ≡ true → IsPartOf whole.now parts report.now }
 {
     report.title.as_str() == whole.title.as_str()
+        && report.all == whole.all
         && report.machine.as_str() == whole.machine.as_str()
         && report.events.as_str() == whole.events.as_str()
         && report.see.as_str() == whole.see.as_str()
@@ -147,6 +148,7 @@ fn alerts_of(reports: &[Report]) -> Result<u64, SumFault>
 /// A report of the whole with no outcome, of the search that another report is of.
 fn whole_of(alloc: Global, report: &Report) -> Result<Report, AllocError>
     ensures title { IfOk result (λ whole. string_bytes whole.title ≡ string_bytes report.now.title) }
+    ensures all { IfOk result (λ whole. whole.all ≡ report.now.all) }
     ensures machine { IfOk result (λ whole. string_bytes whole.machine ≡ string_bytes report.now.machine) }
     ensures events { IfOk result (λ whole. string_bytes whole.events ≡ string_bytes report.now.events) }
     ensures see { IfOk result (λ whole. string_bytes whole.see ≡ string_bytes report.now.see) }
@@ -154,6 +156,7 @@ fn whole_of(alloc: Global, report: &Report) -> Result<Report, AllocError>
 {
     Ok(Report {
         title: report.title.clone()?,
+        all: report.all,
         machine: report.machine.clone()?,
         events: report.events.clone()?,
         see: report.see.clone()?,

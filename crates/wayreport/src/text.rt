@@ -1,9 +1,28 @@
 //! The text of a report.
 ghost use Rattle.std.specs.Prelude.{◌≡◌, ◌+◌, ◌==◌, ◌++◌, Bool, true, IfOk, OnOk, map, codes, string_bytes};
-ghost use Rattle.wayreport.specs.Reports.{digest_lines, entries_text, entry_line, entry_text, found_view, head_text, indented, outcomes_text, part_text, report_view, seen_lines, text_of, title_line, ways_text};
+ghost use Rattle.hex.specs.Hex.{encode_lower};
+ghost use Rattle.sha2.specs.Sha256.{sha256};
+ghost use Rattle.wayreport.specs.Reports.{body_of, closing_line, digest_lines, entries_text, entry_line, entry_text, first_lines, found_view, head_text, indented, outcomes_text, part_text, program_line, report_view, seen_lines, text_of, title_line, ways_text};
 
 use crate::report::{Found, Part, Report};
+use sha2::{Digest, Sha256};
 use std::alloc::{AllocError, Global};
+
+/// The version of the program, which is in each report.
+pub const VERSION: &str = "1.0";
+
+/// The SHA-256 of some bytes, in hexadecimal digits.
+///
+/// # Errors
+///
+/// Memory was refused.
+///
+/// Source: project rule.
+pub fn digest(alloc: Global, bytes: &[u8]) -> Result<String, AllocError>
+    ensures { IfOk result (λ text. string_bytes text ≡ encode_lower (sha256 bytes.now)) }
+{
+    hex::encode(alloc, Sha256::digest(bytes))
+}
 
 /// Adds a text with two spaces before each of its lines.
 fn push_indented(out: &mut Vec<u8>, text: &[u8]) -> Result<(), AllocError>
@@ -103,9 +122,18 @@ fn title_line(alloc: Global, report: &Report, outcomes: usize) -> Result<String,
     ensures { IfOk result (λ text. string_bytes text ≡ title_line outcomes (report_view report.now)) }
 {
     let title = report.title.as_str();
-    let counted = outcomes_text(alloc, outcomes)?;
-    let number = counted.as_str();
-    format!(in alloc; "{title}, {number}\n")
+    let counted = ways_text(alloc, report.all)?;
+    let ways = counted.as_str();
+    let different = outcomes_text(alloc, outcomes)?;
+    let number = different.as_str();
+    format!(in alloc; "{title}: {ways}, {number}\n")
+}
+
+/// The line of the program that made the report.
+fn program_line(alloc: Global) -> Result<String, AllocError>
+    ensures { IfOk result (λ text. string_bytes text ≡ program_line) }
+{
+    format!(in alloc; "program: execexplore {VERSION}\n")
 }
 
 /// The digests of both texts.
@@ -126,18 +154,55 @@ fn seen_lines(alloc: Global, report: &Report) -> Result<String, AllocError>
     format!(in alloc; "seen of a way: {see}\nways that end in an alert: {alerts}\n")
 }
 
-/// The lines before that many outcomes.
-fn head_text(alloc: Global, report: &Report, outcomes: usize) -> Result<String, AllocError>
-    ensures { IfOk result (λ text. string_bytes text ≡ head_text outcomes (report_view report.now)) }
+/// The lines before the digests.
+fn first_lines(alloc: Global, report: &Report, outcomes: usize) -> Result<String, AllocError>
+    ensures { IfOk result (λ text. string_bytes text ≡ first_lines outcomes (report_view report.now)) }
 {
     let mut text = title_line(alloc, report, outcomes)?;
     let part = part_text(alloc, report.part)?;
     text.push_str(part.as_str())?;
+    let program = program_line(alloc)?;
+    text.push_str(program.as_str())?;
+    Ok(text)
+}
+
+/// The lines before that many outcomes.
+fn head_text(alloc: Global, report: &Report, outcomes: usize) -> Result<String, AllocError>
+    ensures { IfOk result (λ text. string_bytes text ≡ head_text outcomes (report_view report.now)) }
+{
+    let mut text = first_lines(alloc, report, outcomes)?;
     let digests = digest_lines(alloc, report)?;
     text.push_str(digests.as_str())?;
     let seen = seen_lines(alloc, report)?;
     text.push_str(seen.as_str())?;
     Ok(text)
+}
+
+/// All lines of a report but the last.
+fn report_body(alloc: Global, report: &Report) -> Result<Vec<u8>, AllocError>
+    ensures { IfOk result (λ text. text.items ≡ body_of (report_view report.now)) }
+{
+    let head = head_text(alloc, report, report.found.len())?;
+    let mut out = Vec::new(alloc);
+    out.extend_from_slice(head.as_bytes())?;
+    push_entries(alloc, &mut out, report.found.as_slice())?;
+    out.extend_from_slice(b"\n")?;
+    Ok(out)
+}
+
+/// The last line of a report, of all that is above it.
+///
+/// # Errors
+///
+/// Memory was refused.
+///
+/// Source: project rule.
+pub fn closing_line(alloc: Global, body: &[u8]) -> Result<String, AllocError>
+    ensures { IfOk result (λ text. string_bytes text ≡ closing_line body.now) }
+{
+    let digits = digest(alloc, body)?;
+    let sum = digits.as_str();
+    format!(in alloc; "lines above: SHA-256 {sum}\n")
 }
 
 /// The text of a report.
@@ -150,9 +215,8 @@ fn head_text(alloc: Global, report: &Report, outcomes: usize) -> Result<String, 
 pub fn report_text(alloc: Global, report: &Report) -> Result<Vec<u8>, AllocError>
     ensures { IfOk result (λ text. text.items ≡ text_of (report_view report.now)) }
 {
-    let head = head_text(alloc, report, report.found.len())?;
-    let mut out = Vec::new(alloc);
-    out.extend_from_slice(head.as_bytes())?;
-    push_entries(alloc, &mut out, report.found.as_slice())?;
+    let mut out = report_body(alloc, report)?;
+    let closing = closing_line(alloc, out.as_slice())?;
+    out.extend_from_slice(closing.as_bytes())?;
     Ok(out)
 }

@@ -1,5 +1,5 @@
 //! The outcomes of several parts, each text once.
-ghost use Rattle.std.specs.Prelude.{◌≡◌, [], map, IfOk, OnOk, string_bytes};
+ghost use Rattle.std.specs.Prelude.{◌≡◌, [], length, map, IfOk, OnOk, string_bytes};
 ghost use Rattle.ways.specs.Tables.{added};
 ghost use Rattle.wayreport.specs.{Reports.found_view, Totals.entries_in};
 
@@ -41,6 +41,13 @@ impl Total {
         Total {
             tallies: IndexMap::new(alloc),
         }
+    }
+
+    /// The number of outcomes.
+    pub fn len(&self) -> usize
+        ensures { result ≡ length self.now }
+    {
+        self.tallies.len()
     }
 
     /// Adds an outcome of later ways.

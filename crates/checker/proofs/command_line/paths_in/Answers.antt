@@ -1,10 +1,10 @@
--- The proof of `paths_given`: the paths that the words of a command line give.
+-- The proof of `paths_in`: the paths that the words of a command line give.
 use Rattle.std.proofs.Common.{◌∙◌, rules, ap, sym, codes}
 use Rattle.clap.specs.Words.{fault_of, is_simple_and_free}
 use Rattle.clap.specs.Walk.{texts}
 use Rattle.execrun.proofs.CommandLemmas.{given_value}
 use Rattle.checker.proofs.CommandLemmas.{is_simple_here, is_simple_and_free_here}
-use Rattle.checker.proofs.command_line.paths_given.Goals as goal
+use Rattle.checker.proofs.command_line.paths_in.Goals as goal
 
 pub returns-clause-given : goal.returns-clause-given
 returns-clause-given c = record {
