@@ -9,6 +9,10 @@ pub mod ClockLaw
 pub mod Commands
 pub mod Deeds
 pub mod Keeping
+pub mod FedScripts
+pub mod FedWords
+pub mod FedActions
+pub mod FedRuns
 pub mod Fifo
 pub mod FifoLaw
 pub mod Formed
