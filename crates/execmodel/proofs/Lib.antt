@@ -13,6 +13,10 @@ pub mod FedScripts
 pub mod FedWords
 pub mod FedActions
 pub mod FedRuns
+pub mod NewTask
+pub mod NewMemory
+pub mod NewWords
+pub mod NewActions
 pub mod Fifo
 pub mod FifoLaw
 pub mod Formed
