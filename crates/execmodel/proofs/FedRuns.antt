@@ -108,15 +108,18 @@ event_ready e s ready = record {
       (event_with (count_of_tasks s) no_task e s ready.sound (ready.sized (event_going e s going)) going).sized;
 }
 
+pub fed_sound : (t : ℕ) (command : CommandData) (s : State) → IsSound s → IsSound (fed t command s)
+fed_sound t command s sound = record {
+  tidy = record { formed = sound.tidy.formed; order = sound.tidy.order };
+  idle = sound.idle;
+  counted = fed_count t command s.scripts ∙ sound.counted;
+  roomy = sound.roomy;
+  agrees = sound.agrees;
+}
+
 fed_ready : (t : ℕ) (command : CommandData) (s : State) → IsReady s → IsReady (fed t command s)
 fed_ready t command s ready = record {
-  sound = record {
-    tidy = record { formed = ready.sound.tidy.formed; order = ready.sound.tidy.order };
-    idle = ready.sound.idle;
-    counted = fed_count t command s.scripts ∙ ready.sound.counted;
-    roomy = ready.sound.roomy;
-    agrees = ready.sound.agrees;
-  };
+  sound = fed_sound t command s ready.sound;
   sized = λ going. let sized = ready.sized going in (sized.0, fed_count t command s.scripts ∙ sized.1);
 }
 

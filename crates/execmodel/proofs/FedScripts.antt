@@ -43,6 +43,13 @@ here_at d u f [] less = absurd (omega (arith, less))
 here_at d zero f (x ∷ xs) less = refl
 here_at d (suc u) f (x ∷ xs) less = here_at d u f xs (omega (arith, less))
 
+-- as the item is set
+pub altered_is : {A : Type 0} (d : A) (n : ℕ) (f : A → A) (xs : List A) → altered n f xs ≡ slice_set xs n (f (slice_index_or xs n d))
+unfolding altered
+altered_is d n f [] = refl
+altered_is d zero f (x ∷ xs) = refl
+altered_is d (suc n) f (x ∷ xs) = ap (λ ys. x ∷ ys) (altered_is d n f xs)
+
 -- two changes that commute
 set_altered : {A : Type 0} (d : A) (u : ℕ) (f : A → A) (t : ℕ) (h : A → A) (xs : List A) → ((x : A) → h (f x) ≡ f (h x))
     → slice_set (altered u f xs) t (h (slice_index_or (altered u f xs) t d)) ≡ altered u f (slice_set xs t (h (slice_index_or xs t d)))
