@@ -1,8 +1,9 @@
 -- A step, a tick, a request and the start do of a machine whose body grows what they do of the machine without that.
 use Rattle.std.proofs.Common.{◌≡◌, ◌≢◌, ◌∙◌, ℕ, zero, suc, Bool, true, false, List, [], ◌∷◌, Option, None, Some, length, refl, ap, if◌then◌else◌}
 use Rattle.execlist.specs.Disciplines.{by_arrival}
+use Rattle.exectrace.specs.Heard.{text_of_source}
 use Rattle.exectrace.specs.Trace.{Serve, Server, Softint, TraceLine}
-use Rattle.taskscript.specs.Commands.{CommandData}
+use Rattle.script.specs.Commands.{CommandData}
 use Rattle.scheduler.specs.{declared.Switch.Switch as Choice, Schedule.Schedule, Dispatch.switch_of, Dispatch.rescheduled, Dispatch.added}
 use Rattle.scheduler.specs.declared.Switch.TheVariants as switch
 use Rattle.softint.specs.declared.source.Source.{Source}
@@ -10,7 +11,7 @@ use Rattle.softint.specs.declared.source.Source.TheVariants as source
 use Rattle.timerdev.specs.Timing.{ticked}
 use Rattle.execmodel.specs.State.{Call, Scripts, State, Outcome, quiet, says, andthen, unless_stopped, on_schedule, on_memory, on_pending, on_timer}
 use Rattle.execmodel.specs.Feeding.{fed, fed_to, and_fed, if_no_call, without_call, without_call_or_softint, at_end}
-use Rattle.execmodel.specs.Interrupts.{softint_at, runs_softint, server_at, chain_of, runs_server, runs_chain, text_of_source, serving_counted, finishes_for, serves, servings, interrupts}
+use Rattle.execmodel.specs.Interrupts.{softint_at, runs_softint, server_at, chain_of, runs_server, runs_chain, serving_counted, finishes_for, serves, servings, interrupts}
 use Rattle.execmodel.specs.Step.{announced, switches, settle, ends, task_step, call_step, softint_or_task_step, acting, acts, step, request, tick, started, all_added, starts}
 use Rattle.execmodel.specs.{Calls.next_call, Calls.call_in_body, Pending.caused_no_more, Pending.with_latch_of, Pending.next_softint, Pending.next_source, Bodies.does_in_body, Bodies.body_step, Bodies.runs_body}
 use Rattle.execmodel.proofs.FedScripts.{fed_count, fed_starts, fed_body_call, fed_next}

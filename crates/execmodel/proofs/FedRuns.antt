@@ -1,8 +1,8 @@
 -- A machine whose commands come in time runs as the one whose bodies are whole from the start.
 use Rattle.std.proofs.Common.{inl, inr, pos, replicate, slice_index_or, ◌≤◌, ◌≡◌, ◌≢◌, ◌∙◌, ℕ, zero, suc, ◌<◌, Bool, true, false, ◌||◌, List, [], ◌∷◌, ◌++◌, Option, Some, map, refl, sym, ap, subst, arith, nat_eq}
 use Rattle.memlist.proofs.Answered.{nat_eq-same}
-use Rattle.taskscript.specs.declared.event.Event.TheVariants.{Run, Tick, Irq}
-use Rattle.taskscript.specs.{Machines.IsMachine, declared.event.Event.Event, Commands.CommandData, File.MachineData, File.TaskData}
+use Rattle.script.specs.declared.event.Event.TheVariants.{Run, Tick, Irq}
+use Rattle.script.specs.{Machines.IsMachine, declared.event.Event.Event, Commands.CommandData, File.MachineData, File.TaskData}
 use Rattle.scheduler.specs.Schedule.{Schedule, unstarted}
 use Rattle.execmodel.specs.State.{Program, State, Outcome, quiet, andthen, unless_stopped, no_program, on_schedule, begun, booted}
 use Rattle.execmodel.specs.Feeding.{altered, longer, fed_to, fed, at_end, StepsCommuteWithFeeding, OthersCommuteWithFeeding, AFedCommandIsNext, BodiesRunInParts, Input, Comes, Feeds, inputs, fed_task, whole, events_among, is_fed, StaysWithin, ComeInTime, FedMachinesRunAsWhole}

@@ -1,8 +1,8 @@
 -- What reads the scripts reads the same of scripts in which a body has one more command at its end, and what changes them leaves it there.
 use Rattle.std.proofs.Common.{inl, inr, ◌≡◌, ◌≢◌, ◌⊎◌, ℕ, zero, suc, ◌+◌, ◌<◌, List, [], ◌∷◌, ◌++◌, Option, None, Some, length, map, refl, ap, ap₂, ◌∙◌, arith, slice_get, slice_index_or, slice_set}
 use Rattle.exectrace.specs.Trace.{Value}
-use Rattle.taskscript.specs.declared.variable.Variable.TheVariants.{Private, Shared}
-use Rattle.taskscript.specs.{declared.variable.Variable.Variable, Commands.ArgumentData, Commands.number, Commands.variable, Commands.quoted, Commands.place, Commands.CommandData}
+use Rattle.script.specs.declared.variable.Variable.TheVariants.{Private, Shared}
+use Rattle.script.specs.{declared.variable.Variable.Variable, Commands.ArgumentData, Commands.number, Commands.variable, Commands.quoted, Commands.place, Commands.CommandData}
 use Rattle.execmodel.specs.State.{Call, Program, Scripts, no_program, program_of}
 use Rattle.execmodel.specs.Calls.{content, stored, evaluated, call_of, call_at, call_after, next_call, goes_on, keeps, stored_shared, evaluated_in_body, call_in_body}
 use Rattle.execmodel.specs.Feeding.{altered, longer, fed_to, IsAtItsEnd}

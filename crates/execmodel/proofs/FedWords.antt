@@ -18,17 +18,17 @@ use Rattle.msgport.specs.declared.action.Action.TheVariants as action
 use Rattle.iorequest.specs.declared.request.ReqState.TheVariants.{Idle, UnderWay, Quick, Replied}
 use Rattle.iorequest.specs.declared.request.ReqState.{ReqState}
 use Rattle.iorequest.specs.Request.{is_under_way}
-use Rattle.taskscript.specs.{Commands.CommandData, declared.word.Word.Word, declared.word.interrupts.InterruptWord.InterruptWord, declared.word.libraries.LibraryWord.LibraryWord, declared.word.nesting.NestingWord.NestingWord, declared.word.plain.PlainWord.PlainWord, declared.word.ports.PortWord.PortWord, declared.word.requests.RequestWord.RequestWord, declared.word.semaphores.SemaphoreWord.SemaphoreWord, declared.word.task_signals.SignalWord.SignalWord, declared.word.tasks.TaskWord.TaskWord}
-use Rattle.taskscript.specs.declared.word.Word.TheVariants as group
-use Rattle.taskscript.specs.declared.word.plain.PlainWord.TheVariants as plain
-use Rattle.taskscript.specs.declared.word.task_signals.SignalWord.TheVariants as signals
-use Rattle.taskscript.specs.declared.word.nesting.NestingWord.TheVariants as nesting
-use Rattle.taskscript.specs.declared.word.tasks.TaskWord.TheVariants as tasks
-use Rattle.taskscript.specs.declared.word.ports.PortWord.TheVariants as ports
-use Rattle.taskscript.specs.declared.word.semaphores.SemaphoreWord.TheVariants as semaphores
-use Rattle.taskscript.specs.declared.word.libraries.LibraryWord.TheVariants as libraries
-use Rattle.taskscript.specs.declared.word.requests.RequestWord.TheVariants as requests
-use Rattle.taskscript.specs.declared.word.interrupts.InterruptWord.TheVariants as interrupts
+use Rattle.script.specs.{Commands.CommandData, declared.word.Word.Word, declared.word.interrupts.InterruptWord.InterruptWord, declared.word.libraries.LibraryWord.LibraryWord, declared.word.nesting.NestingWord.NestingWord, declared.word.plain.PlainWord.PlainWord, declared.word.ports.PortWord.PortWord, declared.word.requests.RequestWord.RequestWord, declared.word.semaphores.SemaphoreWord.SemaphoreWord, declared.word.task_signals.SignalWord.SignalWord, declared.word.tasks.TaskWord.TaskWord}
+use Rattle.script.specs.declared.word.Word.TheVariants as group
+use Rattle.script.specs.declared.word.plain.PlainWord.TheVariants as plain
+use Rattle.script.specs.declared.word.task_signals.SignalWord.TheVariants as signals
+use Rattle.script.specs.declared.word.nesting.NestingWord.TheVariants as nesting
+use Rattle.script.specs.declared.word.tasks.TaskWord.TheVariants as tasks
+use Rattle.script.specs.declared.word.ports.PortWord.TheVariants as ports
+use Rattle.script.specs.declared.word.semaphores.SemaphoreWord.TheVariants as semaphores
+use Rattle.script.specs.declared.word.libraries.LibraryWord.TheVariants as libraries
+use Rattle.script.specs.declared.word.requests.RequestWord.TheVariants as requests
+use Rattle.script.specs.declared.word.interrupts.InterruptWord.TheVariants as interrupts
 use Rattle.execmodel.specs.Feeding.{fed, fed_to, and_fed}
 use Rattle.execmodel.specs.State.{Call, Scripts, State, Outcome, leaving, quiet, andthen, on_schedule, on_memory}
 use Rattle.execmodel.specs.Calls.{Caller, ByTask, ByBody, argument, name_argument, done, answered, waiting, silent, alerted, done_by, answered_by, silent_by, unless_by}

@@ -1,12 +1,13 @@
 -- A step, a tick and a request do of a machine with a new task what they do of the machine without it, if no alert stops it.
 use Rattle.std.proofs.Common.{◌≡◌, ◌≢◌, ◌∙◌, ℕ, zero, suc, ◌≤◌, ◌+◌, Bool, true, false, List, [], ◌∷◌, Option, None, Some, length, map, refl, sym, ap, ap₂, arith, if◌then◌else◌, slice_get, slice_index_or, codes}
 use Rattle.execlist.specs.{Disciplines.by_arrival, Lists.is_at, Lists.times, Order.first}
+use Rattle.exectrace.specs.Heard.{text_of_source}
 use Rattle.exectrace.specs.Trace.{Serve, Server, Softint, Value, TraceLine}
 use Rattle.exectrace.specs.Trace as trace
 use Rattle.taskq.specs.declared.TaskState.TheVariants.{Absent}
-use Rattle.taskscript.specs.declared.variable.Variable.TheVariants.{Private, Shared}
-use Rattle.taskscript.specs.declared.event.Event.TheVariants.{Run, Tick, Irq}
-use Rattle.taskscript.specs.{Commands.ArgumentData, Commands.number, Commands.variable, Commands.quoted, Commands.place, Commands.CommandData, File.TaskData, declared.variable.Variable.Variable, declared.event.Event.Event}
+use Rattle.script.specs.declared.variable.Variable.TheVariants.{Private, Shared}
+use Rattle.script.specs.declared.event.Event.TheVariants.{Run, Tick, Irq}
+use Rattle.script.specs.{Commands.ArgumentData, Commands.number, Commands.variable, Commands.quoted, Commands.place, Commands.CommandData, File.TaskData, declared.variable.Variable.Variable, declared.event.Event.Event}
 use Rattle.forbid.specs.Nesting.{may_interrupt}
 use Rattle.scheduler.specs.{declared.Switch.Switch as Choice, Schedule.Schedule, Schedule.leaves, Schedule.name_of, Schedule.is_interrupting_allowed, Schedule.ticked as quantum_ticked, Sound.is_running, Dispatch.switch_of, Dispatch.rescheduled, Dispatch.added}
 use Rattle.scheduler.specs.declared.Switch.TheVariants as switch
@@ -20,7 +21,7 @@ use Rattle.memlist.proofs.Answered.{nat_eq-same}
 use Rattle.execmodel.specs.State.{Call, Scripts, Program, State, Outcome, quiet, says, andthen, unless_stopped, program_of, on_schedule, on_memory, on_pending, on_timer}
 use Rattle.execmodel.specs.Feeding.{joined_by}
 use Rattle.execmodel.specs.Calls.{content, evaluated, evaluated_in_body, call_of, call_at, call_after, next_call, call_in_body}
-use Rattle.execmodel.specs.Interrupts.{softint_at, runs_softint, server_at, chain_of, runs_server, runs_chain, text_of_source, serving_counted, finishes_for, serves, servings, interrupts}
+use Rattle.execmodel.specs.Interrupts.{softint_at, runs_softint, server_at, chain_of, runs_server, runs_chain, serving_counted, finishes_for, serves, servings, interrupts}
 use Rattle.execmodel.specs.Step.{started, all_added, announced, switches, settle, ends, task_step, call_step, softint_or_task_step, acting, acts, step, steps, request, tick, ticks, event}
 use Rattle.execmodel.specs.{Pending.source_named, Pending.caused_no_more, Pending.with_latch_of, Pending.allows_interrupts, Pending.next_softint, Pending.next_source, Bodies.does_in_body, Bodies.body_step, Bodies.runs_body, Pending.softint_pri, Semaphores.heir, Semaphores.sem_of, Semaphores.waiters_of, Agreement.Agrees, Agreement.once_if}
 use Rattle.execmodel.proofs.NewTask.{Fits, Moves, stays_moves, added_moves, IsOut, nesting_same, name_same, absent_last, leaves_moves, ticked_moves, rescheduled_moves, switch_same, switch_to_other}

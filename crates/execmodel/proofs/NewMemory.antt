@@ -2,9 +2,9 @@
 use Rattle.std.proofs.Common.{◌≡◌, ◌∙◌, ℕ, Bool, true, false, not, ◌&&◌, if◌then◌else◌, List, [], ◌∷◌, Option, None, Some, length, nat_eq, is_some, unwrap_or, refl, ap, w32}
 use Rattle.std.specs.List.{range_with_len}
 use Rattle.execlib.specs.Libraries.{public_memory}
-use Rattle.taskscript.specs.{declared.word.lists.ListWord.ListWord, declared.word.memory.MemoryWord.MemoryWord}
-use Rattle.taskscript.specs.declared.word.lists.ListWord.TheVariants as lists
-use Rattle.taskscript.specs.declared.word.memory.MemoryWord.TheVariants as memory
+use Rattle.script.specs.{declared.word.lists.ListWord.ListWord, declared.word.memory.MemoryWord.MemoryWord}
+use Rattle.script.specs.declared.word.lists.ListWord.TheVariants as lists
+use Rattle.script.specs.declared.word.memory.MemoryWord.TheVariants as memory
 use Rattle.std.specs.Int.{cast_signed}
 use Rattle.execmodel.specs.State.{Call, Object, ListHead, Node, Plain, Memory}
 use Rattle.execmodel.specs.{Calls.argument, Calls.name_argument, Lists.list_size, Lists.node_size, Deeds.Deed, Deeds.allots, Places.place_for, Places.placed, Objects.is_allowed, Objects.place_for_object, Loaded.base_of, Loaded.count_of, Loaded.removed, GivingWay.gives_way_at, GivingWay.gives_way, GivingWay.asked_one, GivingWay.asked_each, GivingWay.after_asking, GivingWay.after_asking_for_object, Libraries.library_at, Libraries.library_to_open, Libraries.ready_to_load, Libraries.ready_to_open, Libraries.base_opened, Libraries.base_or_place, Libraries.opening, Libraries.entered_or_loaded, Libraries.library_opened, Libraries.opened, Libraries.closed, Libraries.is_delayed, Ports.after_asking_for_port, Ports.is_port, Ports.port_size, Lists.list_deed, Memory.memory_deed}

@@ -1,8 +1,8 @@
 -- Machines whose bodies grow while they run: a command is fed to a task at the end of its body, after it has begun. What comes of it is what
 -- comes of the machine whose bodies are whole from the start.
 use Rattle.std.specs.Prelude.{◌≡◌, ◌≢◌, ℕ, zero, suc, ◌+◌, ◌<◌, ℤ, Bool, true, false, ◌||◌, if◌then◌else◌, nat_eq, List, [], ◌∷◌, ◌++◌, length, Option, None, Some}
-use Rattle.taskscript.specs.declared.event.Event.TheVariants.{Run}
-use Rattle.taskscript.specs.{declared.event.Event.Event, Commands.CommandData, File.MachineData, File.TaskData, Machines.IsMachine}
+use Rattle.script.specs.declared.event.Event.TheVariants.{Run}
+use Rattle.script.specs.{declared.event.Event.Event, Commands.CommandData, File.MachineData, File.TaskData, Machines.IsMachine}
 use Rattle.taskq.specs.declared.TaskState.TheVariants.{Absent}
 use Rattle.signals.specs.Signals.{initial_sets}
 use Rattle.forbid.specs.Nesting.{initial_nesting}
