@@ -29,6 +29,7 @@ use Rattle.script.specs.declared.word.semaphores.SemaphoreWord.TheVariants as se
 use Rattle.script.specs.declared.word.libraries.LibraryWord.TheVariants as libraries
 use Rattle.script.specs.declared.word.requests.RequestWord.TheVariants as requests
 use Rattle.script.specs.declared.word.interrupts.InterruptWord.TheVariants as interrupts
+use Rattle.script.specs.declared.alert.Alert.{Alert}
 use Rattle.execmodel.specs.Feeding.{fed, fed_to, and_fed}
 use Rattle.execmodel.specs.State.{Call, Scripts, State, Outcome, leaving, quiet, andthen, on_schedule, on_memory}
 use Rattle.execmodel.specs.Calls.{Caller, ByTask, ByBody, argument, name_argument, done, answered, waiting, silent, alerted, done_by, answered_by, silent_by, unless_by}
@@ -111,7 +112,7 @@ module _ (u : ℕ) (command : CommandData) where
   fed_silent_by (ByBody name) call value s = ap (leaves_scripts (silent_by (ByBody name) call value s)) (fed_shared u command call.target value s.scripts)
 
   -- a call that may be refused: by the same alert, or else it has the same effect
-  refused_by : (alert : Option (List ℕ)) (c : Caller) (call : Call) (effect : State → Outcome) (s : State) → Commutes effect s
+  refused_by : (alert : Option Alert) (c : Caller) (call : Call) (effect : State → Outcome) (s : State) → Commutes effect s
       → Commutes (unless_by alert c call effect) s
   unfolding alerted
   refused_by None c call effect s same = same
@@ -119,7 +120,7 @@ module _ (u : ℕ) (command : CommandData) where
   refused_by (Some code) (ByBody name) call effect s same = refl
 
   -- the same by two tests, of which the second one is the first
-  refused_alike : (one other : Option (List ℕ)) (c : Caller) (call : Call) (effect : State → Outcome) (s : State) → other ≡ one → Commutes effect s
+  refused_alike : (one other : Option Alert) (c : Caller) (call : Call) (effect : State → Outcome) (s : State) → other ≡ one → Commutes effect s
       → unless_by other c call effect (fed u command s) ≡ and_fed u command (unless_by one c call effect s)
   refused_alike one other c call effect s alike same =
       ap (λ alert. unless_by alert c call effect (fed u command s)) alike ∙ refused_by one c call effect s same

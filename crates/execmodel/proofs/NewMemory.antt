@@ -6,6 +6,7 @@ use Rattle.script.specs.{declared.word.lists.ListWord.ListWord, declared.word.me
 use Rattle.script.specs.declared.word.lists.ListWord.TheVariants as lists
 use Rattle.script.specs.declared.word.memory.MemoryWord.TheVariants as memory
 use Rattle.std.specs.Int.{cast_signed}
+use Rattle.script.specs.declared.alert.Alert.{Alert}
 use Rattle.execmodel.specs.State.{Call, Object, ListHead, Node, Plain, Memory}
 use Rattle.execmodel.specs.{Calls.argument, Calls.name_argument, Lists.list_size, Lists.node_size, Deeds.Deed, Deeds.allots, Places.place_for, Places.placed, Objects.is_allowed, Objects.place_for_object, Loaded.base_of, Loaded.count_of, Loaded.removed, GivingWay.gives_way_at, GivingWay.gives_way, GivingWay.asked_one, GivingWay.asked_each, GivingWay.after_asking, GivingWay.after_asking_for_object, Libraries.library_at, Libraries.library_to_open, Libraries.ready_to_load, Libraries.ready_to_open, Libraries.base_opened, Libraries.base_or_place, Libraries.opening, Libraries.entered_or_loaded, Libraries.library_opened, Libraries.opened, Libraries.closed, Libraries.is_delayed, Ports.after_asking_for_port, Ports.is_port, Ports.port_size, Lists.list_deed, Memory.memory_deed}
 
@@ -110,7 +111,7 @@ module _ (k : ℕ) where
     pub heap : (m : Memory) → deed.heap (of_tasks m) ≡ deed.heap m
     pub answer : (m : Memory) → deed.answer (of_tasks m) ≡ deed.answer m
 
-  allots_blind : (alert : Option (List ℕ)) (asked : Memory → Memory) (place : Memory → Option ℕ) (size : ℕ) (object : Object) → IsBlind asked
+  allots_blind : (alert : Option Alert) (asked : Memory → Memory) (place : Memory → Option ℕ) (size : ℕ) (object : Object) → IsBlind asked
       → ((m : Memory) → place (of_tasks m) ≡ place m) → BlindDeed (allots alert asked place size object)
   allots_blind alert asked place size object blind same = record {
     alert = λ m. refl;

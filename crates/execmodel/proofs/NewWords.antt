@@ -30,6 +30,7 @@ use Rattle.script.specs.declared.word.semaphores.SemaphoreWord.TheVariants as se
 use Rattle.script.specs.declared.word.libraries.LibraryWord.TheVariants as libraries
 use Rattle.script.specs.declared.word.requests.RequestWord.TheVariants as requests
 use Rattle.script.specs.declared.word.interrupts.InterruptWord.TheVariants as interrupts
+use Rattle.script.specs.declared.alert.Alert.{Alert}
 use Rattle.execmodel.specs.Feeding.{joined_by}
 use Rattle.execmodel.specs.State.{Call, Scripts, Program, Memory, Mark, State, Outcome, begun, no_program, program_of, leaving, quiet, andthen, on_schedule, on_memory}
 use Rattle.execmodel.specs.Calls.{Caller, ByTask, ByBody, argument, name_argument, done, answered, waiting, silent, alerted, done_by, answered_by, silent_by, unless_by}
@@ -236,12 +237,12 @@ module _ (n : ℕ) (task : TaskData) where
   leaves_mark mark o p both = record { same = ap (leaving mark) both.same; sized = both.sized }
 
   -- a call that is not refused, and is not refused alike the task either
-  refused_by : (alert other : Option (List ℕ)) (c : Caller) (call : Call) (effect : State → Outcome) (r q : State) → (alert ≡ None → other ≡ None)
+  refused_by : (alert other : Option Alert) (c : Caller) (call : Call) (effect : State → Outcome) (r q : State) → (alert ≡ None → other ≡ None)
       → (alert ≡ None → (effect q).state.stopped ≡ false → Both (effect r) (effect q))
       → (unless_by alert c call effect q).state.stopped ≡ false → Both (unless_by other c call effect r) (unless_by alert c call effect q)
   unfolding alerted
   refused_by None other c call effect r q still passes going =
-      subst (λ (alert : Option (List ℕ)). Both (unless_by alert c call effect r) (effect q)) (sym (still refl)) (passes refl going)
+      subst (λ (alert : Option Alert). Both (unless_by alert c call effect r) (effect q)) (sym (still refl)) (passes refl going)
   refused_by (Some code) other (ByTask t) call effect r q still passes going = true_is_not_false going
   refused_by (Some code) other (ByBody name) call effect r q still passes going = true_is_not_false going
 
