@@ -269,7 +269,7 @@ later_stands t x q h = either (nat_eq x t)
     either true = omega arith
     either false = h
 
-some_same : {x y : ℕ} → Some x ≡ Some y → x ≡ y
+pub some_same : {x y : ℕ} → Some x ≡ Some y → x ≡ y
 some_same {x} {y} e = cc
 
 either_stands : (key : ℕ → ℤ) (x y t : ℕ) (xs : List ℕ) (b : Bool) → (y ≡ t → 0 < times t xs) → (if b then Some y else Some x) ≡ Some t

@@ -126,7 +126,7 @@ can_reply message heap none =
 pub goes_count : (t next : ℕ) (scripts : Scripts) → length (goes_on t next scripts).programs ≡ length scripts.programs
 goes_count t next scripts = length-set scripts.programs t _
 
-stored_count : (t : ℕ) (target : Option Variable) (value : ℕ) (scripts : Scripts)
+pub stored_count : (t : ℕ) (target : Option Variable) (value : ℕ) (scripts : Scripts)
     → length (stored t target value scripts).programs ≡ length scripts.programs
 stored_count t None value scripts = refl
 stored_count t (Some (Private k)) value scripts = length-set scripts.programs t _
@@ -136,7 +136,7 @@ pub answered_count : (t next : ℕ) (target : Option Variable) (value : ℕ) (sc
     → length (goes_on t next (stored t target value scripts)).programs ≡ length scripts.programs
 answered_count t next target value scripts = goes_count t next (stored t target value scripts) ∙ stored_count t target value scripts
 
-shared_count : (target : Option Variable) (value : ℕ) (scripts : Scripts)
+pub shared_count : (target : Option Variable) (value : ℕ) (scripts : Scripts)
     → length (stored_shared target value scripts).programs ≡ length scripts.programs
 shared_count None value scripts = refl
 shared_count (Some (Private k)) value scripts = refl

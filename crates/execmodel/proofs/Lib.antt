@@ -9,6 +9,14 @@ pub mod ClockLaw
 pub mod Commands
 pub mod Deeds
 pub mod Keeping
+pub mod FedScripts
+pub mod FedWords
+pub mod FedActions
+pub mod FedRuns
+pub mod NewTask
+pub mod NewMemory
+pub mod NewWords
+pub mod NewActions
 pub mod Fifo
 pub mod FifoLaw
 pub mod Formed

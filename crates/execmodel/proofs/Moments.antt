@@ -8,7 +8,7 @@ use Rattle.execmodel.specs.{State.State, State.Outcome, State.quiet, State.andth
 abbrev after : (State → Outcome) → Outcome → Outcome
 after next a = let b = next a.state in record { state = b.state; lines = a.lines ++ b.lines; marks = a.marks ++ b.marks }
 
-joined : (f g h : State → Outcome) (s : State) → andthen (andthen f g) h s ≡ andthen f (andthen g h) s
+pub joined : (f g h : State → Outcome) (s : State) → andthen (andthen f g) h s ≡ andthen f (andthen g h) s
 unfolding andthen
 joined f g h s =
     let a = f s in
@@ -17,18 +17,18 @@ joined f g h s =
     ap (λ ls. record { state = c.state; lines = ls; marks = (a.marks ++ b.marks) ++ c.marks }) (append_assoc a.lines b.lines c.lines)
     ∙ ap (λ ms. record { state = c.state; lines = a.lines ++ (b.lines ++ c.lines); marks = ms }) (append_assoc a.marks b.marks c.marks)
 
-ends_quietly : (f : State → Outcome) (s : State) → andthen f quiet s ≡ f s
+pub ends_quietly : (f : State → Outcome) (s : State) → andthen f quiet s ≡ f s
 unfolding andthen
 ends_quietly f s =
     let a = f s in
     ap (λ ls. record { state = a.state; lines = ls; marks = a.marks ++ [] }) (append-nil a.lines)
     ∙ ap (λ ms. record { state = a.state; lines = a.lines; marks = ms }) (append-nil a.marks)
 
-first_same : (f g next : State → Outcome) (s : State) → f s ≡ g s → andthen f next s ≡ andthen g next s
+pub first_same : (f g next : State → Outcome) (s : State) → f s ≡ g s → andthen f next s ≡ andthen g next s
 unfolding andthen
 first_same f g next s e = ap (after next) e
 
-next_same : (first f g : State → Outcome) (s : State) → ((r : State) → f r ≡ g r) → andthen first f s ≡ andthen first g s
+pub next_same : (first f g : State → Outcome) (s : State) → ((r : State) → f r ≡ g r) → andthen first f s ≡ andthen first g s
 unfolding andthen
 next_same first f g s e =
     let a = first s in

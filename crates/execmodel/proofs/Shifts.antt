@@ -155,7 +155,7 @@ reprioritized_shifts t call value k pri false s e = (
 )
 
 -- a task of that number is one of that many
-number_in_range : (number count : ℕ) → (nat_lt 0 number && nat_le number count) ≡ true → number - 1 < count
+pub number_in_range : (number count : ℕ) → (nat_lt 0 number && nat_le number count) ≡ true → number - 1 < count
 number_in_range number count e = grind (arith, nat_tests)
 
 pub added_shifts : (t : ℕ) (call : Call) (value number : ℕ) (test : Bool) (s : State) → is_task number s.scripts ≡ true

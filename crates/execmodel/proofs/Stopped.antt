@@ -27,7 +27,7 @@ pub step_stopped : (s : State) → s.stopped ≡ true → step s ≡ quiet s
 unfolding step
 step_stopped s h = both_quiet acts settle s (acts_stopped s h) (settle_stopped s h)
 
-steps_stopped : (n : ℕ) (s : State) → s.stopped ≡ true → steps n s ≡ quiet s
+pub steps_stopped : (n : ℕ) (s : State) → s.stopped ≡ true → steps n s ≡ quiet s
 unfolding steps
 steps_stopped zero s h = refl
 steps_stopped (suc n) s h = both_quiet (steps n) step s (steps_stopped n s h) (step_stopped s h)
@@ -40,7 +40,7 @@ pub tick_stopped : (s : State) → s.stopped ≡ true → tick s ≡ quiet s
 unfolding tick
 tick_stopped s h = rw h refl
 
-ticks_stopped : (n : ℕ) (s : State) → s.stopped ≡ true → ticks n s ≡ quiet s
+pub ticks_stopped : (n : ℕ) (s : State) → s.stopped ≡ true → ticks n s ≡ quiet s
 unfolding ticks
 ticks_stopped zero s h = refl
 ticks_stopped (suc n) s h = both_quiet (ticks n) tick s (ticks_stopped n s h) (tick_stopped s h)

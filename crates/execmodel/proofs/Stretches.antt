@@ -217,7 +217,7 @@ module _ (R : Relation) (each : HoldsOfEach R) where
   unfolding acting
   of_acting s = either (next_softint s) s
 
-  of_acts : HoldsOf R acts
+  pub of_acts : HoldsOf R acts
   unfolding acts
   of_acts s = unless R each.interrupting acting of_acting s
 
@@ -234,7 +234,7 @@ module _ (R : Relation) (each : HoldsOfEach R) where
   starting true t s less = each.adding t s less
   starting false t s less = nothing s
 
-  of_adding : (n : ℕ) (s : State) → n ≤ length s.scripts.programs → R s [] (on_schedule (all_added s.scripts n) s)
+  pub of_adding : (n : ℕ) (s : State) → n ≤ length s.scripts.programs → R s [] (on_schedule (all_added s.scripts n) s)
   unfolding all_added
   of_adding zero s most = nothing s
   of_adding (suc n) s most =

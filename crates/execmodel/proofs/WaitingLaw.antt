@@ -326,7 +326,7 @@ clocked s sound = (
 
 -- ---- every run
 
-as_many : {A B : Type 0} (f : A → B) (x : TaskState) (xs : List A) → length (map f xs) ≡ length (replicate (length xs) x)
+pub as_many : {A B : Type 0} (f : A → B) (x : TaskState) (xs : List A) → length (map f xs) ≡ length (replicate (length xs) x)
 as_many f x [] = refl
 as_many f x (y ∷ ys) = ap suc (as_many f x ys)
 

@@ -27,3 +27,4 @@ pub mod Queues
 pub mod Marks
 pub mod Agreement
 pub mod Laws
+pub mod Feeding

@@ -2,5 +2,6 @@
 //! The functions here have no effect. Their contracts are laws, and whole traces of small machines as the definitions compute them.
 #![tactic(auto)]
 
+pub mod feeding;
 pub mod laws;
 pub mod runs;
