@@ -1,0 +1,5 @@
+pub mod Fits
+pub mod Numbers
+pub mod Keys
+pub mod Runs
+pub mod Laws
