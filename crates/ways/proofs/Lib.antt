@@ -8,5 +8,6 @@ pub mod Maps
 pub mod Rows
 pub mod Merging
 pub mod Exact
+mod Rules
 mod Folding
 mod Groups

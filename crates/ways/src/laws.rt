@@ -1,7 +1,7 @@
 //! Laws of the ways and of their tables.
-ghost use Rattle.std.specs.Prelude.{◌≡◌, ◌+◌, ◌*◌, ◌^◌, ◌++◌, ℕ, List, [], length};
+ghost use Rattle.std.specs.Prelude.{◌≡◌, ◌↔◌, ◌+◌, ◌*◌, ◌^◌, ◌++◌, ℕ, List, [], length};
 ghost use Rattle.script.specs.declared.event.Event.{Event};
-ghost use Rattle.ways.specs.{Ways.exactly, Ways.choose, Tables.table_of, Tables.merged, Tables.total, Tables.count_in, Tables.first_in, Tables.showing, Tables.first_showing};
+ghost use Rattle.ways.specs.{Rules.IsOneOf, Rules.IsWay, Ways.exactly, Ways.choose, Tables.table_of, Tables.merged, Tables.total, Tables.count_in, Tables.first_in, Tables.showing, Tables.first_showing};
 
 /// How many ways have exactly that many extras.
 pub fn number_of_ways()
@@ -22,4 +22,11 @@ pub fn sum_of_parts()
 pub fn exact()
     ensures count { (seen : List Event → List ℕ) (ways : List (List Event)) (text : List ℕ) → count_in (table_of seen [] ways) text ≡ showing seen text ways }
     ensures first { (seen : List Event → List ℕ) (ways : List (List Event)) (text : List ℕ) → first_in (table_of seen [] ways) text ≡ first_showing seen text ways }
+{}
+
+/// Which lists are ways, by three rules: no action and no extra make the empty way; an extra of one of the kinds may come first; and so may the first
+/// action. Each list that they make is among the ways with that many extras, and no other is.
+#[tactic(auto, using(crate::proofs::Rules::listed, crate::proofs::Rules::made))]
+pub fn three_rules_make_the_ways()
+    ensures { (kinds acts way : List Event) (j : ℕ) → IsOneOf (exactly kinds j acts) way ↔ IsWay kinds j acts way }
 {}
