@@ -1,4 +1,4 @@
--- What a machine comes to by events of some kinds, and when a set of its states is closed. A walker stands in one of them; its key tells which.
+-- What a machine comes to by events of some kinds, and when a set of its states is closed. A walker is in one of them, and its key says in which.
 use Rattle.std.specs.Prelude.{◌≡◌, ◌<◌, ◌⊎◌, ℕ, true, false, List, [], ◌∷◌, ◌++◌, length, slice_index_or}
 use Rattle.exectrace.specs.Trace.{printed}
 use Rattle.script.specs.{File.MachineData, declared.event.Event.Event}
@@ -61,7 +61,7 @@ module _ {S : Type 0} (machine_of : S → MachineData) (stands : S → List Even
   Leads machine keys alerts list one =
       IsFound machine keys (list ++ one ∷ []) ⊎ ((text : List ℕ) × EndsAt machine list one text × IsOneOf alerts text)
 
-  -- a walker stands in a state of that key, to which some events come; and from there one event leads to what was found
+  -- a walker is in a state of that key, to which some events come; and from there one event leads to what was found
   pub record GoesOn (machine : MachineData) (keys alerts : List (List ℕ)) (from : List ℕ) (one : Event) : Type 0 where
     pub walker : S
     pub of : machine_of walker ≡ machine

@@ -23,7 +23,7 @@ fn walk<W: Walker>(walker: &mut W, list: &[Event], text: &mut Vec<u8>) -> Result
     Ok(true)
 }
 
-/// Whether the key of where a walker stands is that of a state that was found.
+/// Whether the key of where a walker is is that of a state that was found.
 fn is_at<W: Walker>(
     walker: &W,
     found: &Found,
@@ -36,7 +36,7 @@ fn is_at<W: Walker>(
     Ok(found.keys.has_at(state, text.as_slice()))
 }
 
-/// Whether a walker stands in the first state, which was found.
+/// Whether a walker is in the first state, which was found.
 fn begins<W: Walker>(walker: &mut W, found: &Found, text: &mut Vec<u8>) -> Result<bool, Fault>
     ensures same { W.machine_of walker.new ≡ W.machine_of walker.old }
     ensures begins { IfOk result (λ yes. yes ≡ true → IsFound W.machine_of W.stands W.key (W.machine_of walker.old) found.now.keys []) }
@@ -45,7 +45,7 @@ fn begins<W: Walker>(walker: &mut W, found: &Found, text: &mut Vec<u8>) -> Resul
     is_at(walker, found, 0, text)
 }
 
-/// Whether an event leads from where a walker stands to what was found.
+/// Whether an event leads from where a walker is to what was found.
 fn leads<W: Walker>(
     walker: &mut W,
     one: Event,

@@ -6,9 +6,9 @@ use std::alloc::{AllocError, AllocFailed};
 pub enum Fault {
     /// Memory was refused.
     OutOfMemory,
-    /// So many events came that the clock bears no more.
+    /// More events came than the clock bears.
     TooLong,
-    /// No key tells the states of this machine apart.
+    /// No key distinguishes the states of this machine.
     NoKey,
 }
 

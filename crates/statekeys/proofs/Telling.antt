@@ -1,4 +1,4 @@
--- The numbers of a state tell it: two states of one machine with the same numbers are the same, but for the memory.
+-- The numbers of a state report it: two states of one machine with the same numbers are the same, but for the memory.
 use Rattle.std.proofs.Common.{◌≡◌, ◌≢◌, ◌∙◌, ◌<◌, ◌+◌, ℕ, zero, suc, ℤ, pos, negsuc, Bool, true, false, List, [], ◌∷◌, ◌++◌, Option, None, Some, refl, sym, ap, ap₂, arith, append_assoc, IfSome, length, map, slice_index_or, below_more}
 use Rattle.exectrace.specs.Trace.{Argument, Value, Quoted}
 use Rattle.script.specs.declared.variable.Variable.{Variable}
@@ -231,7 +231,7 @@ pub record IsEven (s : Schedule) (p : Scripts) : Type 0 where
   pub signals : length s.signals ≡ length p.programs
   pub nestings : length s.nestings ≡ length p.programs
 
--- a machine was reported as idle just if no task runs
+-- a machine was reported as idle exactly if no task runs
 abbrev pub IsIdleRight : Schedule → Type 0
 IsIdleRight s = s.running ≡ None → s.idle ≡ true
 

@@ -1,7 +1,7 @@
 -- Numbers as bytes: seven bits a byte, the lowest first; all but the last byte of a number have the eighth bit set.
 use Rattle.std.specs.Prelude.{ℕ, zero, suc, ◌+◌, ◌/◌, ◌%◌, nat_lt, List, [], ◌∷◌, flat_map, if◌then◌else◌}
 
--- a number in at most so many bytes and one
+-- a number in at most that number of bytes and one
 abbrev pub bytes_in : ℕ → ℕ → List ℕ
 bytes_in zero n = n ∷ []
 bytes_in (suc more) n = if nat_lt n 128 then n ∷ [] else (128 + n % 128) ∷ bytes_in more (n / 128)

@@ -1,4 +1,4 @@
--- What tells the states of a machine apart, as numbers: who runs and for how long, what is pending, what each task is about, and the variables. What
+-- What distinguishes the states of a machine, as numbers: who runs and for how long, what is pending, what each task is about, and the variables. What
 -- stays over a run is left out; so are the memory and the clock.
 use Rattle.std.specs.Prelude.{ℕ, zero, suc, ◌+◌, ℤ, pos, negsuc, Bool, true, false, List, [], ◌∷◌, ◌++◌, Option, None, Some, length}
 use Rattle.exectrace.specs.Trace.{Argument, Value, Quoted}

@@ -1,4 +1,4 @@
-//! What tells the states of a machine apart: its keys, and the laws by which a set of keys has every state. So far of machines whose words do not touch
+//! What distinguishes the states of a machine: its keys, and the laws by which a set of keys has every state. So far of machines whose words do not touch
 //! their memory.
 #![tactic(auto)]
 

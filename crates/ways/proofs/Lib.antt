@@ -9,5 +9,6 @@ pub mod Rows
 pub mod Merging
 pub mod Exact
 mod Rules
+mod Sorting
 mod Folding
 mod Groups

@@ -6,3 +6,4 @@ pub mod Rows
 pub mod Tabled
 pub mod Grouping
 pub mod Rules
+pub mod Sorted

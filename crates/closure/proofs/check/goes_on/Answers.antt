@@ -1,4 +1,4 @@
--- The walker stands where the events come, and the kind leads from there to what was found.
+-- The walker is where the events come, and the kind leads from there to what was found.
 use Rattle.std.proofs.Common.{rules, ◌≡◌, ◌∙◌, true, subst, sym}
 use Rattle.script.specs.{File.MachineData, declared.event.Event.Event}
 use Rattle.closure.specs.Closed.{Leads}
