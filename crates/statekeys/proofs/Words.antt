@@ -13,6 +13,7 @@ use Rattle.script.specs.declared.word.task_signals.SignalWord.TheVariants as sig
 use Rattle.script.specs.declared.word.nesting.NestingWord.TheVariants as nesting
 use Rattle.script.specs.declared.word.tasks.TaskWord.TheVariants as tasks
 use Rattle.script.specs.declared.word.interrupts.InterruptWord.TheVariants as interrupts
+use Rattle.script.specs.declared.alert.Alert.{Alert}
 use Rattle.execmodel.specs.State.{Call, Memory, Pending, State, Outcome, quiet}
 use Rattle.execmodel.specs.Calls.{Caller, ByTask, ByBody, argument, done, done_by, answered, waiting, silent, silent_by, alerted, unless_by, stored}
 use Rattle.execmodel.specs.Plain.{does_plain, plain_rules, jumps}
@@ -38,7 +39,7 @@ module _ (b : State) where
   chosen true one other first second = first
   chosen false one other first second = second
 
-  pub refused : (alert : Option (List ℕ)) (c : Caller) (call : Call) (effect : State → Outcome) (s : State) → Stays b s
+  pub refused : (alert : Option Alert) (c : Caller) (call : Call) (effect : State → Outcome) (s : State) → Stays b s
       → Drifts b (λ m. effect (placed m s)) → Drifts b (λ m. unless_by alert c call effect (placed m s))
   unfolding alerted
   refused None c call effect s h one = one
