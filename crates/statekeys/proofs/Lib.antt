@@ -6,3 +6,4 @@ pub mod Drifting
 pub mod Telling
 pub mod ByteLemmas
 pub mod Runs
+pub mod Walks

@@ -3,3 +3,4 @@ pub mod Numbers
 pub mod Keys
 pub mod Runs
 pub mod Laws
+pub mod Views

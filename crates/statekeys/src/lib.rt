@@ -3,11 +3,9 @@
 #![tactic(auto)]
 
 mod bytes;
+mod key;
 pub mod laws;
 mod parts;
+mod queues;
 
-pub use bytes::push_bytes;
-pub use parts::{
-    bool_code, int_code, mask_code, option_code, push_arguments, push_places, push_words,
-    state_code,
-};
+pub use key::write_key;

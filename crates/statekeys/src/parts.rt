@@ -4,7 +4,7 @@ ghost use Rattle.exectrace.specs.Short.{short_argument};
 ghost use Rattle.statekeys.specs.Numbers.{argument_numbers, bool_number, int_number, list_numbers, mask_number, option_number, state_number};
 
 use closure::Fault;
-use exectrace::ShortArg;
+use exectrace::{Name, ShortArg};
 use taskq::{TaskState, Why};
 
 /// The number of a truth value.
@@ -83,11 +83,11 @@ pub fn push_places(list: &[usize], numbers: &mut Vec<u64>) -> Result<(), Fault>
 
 /// Adds the arguments of a call, none of which is a name.
 pub fn push_arguments(
-    name: &[u8],
+    quoted: &Name,
     arguments: &[ShortArg],
     numbers: &mut Vec<u64>,
 ) -> Result<(), Fault>
-    ensures { OnOk result (numbers.new.items ≡ numbers.old.items ++ argument_numbers (map (short_argument name.now) arguments.now)) }
+    ensures { OnOk result (numbers.new.items ≡ numbers.old.items ++ argument_numbers (map (short_argument quoted.now.bytes) arguments.now)) }
 {
     for argument in arguments {
         match argument {
@@ -96,5 +96,6 @@ pub fn push_arguments(
         }
     }
     numbers.push(0)?;
+    let _ = quoted;
     Ok(())
 }

@@ -6,5 +6,5 @@ use Rattle.statekeys.proofs.parts.push_arguments.Given as goal
 
 abbrev pub invariant-loop-argument : goal.invariant-loop-argument
 invariant-loop-argument l =
-    l.numbers.items ++ argument_numbers (map (short_argument l.name) (drop l.argument-index l.arguments))
-    ≡ l.fn.numbers.items ++ argument_numbers (map (short_argument l.name) l.arguments)
+    l.numbers.items ++ argument_numbers (map (short_argument l.quoted.bytes) (drop l.argument-index l.arguments))
+    ≡ l.fn.numbers.items ++ argument_numbers (map (short_argument l.quoted.bytes) l.arguments)
