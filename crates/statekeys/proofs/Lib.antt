@@ -7,3 +7,4 @@ pub mod Telling
 pub mod ByteLemmas
 pub mod Runs
 pub mod Walks
+pub mod Standing

@@ -4,3 +4,4 @@ pub mod Keys
 pub mod Runs
 pub mod Laws
 pub mod Views
+pub mod Stands
