@@ -1,7 +1,7 @@
 -- What notes ways is after many of them.
-use Rattle.std.proofs.Common.{◌≡◌, ◌∙◌, ℕ, ◌+◌, Bool, List, [], ◌∷◌, refl, ap, arith, fold}
+use Rattle.std.proofs.Common.{◌≡◌, ◌∙◌, ℕ, ◌+◌, Bool, List, [], ◌∷◌, ap, arith, fold}
 use Rattle.script.specs.declared.event.Event.{Event}
-use Rattle.ways.specs.{Tables.Entry, Tables.noted, Tables.number_where, Tables.one_if, Tables.table_of, Tabled.Tabled}
+use Rattle.ways.specs.{Tables.noted, Tables.number_where, Tables.one_if, Tables.table_of, Tabled.Tabled}
 
 abbrev next : {S : Type 0} → (S → List Event → List ℕ) → (S → List Event → Bool) → Tabled S → List Event → Tabled S
 next seen alerted x way = record { shows = x.shows; table = noted x.table (seen x.shows way) way; alerts = x.alerts + one_if (alerted x.shows way) }

@@ -8,5 +8,7 @@ pub mod Maps
 pub mod Rows
 pub mod Merging
 pub mod Exact
+mod Rules
+mod Sorting
 mod Folding
 mod Groups

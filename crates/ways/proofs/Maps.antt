@@ -1,10 +1,10 @@
 -- A table that is kept as a map from texts to tallies.
-use Rattle.std.proofs.Common.{◌≡◌, ◌∙◌, ℕ, Bool, true, false, cond, inl, inr, ◌+◌, List, [], ◌∷◌, ◌++◌, Option, None, Some, if◌then◌else◌, refl, ap, ap₂, sym, bytes_eq, true≢false}
+use Rattle.std.proofs.Common.{◌≡◌, ◌∙◌, ℕ, Bool, cond, inl, inr, ◌+◌, List, [], ◌∷◌, None, Some, if◌then◌else◌, ap, ap₂, sym, bytes_eq, true≢false}
 use Rattle.std.specs.{Global.Vec, Map.lookup, Map.set_value}
 use Rattle.std.proofs.lemmas.{Slice.Eq.bytes_eq-Decides, Option.none-some, Option.same_Some}
 use Rattle.indexmap.specs.IndexMap.{insert_entry}
 use Rattle.script.specs.declared.event.Event.{Event}
-use Rattle.ways.specs.{Tables.Entry, Tables.noted, Entries.entry_in, Entries.entries_in, declared.table.Tally.Tally}
+use Rattle.ways.specs.{Tables.noted, Entries.entry_in, Entries.entries_in, declared.table.Tally.Tally}
 use Rattle.ways.proofs.Merging.{either, noted-hit, noted-miss}
 
 -- two texts are the same in either order

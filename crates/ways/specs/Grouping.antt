@@ -1,6 +1,6 @@
 -- Events and actions: an event text asks for several steps or ticks by one line; a way has each of them by itself.
-use Rattle.std.specs.Prelude.{◌≡◌, ℕ, ◌+◌, List, [], ◌∷◌, Option, None, Some}
-use Rattle.script.specs.declared.event.Event.TheVariants.{Run, Tick, Irq}
+use Rattle.std.specs.Prelude.{◌≡◌, ◌+◌, List, [], ◌∷◌, Option, None, Some}
+use Rattle.script.specs.declared.event.Event.TheVariants.{Run, Tick}
 use Rattle.script.specs.declared.event.Event.{Event}
 
 -- an event before others: steps before steps are one event, and so are ticks before ticks

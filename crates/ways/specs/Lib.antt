@@ -5,3 +5,5 @@ pub mod Entries
 pub mod Rows
 pub mod Tabled
 pub mod Grouping
+pub mod Rules
+pub mod Sorted

@@ -1,5 +1,5 @@
 -- The proof of `note`: notes what is seen of one more way.
-use Rattle.std.proofs.Common.{◌∙◌, ℕ, List, ap, sym, refl, bytes_eq}
+use Rattle.std.proofs.Common.{◌∙◌, ℕ, ap, sym, refl, bytes_eq}
 use Rattle.indexmap.specs.IndexMap.{IndexMap, insert_entry}
 use Rattle.std.specs.Global.{Vec}
 use Rattle.ways.specs.{Entries.entries_in, Tables.noted, declared.table.Tally.Tally}

@@ -1,0 +1,149 @@
+//! The check of a closed set: each state that was found is come to once more, and from it each kind leads to what was found.
+ghost use Rattle.std.specs.Prelude.{◌≡◌, ◌<◌, ℕ, List, [], true, length, slice_index_or, IfOk, OnOk};
+ghost use Rattle.script.specs.declared.event.Event.{Event};
+ghost use Rattle.closure.specs.Closed.{GoesOn, IsAt, IsEverything, IsFound, IsNumber, Leads};
+
+use crate::fault::Fault;
+use crate::found::{Found, Next};
+use crate::walker::Walker;
+use script::Event;
+use std::alloc::Global;
+
+/// Begins anew and goes along some events, and answers whether all of them could come.
+fn walk<W: Walker>(walker: &mut W, list: &[Event], text: &mut Vec<u8>) -> Result<bool, Fault>
+    ensures same { W.machine_of walker.new ≡ W.machine_of walker.old }
+    ensures there { IfOk result (λ yes. yes ≡ true → W.stands walker.new list.now) }
+{
+    walker.begin()?;
+    for one in list {
+        if walker.go(*one, text)? {
+            return Ok(false);
+        }
+    }
+    Ok(true)
+}
+
+/// Whether the key of where a walker is is that of a state that was found.
+fn is_at<W: Walker>(
+    walker: &W,
+    found: &Found,
+    state: usize,
+    text: &mut Vec<u8>,
+) -> Result<bool, Fault>
+    ensures { IfOk result (λ yes. yes ≡ true → IsAt found.now.keys state (W.key walker.now)) }
+{
+    walker.tell(text)?;
+    Ok(found.keys.has_at(state, text.as_slice()))
+}
+
+/// Whether a walker is in the first state, which was found.
+fn begins<W: Walker>(walker: &mut W, found: &Found, text: &mut Vec<u8>) -> Result<bool, Fault>
+    ensures same { W.machine_of walker.new ≡ W.machine_of walker.old }
+    ensures begins { IfOk result (λ yes. yes ≡ true → IsFound W.machine_of W.stands W.key (W.machine_of walker.old) found.now.keys []) }
+{
+    walker.begin()?;
+    is_at(walker, found, 0, text)
+}
+
+/// Whether an event leads from where a walker is to what was found.
+fn leads<W: Walker>(
+    walker: &mut W,
+    one: Event,
+    found: &Found,
+    next: Option<Next>,
+    text: &mut Vec<u8>,
+) -> Result<bool, Fault>
+    ensures same { W.machine_of walker.new ≡ W.machine_of walker.old }
+    ensures leads { IfOk result (λ yes. yes ≡ true → (list : List Event) → W.stands walker.old list
+        → Leads W.machine_of W.stands W.key (W.machine_of walker.old) found.now.keys found.now.alerts list one) }
+{
+    let ended = walker.go(one, text)?;
+    match next {
+        None => Ok(false),
+        Some(Next::State(state)) => {
+            if ended {
+                return Ok(false);
+            }
+            is_at(walker, found, state, text)
+        }
+        Some(Next::Alert(alert)) => Ok(ended && found.alerts.has_at(alert, text.as_slice())),
+    }
+}
+
+/// Whether some events come to the state of a number, and the kind of a number leads from it to what was found.
+fn goes_on<W: Walker>(
+    walker: &mut W,
+    list: &[Event],
+    kinds: &[Event],
+    kind: usize,
+    found: &Found,
+    state: usize,
+    text: &mut Vec<u8>,
+) -> Result<bool, Fault>
+    ensures same { W.machine_of walker.new ≡ W.machine_of walker.old }
+    ensures goes { IfOk result (λ yes. yes ≡ true → (one : Event) → IsNumber kinds.now kind one
+        → GoesOn W.machine_of W.stands W.key (W.machine_of walker.old) found.now.keys found.now.alerts (slice_index_or found.now.keys state []) one) }
+{
+    let Some(one) = kinds.get(kind) else {
+        return Ok(false);
+    };
+    if !walk(walker, list, text)? || !is_at(walker, found, state, text)? {
+        return Ok(false);
+    }
+    let next = found.next(kinds.len(), state, kind);
+    let led = leads(walker, *one, found, next, text)?;
+    Ok(led)
+}
+
+/// Whether some events come to the state of a number, and each kind leads from it to what was found.
+fn all_go_on<W: Walker>(
+    walker: &mut W,
+    list: &[Event],
+    kinds: &[Event],
+    found: &Found,
+    state: usize,
+    text: &mut Vec<u8>,
+) -> Result<bool, Fault>
+    ensures same { W.machine_of walker.new ≡ W.machine_of walker.old }
+    ensures goes { IfOk result (λ yes. yes ≡ true → (k : ℕ) (one : Event) → k < length kinds.now → IsNumber kinds.now k one
+        → GoesOn W.machine_of W.stands W.key (W.machine_of walker.old) found.now.keys found.now.alerts (slice_index_or found.now.keys state []) one) }
+{
+    for kind in 0..kinds.len() {
+        if !goes_on(walker, list, kinds, kind, found, state, text)? {
+            return Ok(false);
+        }
+    }
+    Ok(true)
+}
+
+/// Whether what was found is closed under these kinds of events. If it is, it is everything: whatever events of these kinds come, in whatever order
+/// and however many, the state is one of those that were found, or one of the alerts has ended the run. Each state is come to once more by events of
+/// its own, and then each kind comes after them: so nothing rests on how all of it was found.
+///
+/// # Errors
+///
+/// What the walker answers. Nothing is known then.
+///
+/// Source: project rule.
+pub fn is_closed<W: Walker>(
+    alloc: Global,
+    walker: &mut W,
+    kinds: &[Event],
+    found: &Found,
+) -> Result<bool, Fault>
+    ensures { IfOk result (λ yes. yes ≡ true
+        → IsEverything W.machine_of W.stands W.key (W.machine_of walker.old) kinds.now found.now.keys found.now.alerts) }
+{
+    let mut list = Vec::new(alloc);
+    let mut text = Vec::new(alloc);
+    if !begins(walker, found, &mut text)? {
+        return Ok(false);
+    }
+    for state in 0..found.keys.len() {
+        found.events(kinds, state, &mut list)?;
+        if !all_go_on(walker, list.as_slice(), kinds, found, state, &mut text)? {
+            return Ok(false);
+        }
+    }
+    Ok(true)
+}

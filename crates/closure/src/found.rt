@@ -1,0 +1,79 @@
+//! What a search has found: states, alerts, and where each kind leads.
+use crate::texts::Texts;
+use script::Event;
+use std::alloc::AllocError;
+
+/// How a state was first come to: from another state, by a kind. The first state was come to by nothing.
+#[derive(Clone, Copy, Debug)]
+pub struct Node {
+    /// The number of the other state.
+    pub parent: usize,
+    /// The number of the kind.
+    pub kind: usize,
+}
+
+/// Where a kind leads.
+#[derive(Clone, Copy, Debug)]
+pub enum Next {
+    /// To the state of a number.
+    State(usize),
+    /// To the alert of a number.
+    Alert(usize),
+}
+
+/// What a search has found. Nothing rests on it: `is_closed` looks at each part of it anew.
+#[derive(Drop)]
+pub struct Found {
+    /// The keys of the states, in the order in which they were found.
+    pub keys: Texts,
+    /// The texts of the alerts, in the order in which they were found.
+    pub alerts: Texts,
+    /// How each state was first come to; the parent of each but the first has a smaller number.
+    pub nodes: Vec<Node>,
+    /// How each alert was first come to.
+    pub firsts: Vec<Node>,
+    /// Where each kind leads from each state: one state after another.
+    pub nexts: Vec<Next>,
+}
+
+impl Found {
+    /// Where a kind leads from a state; none past the last.
+    ///
+    /// Source: project rule.
+    pub fn next(&self, kinds: usize, state: usize, kind: usize) -> Option<Next> {
+        let row = state.checked_mul(kinds)?;
+        let place = row.checked_add(kind)?;
+        self.nexts.get(place).copied()
+    }
+
+    /// Leaves in `list` the events by which a state was first come to.
+    ///
+    /// # Errors
+    ///
+    /// Memory was refused.
+    ///
+    /// Source: project rule.
+    pub fn events(
+        &self,
+        kinds: &[Event],
+        state: usize,
+        list: &mut Vec<Event>,
+    ) -> Result<(), AllocError> {
+        list.clear();
+        let mut at = state;
+        for _ in 0..self.nodes.len() {
+            if at == 0 {
+                break;
+            }
+            let Some(node) = self.nodes.get(at) else {
+                break;
+            };
+            if let Some(kind) = kinds.get(node.kind) {
+                list.push(*kind)?;
+            }
+            at = node.parent;
+        }
+        list.reverse();
+        Ok(())
+    }
+}

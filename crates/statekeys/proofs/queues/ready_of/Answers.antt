@@ -1,0 +1,11 @@
+-- One item more of the queue is in the list.
+use Rattle.std.proofs.Common.{rules, ◌≡◌, ◌==◌, false}
+use Rattle.std.specs.List.{list_any}
+use Rattle.statekeys.proofs.Walks.{walked_more}
+use Rattle.statekeys.proofs.queues.ready_of.Goals as goal
+
+pub loop-round-preserved : goal.loop-round-preserved
+loop-round-preserved c =
+    let none : list_any (λ y. y == c.in-Some.t) c.loop-round.list.items ≡ false = search rules in
+    walked_more c.loop-round.after c.args.machine.now.seen.schedule.queue.ready c.loop-round.list.items c.in-Some.t c.push.new.self.items
+    c.loop-round.invariant c.in-Some.ensures none c.in_ok-push.ensures.items

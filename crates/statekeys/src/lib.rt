@@ -1,0 +1,11 @@
+//! What distinguishes the states of a machine: its keys, and the laws by which a set of keys has every state. So far of machines whose words do not touch
+//! their memory.
+#![tactic(auto)]
+
+mod bytes;
+mod key;
+pub mod laws;
+mod parts;
+mod queues;
+
+pub use key::write_key;
