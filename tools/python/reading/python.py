@@ -232,8 +232,8 @@ class Written:
                 if name != "_" and not self.is_constant(name):
                     return name
         inner = {it[number].arguments[0].text for it in patterns if number < len(it) and isinstance(it[number], Apply) and it[number].head.text == "Some"
-                 and isinstance(it[number].arguments[0], Name) and not self.is_constant(it[number].arguments[0].text)} - {"_"}
-        if len(inner) == 1:
+                 and isinstance(it[number].arguments[0], Name) and it[number].arguments[0].text[0].islower() and not self.is_constant(it[number].arguments[0].text)}
+        if len(inner) == 1 and "." not in min(inner):
             return inner.pop()
         tree = types[number].tree if types[number] else None
         if isinstance(tree, Apply) and isinstance(tree.head, Name) and tree.head.text == "List":
