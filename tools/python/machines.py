@@ -10,7 +10,7 @@ MASKS = ("$1000", "$2000", "$4000", "$8000", "$10000", "$F000", "$80000000", "$F
 KINDS = {
     "value": NUMBERS, "word": NUMBERS, "new": MASKS, "mask": MASKS, "signal, or -1": ("-1", "-1", "16", "17", "20", "31", "15", "32"),
     "priority": ("0", "1", "-1", "5", "-128", "127", "128", "-129"), "size": ("8", "16", "40", "100", "256", "1000", "0", "$100000"),
-    "requirements": ("0", "1", "2", "4", "5", "$10001", "$20000", "$80000", "$20001", "8"), "version": ("0", "1", "39", "40"),
+    "requirements": ("0", "1", "1", "1", "1", "2", "5", "$10001", "$10001", "$20001", "8"), "version": ("0", "1", "39", "40"),
     "unit": ("0", "1", "3", "2"), "command": ("9", "9", "10", "11", "11", "0", "8", "65535", "65536"), "seconds": ("0", "0", "1", "2", "4294967295"),
     "microseconds": ("0", "20000", "40000", "100000", "999999", "4000000"), "task": ("1", "2", "3", "4", "9", "0"), "task, or 0 for the caller": ("0", "1", "2", "3"),
     "predecessor or 0": ("0", "node"), "list or node": ("list", "node"), "port or 0": ("port", "port", "0"), "reply port or 0 for none": ("port", "port", "0"),
@@ -18,6 +18,34 @@ KINDS = {
 }
 MAKERS = {"NewList": "list", "NewNode": "node", "CreateMsgPort": "port", "NewMsg": "message", "NewSem": "semaphore", "CreateIORequest": "request",
           "OpenLibrary": "base", "AllocMem": "address", "GetMsg": "message", "FindPort": "port"}
+# What a task does that has some sense: rows of lines with {kind} for a number, a mask, a task and so on. Of a row that begins with | or asks for an x
+# there are some, in any order, and of another all.
+SENSE = (
+    ("| Signal {task} {mask} | x = SetSignal 0 0 | x = SetSignal {mask} {mask} | x = Wait {mask} | s = AllocSignal -1 | SetTaskPri {task} {pri} | Print x",),
+    ("n = NewNode {pri} {name} | o = NewNode {pri} {name} | q = NewNode {pri} {name}", "{link} @list n | {link} @list o | {link} @list q",
+     "x = First @list | x = Last @list | x = Succ n | x = Pred n | x = FindName @list {name}", "x = RemHead @list | x = RemTail @list | x = RemHead @list | Remove n"),
+    ("a = AllocMem {size} {attrs} | b = AllocMem 40 1 | c = AllocMem {size} 1", "x = AvailMem {most} | x = AvailMem 1",
+     "FreeMem b 40 | x = AllocMem {size} {attrs} | x = AvailMem $20001"),
+    ("p = CreateMsgPort | m = NewMsg p {number} | o = NewMsg p {number} | r = NewMsg 0 7", "PutMsg {port} m | PutMsg {port} o | PutMsg {port} r",
+     "x = GetMsg {port} | x = MsgType m | x = WaitPort p",
+     "x = GetMsg {port} | x = GetMsg p | x = MsgWord o"),
+    ("p = CreateMsgPort", "m = NewMsg p {number}", "ReplyMsg m", "x = GetMsg p | x = MsgType m | AddPort p {name} {pri}", "x = FindPort {name}"),
+    ("ObtainSemaphore @semaphore", "x = Wait $F000", "ReleaseSemaphore @semaphore"),
+    ("ObtainSemaphore @semaphore", "| Print 1 | Print 2 | Signal {task} {mask} | ObtainSemaphore @semaphore | x = Wait $1000", "ReleaseSemaphore @semaphore"),
+    ("p = CreateMsgPort", "q = CreateIORequest p", 'x = OpenDevice "timer.device" {unit} q', "SetIO q {timer} {secs} {micros}", "x = DoIO q | SendIO q | SendIO q",
+     "x = CheckIO q | x = AbortIO q | x = WaitIO q | x = IOError q | x = IOSecs q | x = IOFlags q | x = IOMicros q | x = GetMsg p"),
+    ("b = OpenLibrary {library} 39", "x = LibOpenCnt b | RemLibrary b | a = AllocMem 200 1", "CloseLibrary b", "x = OpenLibrary {library} {number}"),
+    ("Forbid", "| Signal {task} {mask} | Print 3", "Disable", "| Print 4 | Cause {softint} | Signal {task} {mask}", "Enable", "Print 5", "Permit"),
+    ("x = FindTask {name} | x = AddTask {task} | SetTaskPri {task} {pri} | Print x",),
+    ("x = Set {number}", "x = Add x {number} | x = Sub x 3 | x = And x 7 | x = Or x 8", "Print x"),
+)
+CHOICES = {
+    "task": ("1", "2", "3", "2", "1"), "mask": MASKS[:6], "pri": ("0", "0", "1", "-1", "5"), "name": ('"alpha"', '"b"', '"c"'), "library": ('"alpha"', '"beta"'), "size": ("8", "16", "40", "100", "64"),
+    "attrs": ("1", "1", "1", "3", "$10001"), "most": ("1", "$20001", "$80001", "0"), "number": ("0", "1", "7", "39", "$FFFFFFFF"), "port": ("@port", "p"), "unit": ("0", "1", "3"),
+    "timer": ("9", "9", "9", "10", "11", "0"), "secs": ("0", "0", "1"), "micros": ("0", "20000", "40000", "100000"), "link": ("AddHead", "AddTail", "Enqueue", "AddTail"),
+}
+INTERRUPTS = ("Signal {task} {mask}", "Signal {task} {mask}", "@x = Add @x 1", "Print @x", "@y = Set {number}")
+SHARED = ("@list = NewList", "@port = CreateMsgPort", "@semaphore = NewSem", "@message = NewMsg 0 5", "@request = CreateIORequest @port", "@address = AllocMem 16 1")
 NAMES = ("alpha", "beta", "gamma", "A.b-c_d", "x")
 ENDS = {"Wait", "ObtainSemaphore", "WaitPort", "WaitIO", "DoIO", "RemTask", "Forbid", "Disable"}
 
@@ -37,8 +65,9 @@ class Texts:
         self.random = random.Random(seed)
         self.words, self.few = read_words()
         self.softints = [f"s{it}" for it in range(self.random.choice((0, 1, 1, 2, 3)))]
+        self.has_sense, self.theme = self.random.random() < 0.75, self.pick(SENSE)
         self.machine, self.events = self.machine_text(), self.events_text()
-        if self.random.random() < 0.2:
+        if self.random.random() < 0.15:
             for _ in range(self.random.choice((1, 1, 2))):
                 self.spoil()
 
@@ -70,6 +99,33 @@ class Texts:
         target = self.variable(MAKERS.get(word, self.pick(("value", "value", "node", "mask"))), is_shared) + " = "
         return (target if answers and (word in MAKERS or self.random.random() < 0.6) else "") + " ".join([word, *shown])
 
+    def sense(self):
+        """Some lines that belong together."""
+        lines = []
+        found = self.theme if self.random.random() < 0.6 else self.pick(SENSE)
+        for row in found:
+            ways = [it.strip() for it in row.split("|") if it.strip()]
+            is_free = row.startswith("|") or "x = " in row  # some of them, in any order; else all of them
+            if is_free or "@list" in row:
+                self.random.shuffle(ways)
+            ways = ways[:self.random.randrange(1, len(ways) + 1)] if is_free else ways
+            lines += self.filled(ways)
+        return lines
+
+    def filled(self, lines):
+        softint = f'"{self.pick(self.softints)}"' if self.softints else ""
+        return [re.sub(r"\{(\w+)\}", lambda it: softint if it[1] == "softint" else self.pick(CHOICES[it[1]]), it) for it in lines if softint or "{softint}" not in it]
+
+    def sensible(self, is_first):
+        """The lines of a task that does things that belong together, with little else among them."""
+        lines = [it for it in SHARED if self.random.random() < 0.97] if is_first else []
+        for _ in range(self.pick((1, 2, 3, 4))):
+            lines += self.sense()
+        for _ in range(self.pick((0, 0, 0, 1, 2))):
+            word = self.pick([it for it, (kinds, _) in self.words.items() if "label" not in kinds and "name of a software interrupt" not in kinds])
+            lines.insert(self.random.randrange(len(lines) + 1), self.command(word, False, []))
+        return lines
+
     def body(self, is_shared):
         """The lines of a body: what makes objects first, then words at random, with labels among them for a task."""
         words = self.few if is_shared else list(self.words)
@@ -91,34 +147,40 @@ class Texts:
     def table(self, kind, keys):
         return f"[[{kind}]]\n" + "".join(f"{key} = {value}\n" for key, value in keys)
 
-    def code(self, is_shared):
-        return "[" + ", ".join(f"'{it}'" for it in self.body(is_shared)) + "]"
+    def code(self, is_shared, is_first=False):
+        if self.has_sense and self.random.random() < 0.95:
+            lines = self.filled(self.random.sample(INTERRUPTS, self.pick((1, 2, 3)))) if is_shared else self.sensible(is_first)
+        else:
+            lines = self.body(is_shared)
+        return "[" + ", ".join(f"'{it}'" for it in lines) + "]"
 
     def machine_text(self):
         version = self.pick((1, 2))
-        found = f"version = {version}\nquantum = {self.pick((1, 2, 4, 255))}\npool = {self.pick((1, 2, 3, 64, 1024))}\ntick_micros = {self.pick((1, 20000, 1000000))}\n"
+        found = f"version = {version}\nquantum = {self.pick((1, 2, 4, 255))}\npool = {self.pick((3, 64, 64, 1024) if self.has_sense else (1, 2, 64))}\ntick_micros = {self.pick((1, 20000, 1000000))}\n"
         base = 4096
-        for _ in range(self.pick((0, 1, 1, 2, 3))):
-            size = self.pick((64, 128, 256, 1024, 4096, 65536))
-            found += self.table("region", (("base", base), ("size", size), ("attrs", self.pick((1, 1, 3, 5, 0))), ("pri", self.pick((0, 0, 5, -5)))))
+        for _ in range(self.pick((1, 1, 2, 3)) if self.has_sense else self.pick((0, 1, 2))):
+            size = self.pick((512, 4096, 4096, 65536)) if self.has_sense else self.pick((64, 128, 256, 4096))
+            found += self.table("region", (("base", base), ("size", size), ("attrs", self.pick((1, 1, 3, 5, 7) if self.has_sense else (1, 3, 5, 0))), ("pri", self.pick((0, 0, 5, -5)))))
             base += size + self.pick((0, 8, 4096))
-        for it in NAMES[:self.pick((0, 0, 1, 2, 3))]:
-            found += self.table("library", (("name", f'"{it}"'), ("version", self.pick((0, 39, 65535))), ("size", self.pick((8, 64, 100, 1000)))))
+        for it in NAMES[:self.pick((2, 3) if self.has_sense else (0, 0, 1, 2, 3))]:
+            found += self.table("library", (("name", f'"{it}"'), ("version", self.pick((39, 65535))), ("size", self.pick((8, 64, 100, 1000)))))
         for it in self.softints:
             found += self.table("softint", (("name", f'"{it}"'), ("pri", self.pick((-32, -16, 0, 16, 32))), ("code", self.code(True))))
-        for it in range(self.pick((0, 0, 1, 2, 3))):
+        for it in range(self.pick((1, 2, 3) if self.has_sense else (0, 1, 3))):
             source = self.pick(("PORTS", "VERTB", "EXTER"))
             keys = (("name", f'"v{it}"'), ("source", f'"{source}"'), ("pri", self.pick((0, 0, 3, -3))), ("claim", self.pick(("false", "false", "true"))), ("code", self.code(True)))
             found += self.table("server", keys)
-        for it in ("alpha", "b", "c", "d")[:self.pick((1, 2, 2, 3, 4))]:
-            keys = (("name", f'"{it}"'), ("pri", self.pick((0, 0, 0, 1, -1, 127))), ("start", self.pick(("true", "true", "true", "false"))), ("code", self.code(False)))
+        for it in ("alpha", "b", "c", "d")[:self.pick((3, 3, 4) if self.has_sense else (1, 2, 2, 3, 4))]:
+            keys = (("name", f'"{it}"'), ("pri", 6 if self.has_sense and it == "alpha" else self.pick((0, 0, 1, -1) if self.has_sense else (0, 0, 1, -1, 127))),
+                    ("start", "true" if it in "alphabc" and self.has_sense else self.pick(("true", "true", "true", "false"))), ("code", self.code(False, it == "alpha")))
             found += self.table("task", keys)
         return found
 
     def events_text(self):
-        events = (lambda: f"run {self.pick((1, 1, 2, 5, 20))}", lambda: f"run {self.pick((1, 3, 30))}", lambda: f"tick {self.pick((1, 1, 2, 5))}", lambda: "irq PORTS",
+        some = (3, 8, 15, 30) if self.has_sense else (1, 1, 2, 5, 20)
+        events = (lambda: f"run {self.pick(some)}", lambda: f"run {self.pick((1, 3, 30))}", lambda: f"tick {self.pick((1, 1, 2, 5))}", lambda: "irq PORTS",
                   lambda: "irq EXTER", lambda: "# a comment", lambda: "")
-        return "".join(f"{self.pick(events[:2] * 4 + events[2:5] * 2 + events[5:])()}\n" for _ in range(self.pick((1, 4, 10, 25)))) + self.pick(("", "run 9"))
+        return "".join(f"{self.pick(events[:2] * 4 + events[2:5] * 2 + events[5:])()}\n" for _ in range(self.pick((6, 10, 15) if self.has_sense else (1, 4, 10, 25)))) + self.pick(("", "run 9"))
 
     def spoil(self):
         """A mistake, in one text or the other."""
@@ -135,24 +197,31 @@ class Texts:
         self.machine, self.events = (text, self.events) if is_machine else (self.machine, text)
 
 
+# The parts that a text is cut into, each of which may be needless: its tables, and then its lines and the commands in them.
+CUTS = (r"(?m)^(?=\[\[)|(?<=\n)(?=run|tick|irq)", r"(?<=\n)|(?<=', )|(?<=\[)(?=')")
+
+
 def cut_down(texts, differs):
-    """Two texts without all lines and commands that need not be there for the two to differ."""
-    units = [[it for it in re.split(r"(?<=\n)|(?<=', )|(?<=\[)(?=')", text) if it] for text in texts]
-    text = lambda: tuple("".join(it) for it in units)  # noqa: E731
-    for _ in range(3):
-        before = text()
-        for place in (0, 1):
-            size = max(1, len(units[place]) // 2)
-            while size:
-                at = 0
-                while at < len(units[place]):
-                    kept = units[place]
-                    units[place] = kept[:at] + kept[at + size:]
-                    if differs(*text()):
-                        continue
-                    units[place] = kept
-                    at += size
-                size //= 2
-        if text() == before:
-            break
-    return text()
+    """Two texts without all tables, lines and commands that need not be there for the two to differ."""
+    texts, before = list(texts), None
+    while before != texts:
+        before = list(texts)
+        for cut in CUTS:
+            for place in (0, 1):
+                texts[place] = cut_text(re.split(cut, texts[place]), lambda text: differs(*(text if it == place else texts[it] for it in (0, 1))))
+    return tuple(texts)
+
+
+def cut_text(units, differs):
+    """A text without the units that it does not need, some at a time and at last one by one."""
+    size = max(1, len(units) // 2)
+    while size:
+        at = 0
+        while at < len(units):
+            less = units[:at] + units[at + size:]
+            if differs("".join(less)):
+                units = less
+            else:
+                at += size
+        size //= 2
+    return "".join(units)
