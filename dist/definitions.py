@@ -8109,7 +8109,7 @@ def finmap_put(order, key, value, pairs):
 # How this file is run
 # ======================================================================================================================
 
-RUN, PRINTED, EVENTS_OF, MACHINE_OF_TREE, STEP = run, printed, script_of, placed_file_of_document, 'step'
+RUN, PRINTED, EVENTS_OF, MACHINE_OF_TREE, STEP = run, printed, script_of, placed_file_of_document, 'settle'
 LAWS = {
     'IsInOrder': IsInOrder,
     'turns_at_port': turns_at_port,
@@ -8257,7 +8257,7 @@ def _show_progress(name, what):
 
 def _run_files(machine, events):
     machine, events = _read(machine), _read(events)
-    _show_progress(STEP, "steps")
+    _show_progress(STEP, "steps, ticks and requests")
     status, trace, said, _ = _outcome(machine, events)
     sys.stdout.buffer.write(trace)
     sys.stdout.flush()

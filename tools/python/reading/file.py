@@ -181,5 +181,5 @@ class File:
 
     def entries(self):
         names = {role: self.python.name(it) for role, it in self.roots.items()}
-        return f"RUN, PRINTED, EVENTS_OF, MACHINE_OF_TREE, STEP = {names['run']}, {names['printed']}, {names['script_of']}, {names['placed_file_of_document']}, 'step'\n" + (
+        return f"RUN, PRINTED, EVENTS_OF, MACHINE_OF_TREE, STEP = {names['run']}, {names['printed']}, {names['script_of']}, {names['placed_file_of_document']}, {self.python.name(self.project.named('settle'))!r}\n" + (
             "LAWS = {\n" + "".join(f"    {name!r}: {self.python.name(it)},\n" for name, it in zip((*LAWS, "says", "Says", "fields", *self.statements), self.laws)) + "}")

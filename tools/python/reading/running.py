@@ -129,7 +129,7 @@ def _show_progress(name, what):
 
 def _run_files(machine, events):
     machine, events = _read(machine), _read(events)
-    _show_progress(STEP, "steps")
+    _show_progress(STEP, "steps, ticks and requests")
     status, trace, said, _ = _outcome(machine, events)
     sys.stdout.buffer.write(trace)
     sys.stdout.flush()
