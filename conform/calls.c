@@ -1,5 +1,5 @@
-/* The words that ask something of Exec: each is the call of that name, or what a C program writes for it (docs/FROM-C.md). Nothing is answered
-   but by Exec, and nothing is checked: a call that this machine refuses is made there. */
+/* The words that ask something of Exec: each is the call of that name, or what a C program writes for it (docs/FROM-C.md). Nothing is checked: a
+   call that this machine refuses is made there. */
 #include "conform.h"
 
 /* Strict: AllocSignal -1 takes the highest free signal. All others look taken meanwhile, and only for this call. */
@@ -120,8 +120,8 @@ static u32 do_Remove(u32 *a) { return call_Remove((void *)a[0]); }
 static u32 do_RemHead(u32 *a) { return call_RemHead((void *)a[0]); }
 static u32 do_RemTail(u32 *a) { return call_RemTail((void *)a[0]); }
 
-/* First to Pred read a pointer. Strict: 0 if it is that of a list's end, as a C program asks; plain: the pointer as it is. */
-static u32 pointer(struct Node *node, const void *beyond) { return is_strict && !beyond ? 0 : (u32)node; }
+/* First to Pred read a pointer, and answer 0 at a list's end, as a C program does for itself: that 0 is not Exec's. */
+static u32 pointer(struct Node *node, const void *beyond) { return beyond ? (u32)node : 0; }
 static u32 do_First(u32 *a) { struct Node *node = ((struct List *)a[0])->lh_Head; return pointer(node, node->ln_Succ); }
 static u32 do_Last(u32 *a) { struct Node *node = ((struct List *)a[0])->lh_TailPred; return pointer(node, node->ln_Pred); }
 static u32 do_Succ(u32 *a) { struct Node *node = ((struct Node *)a[0])->ln_Succ; return pointer(node, node->ln_Succ); }

@@ -65,7 +65,14 @@ void print_number(u32 value);
 void print_decimal(u32 value);
 void end_line(void);
 
+/* The ends of a list of the system that is empty meanwhile. */
+struct Ends {
+    struct Node *head, *tail;
+};
+
 /* memory.c */
+void empty_list(struct List *list, struct Ends *ends);
+void fill_list(struct List *list, const struct Ends *ends);
 u32 memory_begin(const u32 *regions);
 void memory_end(void);
 u32 real_address(u32 shown);

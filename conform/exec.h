@@ -95,6 +95,8 @@ struct ExecBase {
     u16 AttnFlags, AttnResched;
     u8 before_memory[22];
     struct List MemList, ResourceList, DeviceList, IntrList, LibList, PortList, TaskReady, TaskWait;
+    u8 before_handlers[182];
+    struct List ex_MemHandlers; /* from version 39 on, without the last two bytes */
 };
 
 #define offset_of(type, field) ((u32) & ((type *)0)->field)
@@ -103,6 +105,7 @@ _Static_assert(sizeof(struct Task) == 92 && sizeof(struct MsgPort) == 34 && size
 _Static_assert(sizeof(struct SignalSemaphore) == 46 && sizeof(struct Interrupt) == 22 && sizeof(struct MemHeader) == 32, "the others");
 _Static_assert(__builtin_offsetof(struct ExecBase, IntVects) == 84 && __builtin_offsetof(struct ExecBase, ThisTask) == 276, "ExecBase");
 _Static_assert(__builtin_offsetof(struct ExecBase, MemList) == 322 && __builtin_offsetof(struct ExecBase, PortList) == 392, "its lists");
+_Static_assert(__builtin_offsetof(struct ExecBase, ex_MemHandlers) == 616, "its handlers of low memory");
 
 #define SysBase (*(struct ExecBase *volatile *)4)
 

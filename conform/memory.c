@@ -6,7 +6,7 @@ static struct Region {
     struct MemHeader header;
 } regions[MOST_REGIONS];
 static u32 count, block, block_size;
-static struct Node *first_kept, *last_kept;
+static struct Ends memory_kept, libraries_kept, devices_kept, handlers_kept;
 static u32 checks_kept;
 
 void clear(void *memory, u32 size)
@@ -105,29 +105,49 @@ u32 shown_address(u32 real)
     return real;
 }
 
+/* Takes all nodes out of a list of the system, and keeps its ends. */
+void empty_list(struct List *list, struct Ends *ends)
+{
+    ends->head = list->lh_Head;
+    ends->tail = list->lh_TailPred;
+    list->lh_Head = (struct Node *)&list->lh_Tail;
+    list->lh_TailPred = (struct Node *)&list->lh_Head;
+}
+
+/* Puts them back. A list that was empty has its ends in itself. */
+void fill_list(struct List *list, const struct Ends *ends)
+{
+    list->lh_Head = ends->head;
+    list->lh_TailPred = ends->tail;
+}
+
+static u32 has_memory_handlers(void) { return SysBase->lib_Version >= 39; }
+
 /* From here on the system's list of memory has the regions of the run alone, so that AllocMem, AvailMem and CreateMsgPort take what the file
-   says. Without it every address was another one. */
+   says. Without it every address was another one. What Exec does if memory is low is kept out, too: it expunged libraries of the
+   system, whose memory is in no region, and the machine stopped. */
 void use_regions(void)
 {
-    struct List *list = &SysBase->MemList;
     u32 number;
     call_Forbid();
-    first_kept = list->lh_Head;
-    last_kept = list->lh_TailPred;
-    list->lh_Head = (struct Node *)&list->lh_Tail;
-    list->lh_Tail = 0;
-    list->lh_TailPred = (struct Node *)&list->lh_Head;
+    empty_list(&SysBase->MemList, &memory_kept);
+    empty_list(&SysBase->LibList, &libraries_kept);
+    empty_list(&SysBase->DeviceList, &devices_kept);
+    if (has_memory_handlers())
+        empty_list(&SysBase->ex_MemHandlers, &handlers_kept);
     for (number = 0; number < count; number++)
-        call_Enqueue(list, &regions[number].header.mh_Node);
+        call_Enqueue(&SysBase->MemList, &regions[number].header.mh_Node);
     checks_kept = rom_pause_checks();
 }
 
 void use_system(void)
 {
-    struct List *list = &SysBase->MemList;
     rom_resume_checks(checks_kept);
-    list->lh_Head = first_kept;
-    list->lh_TailPred = last_kept;
+    if (has_memory_handlers())
+        fill_list(&SysBase->ex_MemHandlers, &handlers_kept);
+    fill_list(&SysBase->DeviceList, &devices_kept);
+    fill_list(&SysBase->LibList, &libraries_kept);
+    fill_list(&SysBase->MemList, &memory_kept);
     call_Permit();
 }
 

@@ -11,26 +11,10 @@ static const u8 source_bits[SOURCES] = {PORTS_BIT, VERTB_BIT, EXTER_BIT};
 static const char *const source_names[SOURCES] = {"PORTS", "VERTB", "EXTER"};
 static struct Handler first_servers[SOURCES];
 
-static struct Ends { struct Node *head, *tail; } chains[SOURCES], ports;
+static struct Ends chains[SOURCES], ports;
 static struct Still { struct Task *task; s8 pri; } still[MOST_STILL];
 static u32 still_count;
 static u16 quantum_kept, enabled_kept;
-
-/* Takes all nodes out of a list of the system, and keeps them: a system's server on VERTB ran our tasks' time, and made tasks ready. */
-static void empty_list(struct List *list, struct Ends *ends)
-{
-    ends->head = list->lh_Head;
-    ends->tail = list->lh_TailPred;
-    list->lh_Head = (struct Node *)&list->lh_Tail;
-    list->lh_TailPred = (struct Node *)&list->lh_Head;
-}
-
-/* Puts them back. A list that was empty has its ends in itself. */
-static void fill_list(struct List *list, const struct Ends *ends)
-{
-    list->lh_Head = ends->head;
-    list->lh_TailPred = ends->tail;
-}
 
 /* The first task of a list that is neither this program's nor low already. */
 static struct Task *task_to_lower(const struct List *list)
@@ -105,7 +89,7 @@ static void make_handlers(void)
     }
 }
 
-/* The servers of this program go first in the chains: they show the serving. */
+/* The servers of this program go first in the chains: they show the serving. The system's own are out of them: one on VERTB made tasks ready. */
 static void add_servers(void)
 {
     u32 index;

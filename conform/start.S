@@ -1,6 +1,6 @@
 | The first word of the program, and the places where Exec enters C and C enters Exec.
 	.text
-	.globl _start, exec_call, softint_entry, server_entry, launch_entry, task_entry, task_exit
+	.globl _start, exec_call, dos_call, softint_entry, server_entry, launch_entry, task_entry, task_exit
 | Entered with the loader's A0 and D0: start(a0, d0).
 _start:
 	movem.l	%d2-%d7/%a2-%a6, -(%sp)
@@ -19,6 +19,16 @@ exec_call:
 	move.l	52(%sp), %d0
 	move.l	56(%sp), %d1
 	movem.l	60(%sp), %a0-%a3
+	jsr	(%a5)
+	movem.l	(%sp)+, %d2-%d7/%a2-%a6
+	rts
+| dos_call(base, offset, d1, d2, d3)
+dos_call:
+	movem.l	%d2-%d7/%a2-%a6, -(%sp)
+	move.l	48(%sp), %a6
+	move.l	52(%sp), %a5
+	add.l	%a6, %a5
+	movem.l	56(%sp), %d1-%d3
 	jsr	(%a5)
 	movem.l	(%sp)+, %d2-%d7/%a2-%a6
 	rts

@@ -20,7 +20,7 @@ MOST_BYTES = 768 * 1024  # of a compiled file: a disk of 880 KB has it with the 
 
 REFUSED, ALERT = "a refused text", "ends in an alert"
 LIBRARIES, TIMER = "libraries without code", "timer.device in virtual time"
-UNREAD = "a text that Python does not read as TOML"
+UNREAD = "a text that this compiler does not read; execcheck says if it is wrong"
 
 LABEL = re.compile(r"[a-z][a-z0-9_]*:")
 TARGET = re.compile(r"(@?[a-z][a-z0-9_]*) = (.*)")
@@ -104,7 +104,7 @@ class Compiler:
 
 def name_words(text, size=32):
     """A name with zeros after it, in words."""
-    return list(struct.unpack(f">{size // 4}I", text.encode()[: size - 1].ljust(size, b"\0")))
+    return list(struct.unpack(f">{size // 4}I", text.encode(errors="replace")[: size - 1].ljust(size, b"\0")))
 
 
 def event_words(events):
@@ -131,15 +131,13 @@ def bodies_of(machine):
 
 
 def check(text, machine, words):
-    """Refuses a machine that the other side does not have: with a library, or with a word of libraries or of requests."""
+    """Refuses a machine that the other side does not have: with a word of libraries or of requests. A library that nobody opens is nothing."""
     version = machine.get("version", 1)
     for line in bodies_of(machine):
         word = TARGET.sub(r"\2", line).split(" ")[0]
         group = words[word]["group"] if word in words else ""
         if group in ("libraries", "requests"):
             raise CannotRun(LIBRARIES if group == "libraries" else TIMER, line_of(text, line), word, version)
-    if machine.get("library"):
-        raise CannotRun(LIBRARIES, line_of(text, "[[library]]"), "[[library]]", version)
 
 
 def parsed(text):
@@ -216,7 +214,7 @@ def compile_stored(run, words, mode):
         text, events = run.machine.read_bytes().decode(), run.events.read_bytes().decode()
         made = run_words(run.name, text, events, words, mode)
     except (UnicodeDecodeError, KeyError, ValueError, TypeError, AttributeError, struct.error):
-        raise CannotRun(REFUSED) from None  # no text that execsim accepts; execcheck says where
+        raise CannotRun(UNREAD) from None
     check_alert(run, text)
     return Compiled(run, made)
 

@@ -1,4 +1,5 @@
-"""Boots AROS's ROM, which Debian's fs-uae carries, from a disk of ours, and reads what comes on the serial port."""
+"""Boots AROS's ROM, which Debian's fs-uae carries: from a disk of ours, with what comes on the serial port, or from a folder, with what a command
+writes to a file there."""
 import contextlib
 import hashlib
 import os
@@ -22,11 +23,9 @@ BUSY = 5  # seconds of processor that the emulator has had in a silence, or it o
 CONFIGURATION = """[fs-uae]
 amiga_model = A1200
 kickstart_file = {rom}
-floppy_drive_0 = {folder}/disk.adf
 floppy_drive_count = 1
 floppy_drive_speed = 0
 floppy_drive_volume = 0
-serial_port = {serial}
 fast_memory = 8192
 base_dir = {folder}
 fullscreen = 0
@@ -34,6 +33,9 @@ window_width = 640
 window_height = 512
 warp_mode = 1
 uae_cpu_speed = max
+accuracy = -1
+uae_gfx_framerate = 10
+{media}
 """
 
 
@@ -122,15 +124,16 @@ class Silence:
         return passed > SLOW or (passed > SILENCE and processor_seconds(self.child) - self.processor > BUSY)
 
 
-def listen(serial, child, stop, hear):
+def listen(receive, child, stop):
     """What comes until the runs are done, the emulator ends or is silent, or AROS starts a second time."""
     data, silence = bytearray(), Silence(child)
     while child.poll() is None and not silence.is_over():
         if stop.is_set():
             raise Stopped
-        if not select.select([serial], [], [], 0.1)[0]:
+        chunk = receive()
+        if not chunk:
             continue
-        data += hear(os.read(serial, 65536))
+        data += chunk
         silence.heard()
         silence.has_begun = silence.has_begun or BEGUN in data
         if data.count(BEGUN) > 1:
@@ -141,25 +144,58 @@ def listen(serial, child, stop, hear):
     return bytes(data)
 
 
-def configure(folder, disk, serial, rom):
-    (folder / "disk.adf").write_bytes(disk)
-    (folder / "boot.fs-uae").write_text(CONFIGURATION.format(folder=folder, serial=serial, rom=rom))
-
-
-def boot(disk, stop, hear=lambda chunk: chunk, rom="internal", look=lambda display: None):
-    """Boots a disk, and answers all that came on the serial port. Nothing is left after it."""
-    ours, theirs = os.openpty()
-    tty.setraw(ours)
-    tty.setraw(theirs)
-    with contextlib.ExitStack() as stack:
-        stack.callback(os.close, ours)
-        stack.callback(os.close, theirs)
-        folder = pathlib.Path(stack.enter_context(tempfile.TemporaryDirectory(prefix="conform.", ignore_cleanup_errors=True)))
-        configure(folder, disk, os.ttyname(theirs), rom)
-        display = stack.enter_context(screen())
+def boot(folder, media, receive, stop, rom="internal", look=lambda display: None):
+    """Boots from some media in a folder of its own, and answers all that came. Nothing runs on after it."""
+    (folder / "boot.fs-uae").write_text(CONFIGURATION.format(folder=folder, media=media, rom=rom))
+    with screen() as display, contextlib.ExitStack() as stack:
         places = {"DISPLAY": display, "HOME": folder, "XDG_CONFIG_HOME": folder, "XDG_DATA_HOME": folder, "XDG_RUNTIME_DIR": folder}
         quiet = {"LIBGL_ALWAYS_SOFTWARE": "1", "SDL_AUDIODRIVER": "dummy", "ALSOFT_DRIVERS": "null"}
         child = start(["fs-uae", str(folder / "boot.fs-uae")], env={**os.environ, **places, **quiet}, cwd=folder)
         stack.callback(end, child)
         look(display)
-        return listen(ours, child, stop, hear)
+        return listen(receive, child, stop)
+
+
+@contextlib.contextmanager
+def folder_of_a_boot():
+    """A folder for an emulator's files, which is taken away."""
+    with tempfile.TemporaryDirectory(prefix="conform.", ignore_cleanup_errors=True) as path:
+        yield pathlib.Path(path)
+
+
+def boot_disk(disk, stop, hear=lambda chunk: chunk, **others):
+    """Boots a disk, and answers all that came on the serial port; `hear` may change what comes."""
+    ours, theirs = os.openpty()
+    tty.setraw(ours)
+    tty.setraw(theirs)
+
+    def receive():
+        return hear(os.read(ours, 65536)) if select.select([ours], [], [], 0.1)[0] else b""
+
+    try:
+        with folder_of_a_boot() as folder:
+            (folder / "disk.adf").write_bytes(disk)
+            media = f"floppy_drive_0 = {folder}/disk.adf\nserial_port = {os.ttyname(theirs)}"
+            return boot(folder, media, receive, stop, **others)
+    finally:
+        os.close(ours)
+        os.close(theirs)
+
+
+def boot_command(program, file, stop, **others):
+    """Boots from a folder of the host, whose startup sequence has a command do a compiled file, and answers what it wrote to its file."""
+    with folder_of_a_boot() as folder:
+        drive, traces, place = folder / "drive", folder / "drive" / "all.traces", 0
+        (drive / "S").mkdir(parents=True)
+        (drive / "conform").write_bytes(program)
+        (drive / "all.runs").write_bytes(file)
+        (drive / "S" / "Startup-Sequence").write_text("conform all.runs all.traces\n")
+
+        def receive():
+            nonlocal place
+            time.sleep(0.1)
+            chunk = traces.read_bytes()[place:] if traces.exists() else b""
+            place += len(chunk)
+            return chunk
+
+        return boot(folder, f"hard_drive_0 = {drive}\nhard_drive_0_label = Runs", receive, stop, **others)

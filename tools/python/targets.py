@@ -45,22 +45,24 @@ class Target:
 
 
 class Aros(Target):
-    """AROS's ROM in Debian's emulator."""
+    """AROS's ROM in Debian's emulator: `aros` boots a disk, and `aros:command` starts the command for systems with dos.library."""
 
     mode = "strict"
 
     def check(self):
-        if self.rest:
-            raise NoTarget(f"aros:{lines.visible(self.rest)}: the target aros has no more to its name")
+        if self.rest not in ("", "command"):
+            raise NoTarget(f"aros:{lines.visible(self.rest)}: no such way in; there are aros and aros:command")
         emulator.check()
         self.rom = emulator.rom_name()
         with tempfile.TemporaryDirectory(prefix="conform.") as folder:
-            self.image = amigaside.linked(folder, "boot")
+            self.image = amigaside.linked(folder, self.rest or "boot")
 
     def answer(self, file, stop):
+        if self.rest:
+            return emulator.boot_command(amigaside.hunks(self.image), file, stop)
         with tempfile.TemporaryDirectory(prefix="conform.") as folder:
             disk = amigaside.disk(folder, self.image, file)
-        return emulator.boot(disk, stop)
+        return emulator.boot_disk(disk, stop)
 
     def about(self, version):
         return f"{super().about(version)}, ROM {self.rom}"
