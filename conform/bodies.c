@@ -26,9 +26,11 @@ static void finish(void)
 
 /* Requests an interrupt source as hardware does. All sources are disabled while a run is under way, and this one is enabled for this request alone:
    a request that the hardware had left made servers run that nobody had asked for. VERTB waits until the picture's end is far, since a
-   real one at the same time was a second serving. */
+   real one at the same time was a second serving. A source that is enabled still has a request that waits, under Disable: another is none. */
 static void request(u32 bit)
 {
+    if (INTENAR & 1 << bit)
+        return;
     if (bit == VERTB_BIT) {
         u32 row;
         do
@@ -170,8 +172,10 @@ static void print_call(struct Call *call)
             print_char('"');
             print((const char *)call->values[index]);
             print_char('"');
-        } else
-            print_number(shown_address(call->values[index]));
+        } else {
+            u32 is_shown = word_rows[call->word].shown >> index & 1;
+            print_number(is_shown ? shown_address(call->values[index]) : call->values[index]);
+        }
     }
 }
 
@@ -190,7 +194,7 @@ void log_answer(struct Call *call, u32 answer)
         return;
     print_call(call);
     print(" -> ");
-    print_number(shown_address(answer));
+    print_number(word_rows[call->word].answers == 2 ? shown_address(answer) : answer);
     end_line();
 }
 

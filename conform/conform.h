@@ -122,7 +122,7 @@ const char *run_one(const struct Run *which);
 typedef void (*writer)(const char *text, u32 length);
 u32 conform(const u32 *file, writer write, writer at_once);
 
-/* start.S: where Exec calls C */
+/* entries.S: where Exec calls C */
 void softint_entry(void);
 void server_entry(void);
 void launch_entry(void);

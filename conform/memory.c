@@ -95,7 +95,7 @@ u32 real_address(u32 shown)
     return shown;
 }
 
-/* An address as the trace shows it. A number of a script that happens to be a real address is shown wrongly; that is rare, and differs. */
+/* An address as the trace shows it. It is asked for values that may be addresses alone: a size of 4 MB was one of a region. */
 u32 shown_address(u32 real)
 {
     u32 number;

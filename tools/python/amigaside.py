@@ -66,20 +66,28 @@ def image_of(elf):
     return Image(code, len(code) + found.get(".bss", (0, 0))[1], relocations)
 
 
-def objects(folder, names, defines=()):
-    """Compiles files of C, and the start."""
+def objects(folder, names, assembly, defines=()):
+    """Compiles files of C and of assembly."""
     for name in names:
         run("m68k-linux-gnu-gcc", *FLAGS, *defines, "-c", SOURCES / f"{name}.c", "-o", f"{name}.o", cwd=folder)
-    run("m68k-linux-gnu-as", "-m68000", SOURCES / "start.S", "-o", "start.o", cwd=folder)
-    return ["start.o", *(f"{name}.o" for name in names)]
+    for name in assembly:
+        run("m68k-linux-gnu-as", "-m68000", SOURCES / f"{name}.S", "-o", f"{name}.o", cwd=folder)
+    return [f"{name}.o" for name in (*assembly, *names)]
 
 
 def linked(folder, way_in, defines=()):
     """The image of a way in: `boot` or `command`."""
-    made = objects(folder, (way_in, *COMMON), defines)
+    made = objects(folder, (way_in, *COMMON), ("start", "entries"), defines)
     flags = ("--emit-relocs", "-z", "noexecstack", "--no-warn-rwx-segments", "-T", SOURCES / "link.ld")
     run("m68k-linux-gnu-ld", *flags, "-o", f"{way_in}.elf", *made, cwd=folder)
     return image_of((pathlib.Path(folder) / f"{way_in}.elf").read_bytes())
+
+
+def plain_object(folder):
+    """The program without a way in, as one file of object code."""
+    made = objects(folder, COMMON, ("entries",))
+    run("m68k-linux-gnu-ld", "-r", "-z", "noexecstack", "-o", "conform.o", *made, cwd=folder)
+    return (pathlib.Path(folder) / "conform.o").read_bytes()
 
 
 def padded(data, size=SECTOR):

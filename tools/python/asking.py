@@ -18,9 +18,9 @@ class Asking:
 
     def __init__(self, target, compiled, words, mode, progress):
         self.target, self.compiled, self.words, self.mode, self.progress = target, compiled, words, mode, progress
-        self.traces, self.silent, self.version, self.boots = {}, {}, None, 0
+        self.traces, self.silent, self.version = {}, {}, None
         self.tries, self.lock, self.stop = collections.Counter(), threading.Lock(), threading.Event()
-        self.batches, self.failure, self.lost, self.mute = queue.Queue(), None, 0, 0
+        self.batches, self.failure, self.mute = queue.Queue(), None, 0
 
     def put(self, numbers, most):
         """Queues runs, in files that are not too large."""
@@ -43,23 +43,26 @@ class Asking:
 
     def take(self, numbers, said):
         """Takes in what came: whole traces are kept, the run in which all ended goes alone, and the others go again."""
-        self.boots += 1
         self.version = said.version or self.version
         for place, number in enumerate(numbers):
             if place in said.traces:
                 self.traces[number] = said.traces[place]
             elif place in said.cannot:
                 self.silent[number] = said.cannot[place]
-        left = [number for number in numbers if number not in self.traces and number not in self.silent]
-        self.lost += sum(numbers[place] in left for place in said.spoiled if place < len(numbers))
-        ended = None if said.is_done or said.last_begun is None or said.last_begun in said.spoiled else numbers[said.last_begun]
-        self.again(left, ended, len(numbers))
+        begun = len(numbers) if said.last_begun is None else said.last_begun + 1
+        self.tries.update(number for number in numbers[:begun] if self.is_left(number))
+        left = list(filter(self.is_left, numbers))
+        has_ended = not (said.is_done or said.last_begun is None or said.last_begun in said.spoiled)
+        self.again(left, numbers[said.last_begun] if has_ended else None, len(numbers))
+
+    def is_left(self, number):
+        """Whether nothing is known of a run yet."""
+        return number not in self.traces and number not in self.silent
 
     def again(self, left, ended, count):
-        """Queues the runs that have no trace, unless they had enough tries."""
+        """Queues the runs that have no trace, unless they had enough tries: alone the one in which all ended, and one whose trace was often lost."""
         others = []
         for number in left:
-            self.tries[number] += 1
             if number == ended and count == 1:
                 self.silent[number] = "the other side stopped in this run"
             elif self.tries[number] >= TRIES and count == 1:

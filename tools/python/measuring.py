@@ -5,7 +5,6 @@ import datetime
 import json
 import lzma
 import pathlib
-import re
 import subprocess
 import threading
 
@@ -76,8 +75,13 @@ def ask_row(target, compiled, words, stop):
     return found
 
 
+def same_answer(one, other):
+    """Whether an example was answered as before. One that stops AROS may have other lines the next time."""
+    return one["whole"] == other["whole"] and (not one["whole"] or one["lines"] == other["lines"])
+
+
 def ask_rows(rows, words, jobs, progress):
-    """What came of each row: {rule: {"lines", "whole"} or {"unasked"}}."""
+    """What came of each row: {rule: {"lines", "whole"} or {"unasked"}}, each asked in a boot of its own."""
     target, stop, kept = targets.named("aros"), threading.Event(), {}
     with concurrent.futures.ThreadPoolExecutor(jobs) as pool:
         futures = {}
@@ -116,10 +120,10 @@ def kept_results(results, others):
 
 
 def ask_runs(runs, words, mode, jobs, progress):
-    """Asks for runs, in a mode."""
+    """Asks for runs, in a mode: the results, what was not run, and the version of exec.library."""
     compiled, others = compiling.compile_all(runs, words, mode)
-    results, _ = asking.compare(targets.named("aros"), compiled, words, mode, jobs, progress)
-    return results, others
+    results, version = asking.compare(targets.named("aros"), compiled, words, mode, jobs, progress)
+    return results, others, version
 
 
 def left_out_runs(folder, program, words):
@@ -158,8 +162,44 @@ def ask_all(room, program, words, jobs, say):
     """All answers, as they are kept."""
     groups = {}
     for name, mode, runs in all_groups(room, program, words):
-        results, others = ask_runs(runs, words, mode, jobs, say(name))
+        results, others, version = ask_runs(runs, words, mode, jobs, say(name))
         groups[name] = kept_results(results, others)
     rows = ask_rows(differences.load(), words, jobs, say("rows"))
-    head = {"format": FORMAT, "date": datetime.date.today().isoformat(), "exec": "51.3", "rom": emulator.rom_name(), "emulator": emulator.version()}
+    for row in differences.load():
+        if "lines" in rows[row["rule"]]:
+            rows[row["rule"]]["ours"] = simulated(program, differences.machine_of(row), differences.events_of(row), room)[1].splitlines()
+    head = {"format": FORMAT, "date": datetime.date.today().isoformat(), "exec": version, "rom": emulator.rom_name(), "emulator": emulator.version()}
     return head | {"rows": rows, "groups": groups}
+
+
+# what is kept
+
+
+def results_of(kept):
+    """The result of each run that was done, by its group and name."""
+    found = {}
+    for group, one in kept["groups"].items():
+        found |= {(group, name): "same" for name in one["same"]}
+        found |= {(group, name): what["result"] for name, what in one["others"].items()}
+    return found
+
+
+def changes(before, after):
+    """What is not as before: rows that are answered in another way, and runs with another result."""
+    rows = [rule for rule, one in after["rows"].items() if "lines" in one and not same_answer(one, before["rows"].get(rule, {"whole": None}))]
+    old, new = results_of(before), results_of(after)
+    return {"rows that AROS answers in another way": rows, "runs with another result": sorted(key for key in old | new if old.get(key) != new.get(key))}
+
+
+def of_kind(name):
+    """The kind of a run that was left out: its name without its number."""
+    return name.partition("/")[0]
+
+
+def unexplained():
+    """What differs and is in no row, and what a row names and is the same: runs of the tables, and kinds of runs that were left out."""
+    groups = load()["groups"]
+    differ = {*groups["examples"]["others"], *groups["tables"]["others"], *map(of_kind, groups["left-out"]["others"])}
+    rows = differences.load()
+    named = {name for row in rows for name in row.get("runs", [])} | {row["left_out"] for row in rows if "left_out" in row}
+    return sorted(differ - named), sorted(named - differ)

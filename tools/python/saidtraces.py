@@ -72,4 +72,4 @@ def titles(data):
 
 def short(name):
     """A name as the title of a run has it."""
-    return name.encode()[: compiling.TITLE - 1].decode(errors="replace")
+    return name.encode(errors="replace")[: compiling.TITLE - 1].decode(errors="replace")
