@@ -1,9 +1,11 @@
 """Builds the Amiga side, conform/, with Debian's compiler for m68k: a disk that boots, a command for AmigaOS, and plain object code."""
 import dataclasses
+import functools
 import pathlib
 import shutil
 import struct
 import subprocess
+import tempfile
 
 import tables
 
@@ -66,26 +68,33 @@ def image_of(elf):
     return Image(code, len(code) + found.get(".bss", (0, 0))[1], relocations)
 
 
-def objects(folder, names, assembly, defines=()):
+def objects(folder, names, assembly, sources):
     """Compiles files of C and of assembly."""
     for name in names:
-        run("m68k-linux-gnu-gcc", *FLAGS, *defines, "-c", SOURCES / f"{name}.c", "-o", f"{name}.o", cwd=folder)
+        run("m68k-linux-gnu-gcc", *FLAGS, "-c", sources / f"{name}.c", "-o", f"{name}.o", cwd=folder)
     for name in assembly:
-        run("m68k-linux-gnu-as", "-m68000", SOURCES / f"{name}.S", "-o", f"{name}.o", cwd=folder)
+        run("m68k-linux-gnu-as", "-m68000", sources / f"{name}.S", "-o", f"{name}.o", cwd=folder)
     return [f"{name}.o" for name in (*assembly, *names)]
 
 
-def linked(folder, way_in, defines=()):
+def linked(folder, way_in, sources=SOURCES):
     """The image of a way in: `boot` or `command`."""
-    made = objects(folder, (way_in, *COMMON), ("start", "entries"), defines)
-    flags = ("--emit-relocs", "-z", "noexecstack", "--no-warn-rwx-segments", "-T", SOURCES / "link.ld")
+    made = objects(folder, (way_in, *COMMON), ("start", "entries"), sources)
+    flags = ("--emit-relocs", "-z", "noexecstack", "--no-warn-rwx-segments", "-T", sources / "link.ld")
     run("m68k-linux-gnu-ld", *flags, "-o", f"{way_in}.elf", *made, cwd=folder)
     return image_of((pathlib.Path(folder) / f"{way_in}.elf").read_bytes())
 
 
+@functools.cache
+def built(way_in):
+    """The image of a way in, built once."""
+    with tempfile.TemporaryDirectory(prefix="conform.") as folder:
+        return linked(folder, way_in)
+
+
 def plain_object(folder):
     """The program without a way in, as one file of object code."""
-    made = objects(folder, COMMON, ("entries",))
+    made = objects(folder, COMMON, ("entries",), SOURCES)
     run("m68k-linux-gnu-ld", "-r", "-z", "noexecstack", "-o", "conform.o", *made, cwd=folder)
     return (pathlib.Path(folder) / "conform.o").read_bytes()
 

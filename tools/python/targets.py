@@ -53,9 +53,7 @@ class Aros(Target):
         if self.rest not in ("", "command"):
             raise NoTarget(f"aros:{lines.visible(self.rest)}: no such way in; there are aros and aros:command")
         emulator.check()
-        self.rom = emulator.rom_name()
-        with tempfile.TemporaryDirectory(prefix="conform.") as folder:
-            self.image = amigaside.linked(folder, self.rest or "boot")
+        self.rom, self.image = emulator.rom_name(), amigaside.built(self.rest or "boot")
 
     def answer(self, file, stop):
         if self.rest:
