@@ -59,22 +59,32 @@ def first_raw(wanted, got):
     return number
 
 
-def compare_traces(run, said, words):
+def compare_traces(run, trace, words):
     """Whether the traces are the same, are so up to addresses, or the number of the first line that is not."""
-    wanted, got = lines_of(run.trace.decode()), lines_of(said.out.decode(errors="backslashreplace"))
-    if run.trace == said.out:
+    wanted, got = lines_of(run.trace.decode()), lines_of(trace.decode(errors="backslashreplace"))
+    if run.trace == trace:
         return SAME, None, wanted, got
     if addresses.first_difference(wanted, got, words) is None:
         return ADDRESSES, first_raw(wanted, got), wanted, got
     return DIFFERS, addresses.first_difference(wanted, got, words), wanted, got
 
 
+def compared_lines(run, trace, words):
+    """The result of a trace: whether it is the same, and the first line that is not, with its number and both texts."""
+    result, number, wanted, got = compare_traces(run, trace, words)
+    return (result, number, line_at(wanted, number), line_at(got, number)) if number else (result, None, None, None)
+
+
+def judged_trace(run, trace, words):
+    """The result of a run of which a trace came, and no status."""
+    return Compared(run, *compared_lines(run, trace, words), None, "")
+
+
 def judged(run, said, words, seconds):
     """The result of a run whose command said this."""
     if said.status is None:
         return Compared(run, SILENT, None, None, None, None, f"no answer in {seconds:g} seconds")
-    result, number, wanted, got = compare_traces(run, said, words)
-    lines = (number, line_at(wanted, number), line_at(got, number)) if number else (None, None, None)
+    result, *lines = compared_lines(run, said.out, words)
     if said.too_much:
         return Compared(run, DIFFERS, *lines, said.status, "the command wrote far more than the trace, and was ended")
     if said.status != run.status:

@@ -1,12 +1,10 @@
-"""Where this machine differs from the ROM by a project rule: the examples of differences.toml, as runs and as a table."""
+"""Where this machine differs from the ROM by a project rule: the examples of differences.toml, as runs and as cells of a table."""
 import tomllib
 
-import pages
 import tables
 
 FRAME = '[[region]]\nbase = 4096\nsize = 4096\n\n[[task]]\nname = "a"\ncode = [\n'
 KNOWN = {
-    "measured": "measured",
     "manual": "by the manual",
     "comparison": "left out of the comparison, or changed for it",
     "not known": "not known here; what is asked of a program is by the manual",
@@ -53,13 +51,3 @@ def code_cell(one):
     if "events" in one:
         cell += "<br>events " + ", ".join(f"`{line}`" for line in one["events"].splitlines())
     return cell
-
-
-def page_table():
-    """REAL-EXEC's table of the differences."""
-    rows = []
-    for one in load():
-        source = f" ({one['source']})" if "source" in one else ""
-        here = "<br>".join(f"`{line}`" for line in one["here"])
-        rows.append((one["rule"], code_cell(one), here, one["real"], KNOWN[one["known"]] + source))
-    return pages.as_table(("Project rule", "Example: the code of task `a`", "Here", "A real exec", "How that is known"), rows)

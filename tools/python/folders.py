@@ -120,6 +120,26 @@ def found(folder, words):
     return runs
 
 
+def single(path, words, has_trace):
+    """The run whose machine file this is. Without a stored trace it can be compiled, and not compared."""
+    machine, events, trace, status = (path.with_suffix(ending) for ending in (".toml", ".events", ".trace", ".status"))
+    for needed in (machine, events, trace)[: 2 + has_trace]:
+        if not needed.is_file():
+            beside = " and NAME.trace, which execsim writes" if has_trace else ""
+            raise BadFolder(f"{needed}: there is no such file; a run is NAME.toml beside NAME.events{beside}")
+    text = trace.read_bytes() if trace.is_file() else b""
+    wanted = read_status(status) if status.is_file() else status_of(text)
+    return Stored(path.stem, path.stem, words_in(text, words), machine, events, wanted, text, None)
+
+
+def all_of(paths, words, has_trace):
+    """The runs of folders and of machine files, in their order. To be compared, each has to have its trace."""
+    found = []
+    for path in map(pathlib.Path, paths):
+        found += [single(path, words, has_trace)] if path.suffix == ".toml" and not path.is_dir() else runs_of(path, words)
+    return found
+
+
 def runs_of(folder, words):
     """The runs of a folder."""
     if not folder.is_dir():

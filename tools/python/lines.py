@@ -36,3 +36,8 @@ def alert_of(line):
     """The alert of a line as (code, word), or None."""
     fields = line.split(" ")
     return (fields[1], fields[3]) if len(fields) == 4 and fields[0] == "alert" else None
+
+
+def visible(text):
+    """A text as a terminal can show it in one line: characters that do not print are escaped, those of a path that are no UTF-8 among them."""
+    return "".join(character if character.isprintable() else repr(character)[1:-1] for character in str(text))

@@ -62,9 +62,3 @@ def group_table(words):
     rows = [(group, GROUPS[group], *(f"{number:,}" for number in numbers)) for group, numbers in counts.items()]
     rows.append(("all", "", *(f"{sum(column):,}" for column in zip(*counts.values()))))
     return pages.as_table(("Group", "What it adds", "Scenarios", "Lines of trace", "Calls"), rows)
-
-
-def word_table(words):
-    """REAL-EXEC's table of the calls that were compared, by word."""
-    counts = calls_by_word(words)
-    return pages.as_table(("Word", "Calls"), [(f"`{word}`", f"{counts[word]:,}") for word in words if word in counts])

@@ -1,4 +1,4 @@
-"""Judges a value by a JSON Schema, as far as docs/execsim-machine.schema.json uses it."""
+"""Judges a value by a JSON Schema, as far as the schemas of docs/ use it."""
 import re
 
 KNOWN = {
@@ -18,6 +18,8 @@ def is_of_type(value, name):
             return isinstance(value, int) and not isinstance(value, bool) or isinstance(value, float) and value.is_integer()
         case "object" | "array" | "string" | "boolean":
             return isinstance(value, {"object": dict, "array": list, "string": str, "boolean": bool}[name])
+        case "null":
+            return value is None
     raise Unknown(name)
 
 
@@ -55,8 +57,9 @@ def mistakes(value, schema, root, place="file"):
         raise Unknown(", ".join(set(schema) - KNOWN))
     if "$ref" in schema:
         schema = root["$defs"][schema["$ref"].removeprefix("#/$defs/")]
-    if "type" in schema and not is_of_type(value, schema["type"]):
-        yield f"{place}: not of the type {schema['type']}"
+    kinds = schema.get("type", [])
+    if kinds and not any(is_of_type(value, kind) for kind in ([kinds] if isinstance(kinds, str) else kinds)):
+        yield f"{place}: not of the type {kinds}"
         return
     if "enum" in schema and not any(value == one and not isinstance(value, bool) for one in schema["enum"]):
         yield f"{place}: {value} is not one of {schema['enum']}"
