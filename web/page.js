@@ -5,7 +5,8 @@ const FIRST_EXAMPLE = 'ports';
 /** How long nothing is typed before the texts are run, and before the address is written, in milliseconds. */
 const PAUSE = 300, ADDRESS_PAUSE = 400;
 
-let library, asides, editors, view, strip, search, exercise, work, embed, examples = [];
+/** Four workers: one for what is shown, one for the proved trace and the findings, one for the strip, and one for searches. */
+let library, checker, asides, editors, view, strip, search, exercise, work, embed, examples = [];
 
 /** The run that is shown, and the run whose events a way was opened from: the same if no way is. */
 let shownRun = null, frame = null;
@@ -42,7 +43,7 @@ async function run() {
   clearTimeout(typed.timer);
   if (!editors) return;
   library.stop();
-  asides?.stop();
+  checker?.stop();
   view.age();
   const now = texts(), long = now.findIndex(text => text.length > LIMIT);
   if (long >= 0) return says(`The ${['machine file', 'event text'][long]} has more than 4,194,304 bytes, which are not read.`, 'fault');
@@ -53,13 +54,20 @@ async function run() {
   }
 }
 
+/** Stops what is run, but for a search, which has a button of its own. */
+function stop() {
+  for (const one of [library, checker, asides]) one.stop();
+  says('Stopped.');
+}
+
 async function runTexts(one) {
   const refused = await one.begin();
   run.last = one;
   $('status-sure').hidden = true;
   if (refused) return refuse(one, refused);
   shownRun = one;
-  const whole = one.whole(asides);
+  if (!way) strip.end();
+  const whole = one.whole(checker);
   whole.catch(() => {}); // it is waited for below, unless the run is stopped before
   if (!way) frame = one;
   const beside = way ? await rowsBeside(one.texts[0], way.base) : null;
@@ -127,7 +135,7 @@ function sayChecked(one, trace) {
 
 /** Shows what is wrong with the texts, or how the run ends, and answers it. */
 async function check(one) {
-  const answer = await (asides ?? library).ask('execsim_check', one.texts), found = findingsOf(answer);
+  const answer = await checker.ask('execsim_check', one.texts), found = findingsOf(answer);
   if (run.last !== one) return [];
   showFindings(found);
   if (one === shownRun) sayEnd(one, found);
@@ -213,6 +221,12 @@ async function openWay({ texts: [machine, base], events, said, step = 0 }) {
   view.goTo(row.step);
 }
 
+/** Opens the way of a cell of the strip. */
+function openCell({ place, kind, number, way: events }) {
+  const where = place ? `after step ${place}` : 'at the start', what = number ? `outcome ${letterOf(number)}` : 'the outcome stays';
+  return openWay({ texts: frame.texts, events, said: `With ${lineOfKind(kind)} ${where}: ${what}.` });
+}
+
 function showWay() {
   $('way').hidden = !way;
   $('way-said').textContent = way?.said ?? '';
@@ -275,7 +289,7 @@ const SAVES = {
   'save-events': { name: () => files.events, type: 'text/plain', bytes: () => editors['run.events'].bytes, saves: 'events' },
   'save-trace': { ofRun: true, name: () => `${stem()}.trace`, type: 'text/plain', bytes: async () => bytesIn(await shownRun.whole()) },
   'save-picture': { ofRun: true, name: () => `${stem()}${partOf(view.drawn)}.svg`, type: 'image/svg+xml', bytes: () => view.drawn.text },
-  'save-chrome': { ofRun: true, name: () => `${stem()}.json`, type: 'application/json', bytes: async () => bytesIn(await busy(asides.ask('execsim_chrome', shownRun.texts, [0n, BigInt(shownRun.end)]))) },
+  'save-chrome': { ofRun: true, name: () => `${stem()}.json`, type: 'application/json', bytes: async () => bytesIn(await busy(checker.ask('execsim_chrome', shownRun.texts, [0n, BigInt(shownRun.end)]))) },
 };
 
 /** Lets be saved what there is of a run. */
@@ -386,7 +400,8 @@ function tabs(list, onTab) {
 }
 
 function listen() {
-  for (const [id, act] of [['run', run], ['stop', () => { library.stop(); asides.stop(); says('Stopped.'); }], ['link', copyLink], ['open', () => $('files').click()], ['help', () => $('about-page').showModal()], ['print', () => print()]]) $(id).addEventListener('click', act);
+  const acts = { run, stop, link: copyLink, open: () => $('files').click(), help: () => $('about-page').showModal(), print: () => print() };
+  for (const [id, act] of Object.entries(acts)) $(id).addEventListener('click', () => act());
   $('example').addEventListener('change', () => openExample($('example').value));
   $('way-back').addEventListener('click', () => take({ ...current(), texts: [texts()[0], way.base], way: null }));
   $('files').addEventListener('change', async () => { await openFiles([...$('files').files]); $('files').value = ''; });
@@ -457,9 +472,9 @@ async function begin() {
   makeEditors(decoded(code));
   await loads;
   helper.worker.terminate();
-  [asides, search] = [library.another(), new Search(library.another(), texts, openWay)];
+  [checker, asides, search] = [library.another(), library.another(), new Search(library.another(), texts, openWay)];
   exercise = new Exercise({ library: search.library, now: () => [texts()[0], way?.base ?? texts()[1]], onWay: openWay, onJudged: found => embed.tell({ did: 'check', ...found }) });
-  strip = new Strip(asides, view, outcome => exercise.isBroken(outcome), ({ place, kind, number, way: events }) => openWay({ texts: frame.texts, events: events, said: `With ${lineOfKind(kind)} ${place ? `after step ${place}` : 'at the start'}: ${number ? `outcome ${letterOf(number)}` : 'the outcome stays'}.` }));
+  strip = new Strip(asides, view, outcome => exercise.isBroken(outcome), openCell);
   work = new Work(current, take);
   embed = new Embed(DEEDS);
   listen();

@@ -34,6 +34,7 @@ class Strip {
 
   /** Takes the run whose gaps are asked about. */
   begin(frame) {
+    this.library.stop();
     this.reset();
     this.frame = frame;
     this.draw();
@@ -44,7 +45,7 @@ class Strip {
   end() {
     this.frame = null;
     this.reset();
-    $('strip').classList.add('old');
+    this.draw();
   }
 
   wayAt(place, kind) { return encoded(withInterrupt(decoded(this.frame.texts[1]), place, kind)); }
@@ -133,11 +134,12 @@ class Strip {
 
   /** Draws the cells of the steps that the picture shows. */
   draw() {
-    const box = $('strip'), { frame, view } = this, isSeen = this.isOn && frame && (this.classes.length || this.said);
+    const box = $('strip'), isSeen = Boolean(this.isOn && this.frame && (this.classes.length || this.said)), stays = this.isOn && !isSeen && !box.hidden;
+    box.classList.toggle('old', stays);
+    if (stays) return; // until there is something new
     box.hidden = !isSeen;
-    box.classList.remove('old');
     if (!isSeen) return;
-    const columns = [...$('picture').querySelectorAll('.at')].map(it => it.getBoundingClientRect()), { left } = $('picture').getBoundingClientRect(), { place, kind } = document.activeElement.dataset;
+    const columns = (this.view.drawn ? [...$('picture').querySelectorAll('.at')] : []).map(it => it.getBoundingClientRect()), { left } = $('picture').getBoundingClientRect(), { place, kind } = document.activeElement.dataset;
     $('strip-cells').replaceChildren(...(columns.length && this.cells.size ? [this.heads(), ...this.kinds.map((kind, i) => this.row(kind, i, columns, left))] : []));
     if (place !== undefined) $('strip-cells').querySelector(`[data-place="${place}"][data-kind="${kind}"]`)?.focus();
     this.drawClasses();
@@ -177,7 +179,7 @@ class Strip {
 
   cell(place, kind) {
     const number = this.cells.get(`${kind} ${place}`), one = this.classes[number], where = `${lineOfKind(kind)} ${place ? `after step ${place}` : 'at the start'}`;
-    const it = button(one ? letterOf(number) : '', () => { if (one && this.frame) this.onOpen({ place, kind, number, way: this.wayAt(place, kind) }); }, one ? classOf(number, one) : 'not-yet');
+    const it = button(one ? letterOf(number) : '', () => { if (one && this.frame && this.classes[number] === one) this.onOpen({ place, kind, number, way: this.wayAt(place, kind) }); }, one ? classOf(number, one) : 'not-yet');
     const words = one ? (number ? `outcome ${letterOf(number)}${one.isBad ? `, ${hasAlert(one) ? 'an alert' : 'which breaks the rule'}` : ''}` : 'the outcome stays') : 'not tried yet';
     it.setAttribute('aria-label', `${where}: ${words}`);
     it.title = `${where}: ${words}${one ? `\n${one.text}` : ''}`;
