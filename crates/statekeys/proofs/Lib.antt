@@ -8,3 +8,4 @@ pub mod ByteLemmas
 pub mod Runs
 pub mod Walks
 pub mod Standing
+pub mod BareLemmas

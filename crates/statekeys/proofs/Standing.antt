@@ -5,7 +5,8 @@ use Rattle.script.specs.{File.MachineData, declared.event.Event.Event}
 use Rattle.scheduler.specs.Schedule.{Schedule}
 use Rattle.execmodel.specs.State.{Memory, Pending, Scripts, State, Outcome, andthen, booted}
 use Rattle.execmodel.specs.Step.{starts, event, events, run}
-use Rattle.execsim.specs.{Agreement.Agrees, Agreement.Seen, Agreement.in_order, Headline.Shown, Headline.Acts, Headline.flow_of, declared.machine.Flow.Flow}
+use Rattle.execsim.specs.{Agreement.Agrees, Agreement.Seen, Agreement.in_order, Headline.Shown, Headline.Acts, Headline.flow_of, declared.machine.Flow.Flow as Flows}
+use Rattle.execsim.specs.declared.machine.Flow.TheVariants as Flow
 use Rattle.closure.specs.Closed.{EndsAt}
 use Rattle.statekeys.specs.{Fits.placed, Fits.StaysSchedule, Fits.StaysScripts, Numbers.numbers, Runs.IsBareMachine, Stands.IsWhere, Views.key_seen}
 use Rattle.statekeys.proofs.{ByteLemmas.bytes_tell, Runs.booted_even, Runs.run_bare, Runs.run_right, Runs.run_more, Runs.goes_alike, Telling.IsIdleRight, Telling.AreSame, Telling.numbers_tell}
@@ -15,7 +16,13 @@ use Rattle.statekeys.proofs.{ByteLemmas.bytes_tell, Runs.booted_even, Runs.run_b
 -- what stays of a schedule stays of it in the order in which tasks are to run
 ordered_stays : (b s : Schedule) → StaysSchedule b s → StaysSchedule b (in_order s)
 ordered_stays b s h = record {
-  names = h.names; quantum = h.quantum; states = h.states; pris = h.pris; signals = h.signals; nestings = h.nestings; idle = h.idle;
+  names = h.names;
+  quantum = h.quantum;
+  states = h.states;
+  pris = h.pris;
+  signals = h.signals;
+  nestings = h.nestings;
+  idle = h.idle;
 }
 
 module _ (machine : MachineData) where
@@ -68,12 +75,12 @@ one_key_of first second one other list others same e at there =
 -- ---- one event
 
 -- what an event does from where a machine is
-pub record Led (machine : MachineData) (list : List Event) (e : Event) (new : Shown) (flow : Flow) (text : List ℕ) : Type 0 where
+pub record Led (machine : MachineData) (list : List Event) (e : Event) (new : Shown) (flow : Flows) (text : List ℕ) : Type 0 where
   pub flow_is : flow ≡ flow_of (run machine (list ++ e ∷ [])).state.stopped
   pub text_is : text ≡ printed (event e (run machine list).state).lines
   pub goes : (run machine (list ++ e ∷ [])).state.stopped ≡ false → IsWhere machine new (list ++ e ∷ [])
 
-pub led : (machine : MachineData) (list : List Event) (e : Event) (old new : Shown) (bytes after : List ℕ) (state end : SinkState) (flow : Flow)
+pub led : (machine : MachineData) (list : List Event) (e : Event) (old new : Shown) (bytes after : List ℕ) (state end : SinkState) (flow : Flows)
     → Acts (event e) old new (record { taken = Some bytes; state = state }) (record { taken = Some after; state = end }) (Ok flow)
     → IsWhere machine old list → bytes ≡ [] → Led machine list e new flow after
 led machine list e old new bytes after state end flow acts at none =
@@ -84,7 +91,7 @@ led machine list e old new bytes after state end flow acts at none =
     let agrees : Agrees new.seen (event e from).state = acts.agrees from at.agrees refl in
     let next : (run machine (list ++ e ∷ [])).state ≡ (event e s).state = run_more machine list e in
     let stopped : new.seen.stopped ≡ (run machine (list ++ e ∷ [])).state.stopped
-        = agrees.stopped ∙ (ap (λ (x : State). x.stopped) alike.state ∙ sym (ap (λ (x : State). x.stopped) next)) in
+    = agrees.stopped ∙ (ap (λ (x : State). x.stopped) alike.state ∙ sym (ap (λ (x : State). x.stopped) next)) in
     record {
       flow_is = acts.going.0 ∙ ap flow_of stopped;
       text_is = writes.took ∙ (ap (λ (b : List ℕ). b ++ printed (event e from).lines) none ∙ ap printed alike.lines);
@@ -98,6 +105,26 @@ led machine list e old new bytes after state end flow acts at none =
     }
 
 -- it ends in an alert
-pub ends_there : (machine : MachineData) (list : List Event) (e : Event) (old new : Shown) (flow : Flow) (text : List ℕ) → IsWhere machine old list
+pub ends_there : (machine : MachineData) (list : List Event) (e : Event) (old new : Shown) (flow : Flows) (text : List ℕ) → IsWhere machine old list
     → Led machine list e new flow text → (run machine (list ++ e ∷ [])).state.stopped ≡ true → EndsAt machine list e text
 ends_there machine list e old new flow text at led stops = record { going = at.going; stops = stops; writes = sym led.text_is }
+
+-- ---- the start
+
+flow_going : (stopped : Bool) → Flow.Going ≡ flow_of stopped → stopped ≡ false
+flow_going true e = absurd cc
+flow_going false e = refl
+
+pub begun_there : (machine : MachineData) (old new : Shown) (before after : Tape)
+    → Acts starts old new before after (Ok Flow.Going) → Agrees old.seen (booted machine) → IsBareMachine machine → IsWhere machine new []
+unfolding run andthen events
+begun_there machine old new before after acts at bare =
+    let agrees : Agrees new.seen (starts (booted machine)).state = acts.agrees (booted machine) at refl in
+    let first = run_bare machine [] bare in
+    record {
+      bare = bare;
+      whole = acts.going.1;
+      going = sym agrees.stopped ∙ flow_going new.seen.stopped acts.going.0;
+      memory = first.memory;
+      agrees = subst (λ (x : State). Agrees new.seen x) first.is agrees;
+    }

@@ -2,10 +2,12 @@
 //! their memory.
 #![tactic(auto)]
 
+mod bare;
 mod bytes;
 mod key;
 pub mod laws;
 mod parts;
 mod queues;
 
+pub use bare::is_bare_machine;
 pub use key::write_key;
