@@ -9,8 +9,9 @@ and gives an Outcome: the next state, the lines that are printed on the way, and
 A name that Python keeps for itself has `_` at its end (bool_, from_, list_, next_, object_, set_).
 A name that means two things has the name of its file at its end.
 
-The tree of a TOML text is made by Python's tomllib within the limits of the project's reader (64 bits for integers,
-80 levels, no infinite number by its digits); all that is read from the tree is in the definitions.
+The tree of a TOML text is made by Python's tomllib, of TOML 1.0, within the limits of the project's reader (64 bits for
+integers, 80 levels, no infinite number by its digits), which reads TOML 1.1: what only that has is NotToml here. All
+that is read from the tree is in the definitions.
 
     python3 definitions.py MACHINE EVENTS      prints the trace; --help says what else it does
 """
@@ -8198,7 +8199,7 @@ def _is_within(value, deep=0):
 def MACHINE_OF(text):
     """The machine that the bytes of a file state, or its first fault with its place."""
     try:
-        tree = tomllib.loads(bytes(text).decode(), parse_float=_float_of)
+        tree = tomllib.loads(bytes(text).removeprefix(b"\xef\xbb\xbf").decode(), parse_float=_float_of)
     except (ValueError, RecursionError):
         tree = None
     return MACHINE_OF_TREE(None if tree is None or not _is_within(tree) else Some(_members_of(tree)))

@@ -25,8 +25,9 @@ A name that Python keeps for itself has `_` at its end{kept}.
     python3 definitions.py MACHINE EVENTS      prints the trace; --help says what else it does
 """
 '''
-TOML = '''The tree of a TOML text is made by Python's tomllib within the limits of the project's reader (64 bits for integers,
-80 levels, no infinite number by its digits); all that is read from the tree is in the definitions.'''
+TOML = '''The tree of a TOML text is made by Python's tomllib, of TOML 1.0, within the limits of the project's reader (64 bits for
+integers, 80 levels, no infinite number by its digits), which reads TOML 1.1: what only that has is NotToml here. All
+that is read from the tree is in the definitions.'''
 ROOTS = ("run", "printed", "script_of", "placed_file_of_document")
 # What laws of every run speak of, as the file of that law sees them: --check asks them of each run.
 LAW, LAWS = "FirstInFirstOut", ("IsInOrder", "turns_at_port", "turns_at_semaphore", "CountsTicks", "AreDisjoint", "IsSettled", "extents", "messages_of", "waiters_of", "status_of")

@@ -70,7 +70,7 @@ def _is_within(value, deep=0):
 def MACHINE_OF(text):
     """The machine that the bytes of a file state, or its first fault with its place."""
     try:
-        tree = tomllib.loads(bytes(text).decode(), parse_float=_float_of)
+        tree = tomllib.loads(bytes(text).removeprefix(b"\xef\xbb\xbf").decode(), parse_float=_float_of)
     except (ValueError, RecursionError):
         tree = None
     return MACHINE_OF_TREE(None if tree is None or not _is_within(tree) else Some(_members_of(tree)))
