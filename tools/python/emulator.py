@@ -9,6 +9,7 @@ import shutil
 import signal
 import subprocess
 import tempfile
+import threading
 import time
 import tty
 import zipfile
@@ -37,6 +38,9 @@ accuracy = -1
 uae_gfx_framerate = 10
 {media}
 """
+
+
+STOPPING = threading.Event()  # set once all boots are to end, in whatever thread they are
 
 
 class Stopped(Exception):
@@ -128,7 +132,7 @@ def listen(receive, child, stop):
     """What comes until the runs are done, the emulator ends or is silent, or AROS starts a second time."""
     data, silence = bytearray(), Silence(child)
     while child.poll() is None and not silence.is_over():
-        if stop.is_set():
+        if stop.is_set() or STOPPING.is_set():
             raise Stopped
         chunk = receive()
         if not chunk:
