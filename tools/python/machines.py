@@ -1,9 +1,10 @@
-"""Random machine files and event texts, made from what docs/REFERENCE.md says and nothing else, and two texts cut down to what still shows a difference."""
+"""Random machine files and event texts, made from what the pages of reference say (docs/WORDS.md, docs/MACHINE-FILE.md) and nothing else, and two texts cut
+down to what still shows a difference."""
 import pathlib
 import random
 import re
 
-REFERENCE = pathlib.Path(__file__).resolve().parents[2] / "docs" / "REFERENCE.md"
+DOCS = pathlib.Path(__file__).resolve().parents[2] / "docs"
 NUMBERS = ("0", "1", "2", "7", "8", "16", "31", "255", "-1", "-128", "127", "128", "4095", "$10000", "$7FFFFFFF", "$80000000", "$FFFFFFFF", "-2147483648")
 MASKS = ("$1000", "$2000", "$4000", "$8000", "$10000", "$F000", "$80000000", "$F0000000", "$C0001000", "0", "$800", "1")
 # What a kind of argument is, as the tables of words call it: numbers that fit, and the kind of object whose variable does.
@@ -52,10 +53,11 @@ ENDS = {"Wait", "ObtainSemaphore", "WaitPort", "WaitIO", "DoIO", "RemTask", "For
 
 def read_words():
     """Each word of the reference, with the kinds of its arguments and whether it answers; and those that bodies of interrupts may have."""
-    text = REFERENCE.read_text(encoding="utf-8")
-    rows = re.findall(r"^\| `(\w+)` \| ([^|]*)\| ([^|]*)\|", text[text.index("\n## Words"):text.index("\n## Alerts")], re.M)
+    text, bodies = ((DOCS / it).read_text(encoding="utf-8") for it in ("WORDS.md", "MACHINE-FILE.md"))
+    tables = "".join(re.findall(r"<!-- made by tools/make-pages: (?:plain words|calls) -->(.*?)<!-- end of", text, re.S))
+    rows = re.findall(r"^\| `(\w+)` \| ([^|]*)\| ([^|]*)\|", tables, re.M)
     words = {word: ([it for it in re.split(r", (?!or )", kinds.strip()) if it], bool(answers.strip())) for word, kinds, answers in rows}
-    return words, re.findall(r"`(\w+)`", re.search(r"- its words are (.*?);", text, re.S)[1])
+    return words, re.findall(r"`(\w+)`", re.search(r"- its words are (.*?);", bodies, re.S)[1])
 
 
 class Texts:
