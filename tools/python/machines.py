@@ -22,7 +22,7 @@ MAKERS = {"NewList": "list", "NewNode": "node", "CreateMsgPort": "port", "NewMsg
 # What a task does that has some sense: rows of lines with {kind} for a number, a mask, a task and so on. Of a row that begins with | or asks for an x
 # there are some, in any order, and of another all.
 SENSE = (
-    ("| Signal {task} {mask} | x = SetSignal 0 0 | x = SetSignal {mask} {mask} | x = Wait {mask} | s = AllocSignal -1 | SetTaskPri {task} {pri} | Print x",),
+    ("| Signal {task} {mask} | x = SetSignal 0 0 | x = SetSignal 0 {mask} | x = SetSignal 0 0 | x = SetSignal {mask} {mask} | x = Wait {mask} | s = AllocSignal -1 | SetTaskPri {task} {pri} | Print x",),
     ("n = NewNode {pri} {name} | o = NewNode {pri} {name} | q = NewNode {pri} {name}", "{link} @list n | {link} @list o | {link} @list q",
      "x = First @list | x = Last @list | x = Succ n | x = Pred n | x = FindName @list {name}", "x = RemHead @list | x = RemTail @list | x = RemHead @list | Remove n"),
     ("a = AllocMem {size} {attrs} | b = AllocMem 40 1 | c = AllocMem {size} 1", "x = AvailMem {most} | x = AvailMem 1",
