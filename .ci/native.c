@@ -11,6 +11,7 @@
 enum { PAGES = 2048, BLOCKS = 300, TURNS = 200000 };
 static char *const memory = (char *)0x10000000;
 static uint64_t pages;
+static int grants = 1; /* whether more memory is granted at all */
 char __heap_base;
 
 uint64_t wasm_memory_size(void) { return pages; }
@@ -18,7 +19,7 @@ uint64_t wasm_memory_size(void) { return pages; }
 /* Grants pages, but one request of seven, and none past the end. What was not granted is poisoned. */
 uint64_t wasm_memory_grow(uint64_t more) {
     static unsigned asked;
-    if (++asked % 7 == 0 || pages + more > ((uintptr_t)memory >> 16) + PAGES) {
+    if (!grants || ++asked % 7 == 0 || pages + more > ((uintptr_t)memory >> 16) + PAGES) {
         return (uint64_t)-1;
     }
     ASAN_UNPOISON_MEMORY_REGION((char *)(pages << 16), more << 16);
@@ -146,6 +147,61 @@ static void try_heap(void) {
     judge(!rattle_alloc((1ull << 34) + 1, 1).is_there, "a block of more bytes than memory has was given");
 }
 
+/* Where memory ends, and where the heap may end at most, as .ci/native has it. */
+#define ROOM ((uint64_t)1 << 16)
+#define MOST ((uint64_t)1 << 29)
+
+/* A heap of some bytes up to an end past which no memory is granted: each block is aligned, lies in it and after the one before it and its header,
+ * and there are as many as fit: a block takes what its kind has, 16*2^n or 24*2^n bytes, and a header of 16. */
+static void fill_up(uintptr_t to, uint64_t room, uint64_t length, uint64_t size) {
+    uint64_t count = 0, wanted = room / ((size + 16 + 15) & ~15ull);
+    uintptr_t after = to - room;
+    heap_from(to - room);
+    for (Block it; (it = rattle_alloc(length, 1)).is_there; count++) {
+        uintptr_t at = (uintptr_t)it.at;
+        judge((at & 15) == 0 && at >= after + 16, "a block of a full heap is not aligned, or no header is before it");
+        judge(at + length <= to, "a block is past the end of memory");
+        if (at + length > to || count > wanted) {
+            return;
+        }
+        memset(it.at, 255, length);
+        after = at + length;
+    }
+    judge(count == wanted, "another number of blocks fits than has room");
+}
+
+/* What is given back is handed out again: a block that is freed, and one whose bytes have moved. */
+static void try_again(void) {
+    heap_from((uint64_t)(uintptr_t)memory);
+    Block one = rattle_alloc(40, 8), other = rattle_alloc(40, 8), more = rattle_alloc(1, 1);
+    rattle_dealloc(one.at);
+    judge(rattle_alloc(48, 8).at == one.at, "a freed block is not handed out again");
+    judge(rattle_realloc(other.at, 40, 50, 8).at != other.at && more.is_there, "a block that is not the last grew in its place");
+    judge(rattle_alloc(33, 8).at == other.at, "a block whose bytes have moved is not handed out again");
+    Block last = rattle_alloc(40, 8);
+    judge(rattle_realloc(last.at, 40, 1000, 8).at == last.at, "the last block did not grow in its place");
+    rattle_dealloc(last.at);
+    judge(rattle_alloc(1000, 8).at == last.at, "a block that grew is not handed out again as it is now");
+}
+
+static void try_ends(void) {
+    static const uint64_t lengths[][2] = {{1, 16}, {16, 16}, {24, 24}, {32, 32}, {33, 48}, {48, 48}, {49, 64}, {1000, 1024}, {21000, 24576}};
+    char *last = (char *)(uintptr_t)(MOST - ROOM);
+    if (mmap(last, ROOM, PROT_READ | PROT_WRITE, MAP_PRIVATE | MAP_ANONYMOUS | MAP_FIXED_NOREPLACE, -1, 0) != last) {
+        judge(0, "there is no memory at the last address");
+        return;
+    }
+    for (unsigned i = 0; i < sizeof lengths / sizeof *lengths; i++) {
+        grants = 0;
+        for (uint64_t room = ROOM - 64; room <= ROOM; room += 16) {
+            pages = ((uintptr_t)memory >> 16) + 1;
+            fill_up((uintptr_t)memory + ROOM, room, lengths[i][0], lengths[i][1]); /* no more memory is granted */
+            pages = 2 * MOST >> 16;
+            fill_up(MOST, room, lengths[i][0], lengths[i][1]); /* there is memory, but the heap may have no more */
+        }
+    }
+}
+
 /* Each of the 256 bytes at each of the 16 places, beside others. */
 static unsigned try_shuffle(void) {
     unsigned differ = 0;
@@ -174,6 +230,8 @@ static unsigned try_shuffle(void) {
 int main(void) {
     unsigned differ = try_shuffle();
     try_heap();
+    try_again();
+    try_ends();
     printf("%d passed, %d failed\n", !differ + !failed, !!differ + !!failed);
     return differ || failed;
 }

@@ -4,7 +4,12 @@
  *
  * Link with no other library: it calls malloc, realloc and free alone, which are to be of one allocator, and to align a block to each power of two up
  * to 16 that divides its size. What a program keeps is all in its machines, so calls in several threads need not wait for one another if each has a
- * machine of its own; a machine stays in the thread that opened it. No call is to be made from a signal handler. */
+ * machine of its own; a machine stays in the thread that opened it. No call is to be made from a signal handler.
+ *
+ * Proved is what execsim_run, execsim_open, execsim_events and execsim_take hand out, what execsim_view, execsim_task and execsim_at_end show, what
+ * execsim_feed makes of a machine, and that execsim_check refuses exactly what is refused and does not pass over an alert. Tested is what execsim_log,
+ * execsim_state, execsim_picture, execsim_chrome, execsim_explore and execsim_way put into the buffer: it is compared with what the commands write;
+ * and names, blocks and other findings. */
 #ifndef EXECSIM_H
 #define EXECSIM_H
 
@@ -50,7 +55,7 @@ uint32_t execsim_run(const uint8_t *machine, size_t machine_length, const uint8_
 
 /* Of the calls below up to execsim_way each takes two texts and a buffer as execsim_run does, with the same answers and requirements, and puts what a
  * command writes of the texts into the buffer, with a line feed at the end of each line. In it the machine file is called machine.toml and the
- * event text run.events. What else they answer is said at each. */
+ * event text run.events, and a number that is refused as it is called here. What else they answer is said at each. */
 
 /* The last step of a run, whichever it is. */
 #define EXECSIM_LAST_STEP UINT64_MAX
@@ -204,6 +209,23 @@ uint32_t execsim_block(execsim_machine *machine, uint32_t address, execsim_block
 
 /* Puts the name of a task into a buffer: *length bytes, without a 0. EXECSIM_TOO_LONG if it has more than the buffer, which is as it was; at most 31. */
 uint32_t execsim_task_name(execsim_machine *machine, size_t task, uint8_t *out, size_t out_length, uint64_t *length);
+
+/* Feeds a line to a task, which is the last one of its body then: one line of a `code`, as `Wait $1000`, without a variable, a label or a jump. Nothing else
+ * changes. A run in which no step has found a task at the end of its body that is fed later is the run of the machine file whose bodies have all lines
+ * from the start, over the same events: that is proved. No event takes memory; this does.
+ *
+ * task                the number of the task, from 0
+ * line, line_length   the bytes of the line, which need not end with a 0, and how many they are
+ *
+ * A software interrupt that the line names is to be one of the machine: no other is caused.
+ * EXECSIM_RAN: it is fed. Otherwise the machine is as it was. EXECSIM_MACHINE_REFUSED: it is no such line. EXECSIM_NOT_THERE: there is no such task.
+ * EXECSIM_NO_MEMORY: memory was refused. EXECSIM_NO_MACHINE: there is no machine. */
+uint32_t execsim_feed(execsim_machine *machine, size_t task, const uint8_t *line, size_t line_length);
+
+/* Puts the task that the next step finds at the end of its body in *task, or EXECSIM_NO_TASK for none: it runs, no software interrupt runs first, it waits
+ * in no call, and none of its lines is left. That step ends the task, unless it is fed before; so who has more lines for it feeds them now.
+ * EXECSIM_RAN: *task is there. EXECSIM_NO_MACHINE: there is no machine; *task is as it was. */
+uint32_t execsim_at_end(execsim_machine *machine, uint64_t *task);
 
 #ifdef __cplusplus
 }

@@ -286,6 +286,32 @@ static void read_blocks(void) {
     execsim_close(&machine);
 }
 
+/* A machine whose task is fed its commands one after another runs as that whose task has them all. */
+static void feed(void) {
+    static const char *file = "[[task]]\nname = \"a\"\ncode = []\n[[task]]\nname = \"b\"\npri = -1\ncode = [\"Wait $1000\"]\n";
+    static const char *lines[] = {"Print 1", "Signal 2 $1000", "Wait $2000"};
+    execsim_machine machine = EXECSIM_NO_MACHINE_YET;
+    uint64_t task = 7;
+    count("no machine is fed", execsim_feed(&machine, 0, (const uint8_t *)lines[0], 7) == EXECSIM_NO_MACHINE &&
+                                   execsim_at_end(&machine, &task) == EXECSIM_NO_MACHINE && task == 7);
+    count("a machine to be fed", open_text(&machine, file) == EXECSIM_RAN && has_lines(&machine, "switch a\n"));
+    for (size_t i = 0; i < 3; i++) {
+        count("a task at its end", execsim_at_end(&machine, &task) == EXECSIM_RAN && task == 0);
+        count("a line is fed", execsim_feed(&machine, 0, (const uint8_t *)lines[i], strlen(lines[i])) == EXECSIM_RAN);
+        count("no task at its end", execsim_at_end(&machine, &task) == EXECSIM_RAN && task == EXECSIM_NO_TASK);
+        count("its step", do_text(&machine, "run 1") == EXECSIM_RAN);
+    }
+    count("the lines of the whole", has_lines(&machine, "a Print $00000001\na Signal $00000002 $00001000\na Wait $00002000 waits\nswitch b\n"));
+    static const char *refused[] = {"Print x", "x = FindTask 0", "here:", "Jump here", "Pritn 1", "Print 1 ", "", "Print \xff"};
+    for (size_t i = 0; i < sizeof refused / sizeof *refused; i++) {
+        count("a line that is refused",
+              execsim_feed(&machine, 1, (const uint8_t *)refused[i], strlen(refused[i])) == EXECSIM_MACHINE_REFUSED);
+    }
+    count("no task to be fed", execsim_feed(&machine, 2, (const uint8_t *)"Print 1", 7) == EXECSIM_NOT_THERE);
+    count("it ends", do_text(&machine, "run 2") == EXECSIM_RAN && has_lines(&machine, "b Wait $00001000 -> $00001000\nb RemTask $00000000\nidle\n"));
+    execsim_close(&machine);
+}
+
 /* Calls on no machine, texts that are refused, a machine that an alert stops, and too many ticks. */
 static void misuse(void) {
     static const char *file = "[[task]]\nname = \"a\"\ncode = [\"Signal 7 1\"]\n";
@@ -375,15 +401,15 @@ static void refuse_calls(void) {
         say(both[at], "[[task]]\nname = \"a\"\ncode = [\"Pritn 1\"]\n", "tic", 0, 1, EXECSIM_MACHINE_REFUSED, "machine: BadCommand");
         say(both[at], TWO, "run 1\n\ntic 1\n", 0, 1, EXECSIM_EVENTS_REFUSED, "events: BadLine 3");
     }
-    say(words_of, TWO, "run 2\n", 0, 3, EXECSIM_NOT_THERE, "--to 3: the run ends with step 2; give a number from 0 to 2, or add events");
-    say(words_of, TWO, "run 2\n", 2, 1, EXECSIM_NOT_THERE, "--from 2 is after --to 1; give a --from that is not greater than --to");
-    say(state_of, TWO, "run 2\n", 3, 3, EXECSIM_NOT_THERE, "--state 3: the run ends with step 2; give a number from 0 to 2, or add events");
+    say(words_of, TWO, "run 2\n", 0, 3, EXECSIM_NOT_THERE, "to 3: the run ends with step 2; give a number from 0 to 2, or add events");
+    say(words_of, TWO, "run 2\n", 2, 1, EXECSIM_NOT_THERE, "from 2 is after to 1; give a from that is not greater than to");
+    say(state_of, TWO, "run 2\n", 3, 3, EXECSIM_NOT_THERE, "step 3: the run ends with step 2; give a number from 0 to 2, or add events");
     say(few_ways, TWO, "run 4\n", 0, 0, EXECSIM_TOO_MANY, "there are 6 ways, and at most 4 are tried; ask for fewer extras, or shorten the events");
     say(many_extras, TWO, "run 4\n", 0, 0, EXECSIM_NOT_THERE, "extra is a number from 0 to 8");
     say(odd_kinds, TWO, "run 4\n", 0, 0, EXECSIM_NOT_THERE, "kinds is a sum of 1 (PORTS), 2 (ticks) and 4 (EXTER), or 0");
     say(odd_sight, TWO, "run 4\n", 0, 0, EXECSIM_NOT_THERE, "see is 0 (the end), 1 (the prints) or 2 (the trace)");
-    say(way_of, TWO, "run 4\n", 0, 2, EXECSIM_NOT_THERE, "--events 2: there is 1 outcome");
-    say(way_of, TWO, "run 4\n", 0, 0, EXECSIM_NOT_THERE, "--events 0: there is 1 outcome");
+    say(way_of, TWO, "run 4\n", 0, 2, EXECSIM_NOT_THERE, "outcome 2: there is 1 outcome");
+    say(way_of, TWO, "run 4\n", 0, 0, EXECSIM_NOT_THERE, "outcome 0: there is 1 outcome");
 }
 
 #ifdef WRAPPED
@@ -443,11 +469,32 @@ static uint32_t run_of(const Example *it, uint8_t *out, size_t room, uint64_t *l
     return execsim_run(TEXTS, out, room, length);
 }
 
+/* A line that is refused memory at each of its allocations in turn: the machine is as it was. Then it is fed. */
+static void starve_feed(void) {
+    execsim_machine machine = EXECSIM_NO_MACHINE_YET;
+    uint64_t task = 0;
+    uint32_t status = EXECSIM_NO_MEMORY;
+    int is_well = open_text(&machine, "[[task]]\nname = \"a\"\ncode = []\n") == EXECSIM_RAN;
+    refused_from = 0;
+    while (is_well && status == EXECSIM_NO_MEMORY) {
+        asked = 0;
+        refused_from++;
+        status = execsim_feed(&machine, 0, (const uint8_t *)"Print 1", 7);
+        is_well &= execsim_at_end(&machine, &task) == EXECSIM_RAN && (task == 0) == (status == EXECSIM_NO_MEMORY);
+    }
+    is_well &= refused_from > 1;
+    refused_from = 0;
+    count("a line that is refused memory", is_well && status == EXECSIM_RAN && do_text(&machine, "run 1") == EXECSIM_RAN &&
+                                               has_lines(&machine, "switch a\na Print $00000001\n"));
+    execsim_close(&machine);
+}
+
 static void starve_calls(void) {
     starve(run_of, "run");
     for (unsigned at = 0; at < CALLS_MADE; at++) {
         starve(CALLS[at].call, CALLS[at].name);
     }
+    starve_feed();
 }
 #else
 static void starve_calls(void) {}
@@ -471,6 +518,7 @@ int main(int argc, char **names) {
     count("no machine, no events and no room", status == EXECSIM_TOO_LONG && length == 5);
     read_tasks();
     read_blocks();
+    feed();
     misuse();
     refuse_calls();
     starve_calls();

@@ -7,7 +7,6 @@ Above each definition is its comment, with its source in the manual (RKM: the Am
 "project rule"; then its type, and file and line of the original. Nothing is changed in place: an action takes a State
 and gives an Outcome: the next state, the lines that are printed on the way, and marks, of which only laws speak.
 A name that Python keeps for itself has `_` at its end (bool_, from_, list_, next_, object_, set_).
-A name that means two things has the name of its file at its end.
 
 The tree of a TOML text is made by Python's tomllib, of TOML 1.0, within the limits of the project's reader (64 bits for
 integers, 80 levels, no infinite number by its digits), which reads TOML 1.1: what only that has is NotToml here. All
@@ -20,6 +19,7 @@ from dataclasses import make_dataclass
 from functools import cache, partial, wraps
 
 IMPORTED = set(globals())
+
 
 # What the records and the kinds of data of the definitions are in Python.
 class NoCase(Exception):
@@ -46,9 +46,7 @@ def replace(whole, **new):
     return kind(*[new[it] if it in new else getattr(whole, it) for it in kind.__slots__])
 
 
-def once(function):
-    """A definition without arguments: its value is made once."""
-    return cache(function)
+once = cache  # a definition without arguments: its value is made once
 
 
 def kept(function):
@@ -112,8 +110,8 @@ def switches(s):
 def announced(choice, s):
     match choice:
         case None: return quiet(s)
-        case Some(Switch.To(t)): return says_in_State(TraceLine.Switch(name_of_in_Schedule(s.schedule, t)), s)
-        case Some(Switch.Idle): return says_in_State(TraceLine.Idle, s)
+        case Some(Switch.To(t)): return says(TraceLine.Switch(name_of(s.schedule, t)), s)
+        case Some(Switch.Idle): return says(TraceLine.Idle, s)
         case _: raise NoCase('announced')
 
 # that many tasks are added, in the order of the file
@@ -139,21 +137,21 @@ def events(items, s):
 
 # an event: that many steps, that many ticks, or one request of an interrupt source
 # event : Event → State → Outcome  [execmodel/specs/Step.antt:120]
-def event(event2, s):
-    match event2:
-        case Event.Run(n): return steps_in_Step(n, s)
-        case Event.Tick(n): return ticks_in_Step(n, s)
-        case Event.Irq(name): return request(source_named(name), s)
+def event(this_event, s):
+    match this_event:
+        case Event.Run(n): return steps(n, s)
+        case Event.Tick(n): return ticks(n, s)
+        case Event.Irq(asks): return request(asks, s)
         case _: raise NoCase('event')
 
 # that many steps
 # steps : ℕ → State → Outcome  [execmodel/specs/Step.antt:86]
-def steps_in_Step(number, s):
+def steps(number, s):
     so_far = quiet(s)
     for _ in range(number):
         a = so_far
         b = step(a.state)
-        so_far = Outcome_in_State(state=b.state, lines=a.lines + b.lines, marks=a.marks + b.marks)
+        so_far = Outcome(state=b.state, lines=a.lines + b.lines, marks=a.marks + b.marks)
     return so_far
 
 # a software interrupt runs, or else the running task does one command; and then the machine settles
@@ -164,12 +162,12 @@ def step(s):
 # a stopped machine does nothing
 # acts : State → Outcome  [execmodel/specs/Step.antt:78]
 def acts(s):
-    return unless_stopped(acting_in_Step, s)
+    return unless_stopped(acting, s)
 
 # what a step does: the next software interrupt, or else the running task's command (RKM Libraries, Exec Interrupts:
 # software interrupts; one a step: project rule)
 # acting : State → Outcome  [execmodel/specs/Step.antt:74]
-def acting_in_Step(s):
+def acting(s):
     return softint_or_task_step(next_softint(s), s)
 
 # a software interrupt that may run does so before any task's command
@@ -199,10 +197,8 @@ def call_step(t, call, s):
 # a task whose commands are used up ends, as by RemTask 0 (RKM Libraries, Exec Tasks: task termination)
 # ends : ℕ → State → Outcome  [execmodel/specs/Step.antt:54]
 def ends(t, s):
-    return says_in_State(
-        TraceLine.Call(
-            name_of_in_Schedule(s.schedule, t), codes('RemTask'), [Argument.Value(0)], Outcome_in_Trace.Done
-        ),
+    return says(
+        TraceLine.Call(name_of(s.schedule, t), codes('RemTask'), [Argument.Value(0)], CallEnd.Done),
         on_schedule(partial(leaves, t), s),
     )
 
@@ -231,22 +227,19 @@ def does_word(word, t, call, s):
 
 # that many ticks
 # ticks : ℕ → State → Outcome  [execmodel/specs/Step.antt:102]
-def ticks_in_Step(number, s):
+def ticks(number, s):
     so_far = quiet(s)
     for _ in range(number):
         a = so_far
         b = tick(a.state)
-        so_far = Outcome_in_State(state=b.state, lines=a.lines + b.lines, marks=a.marks + b.marks)
+        so_far = Outcome(state=b.state, lines=a.lines + b.lines, marks=a.marks + b.marks)
     return so_far
 
 # one tick: the clock and system time gain it, whatever is disabled, and VERTB is requested; a stopped machine does
 # nothing
 # tick : State → Outcome  [execmodel/specs/Step.antt:98]
 def tick(s):
-    return unless_stopped(
-        lambda s: request(Source_in_softint_source.Vertb, on_memory(partial(on_timer, ticked_in_Timing), s)),
-        s,
-    )
+    return unless_stopped(lambda s: request(Source.Vertb, on_memory(partial(on_timer, ticked), s)), s)
 
 # an interrupt is requested: its source asks to be served, and the machine settles; a stopped machine does nothing (RKM
 # Libraries, Exec Interrupts)
@@ -260,13 +253,13 @@ def request(asks, s):
 
 # All that asks is served. There are three sources, and no serving sets a latch, so three servings leave none that may
 # be served.
-# interrupts : State → Outcome  [execmodel/specs/Interrupts.antt:102]
+# interrupts : State → Outcome  [execmodel/specs/Interrupts.antt:101]
 def interrupts(s):
     return servings(3, s)
 
 # that many servings: while interrupts are allowed and a source asks for it, the one of highest level is served (RKM
 # Libraries, Exec Interrupts)
-# servings : ℕ → State → Outcome  [execmodel/specs/Interrupts.antt:95]
+# servings : ℕ → State → Outcome  [execmodel/specs/Interrupts.antt:94]
 def servings(number, s):
     match number:
         case 0: return quiet(s)
@@ -280,25 +273,25 @@ def servings(number, s):
 
 # A source is served: its latch is cleared and the serving counted, its line is said, and then the requests finish that
 # are due, and its servers run. (RKM Libraries, Exec Interrupts)
-# serves : Source → State → Outcome  [execmodel/specs/Interrupts.antt:88]
+# serves : Source → State → Outcome  [execmodel/specs/Interrupts.antt:87]
 def serves(asks, s):
     return andthen(
-        partial(says_in_State, TraceLine.Serve(text_of_source(asks))),
+        partial(says, TraceLine.Serve(source_text(asks))),
         partial(andthen, partial(finishes_for, asks), partial(runs_chain, chain_of(asks, s.bodies.servers))),
         on_schedule(partial(serving_counted, asks), on_pending(partial(with_latch_of, asks, False), s)),
     )
 
 # for VERTB all requests finish that are due (project rule)
-# finishes_for : Source → State → Outcome  [execmodel/specs/Interrupts.antt:81]
+# finishes_for : Source → State → Outcome  [execmodel/specs/Interrupts.antt:80]
 def finishes_for(source, s):
     match source:
-        case Source_in_softint_source.Ports: return quiet(s)
-        case Source_in_softint_source.Vertb: return finishes_all_due(s)
-        case Source_in_softint_source.Exter: return quiet(s)
+        case Source.Ports: return quiet(s)
+        case Source.Vertb: return finishes_all_due(s)
+        case Source.Exter: return quiet(s)
         case _: raise NoCase('finishes_for')
 
 # the servers run one after another, until one claims the interrupt, or an alert stops the machine
-# runs_chain : List ℕ → State → Outcome  [execmodel/specs/Interrupts.antt:67]
+# runs_chain : List ℕ → State → Outcome  [execmodel/specs/Interrupts.antt:66]
 def runs_chain(items, s):
     match items:
         case []: return quiet(s)
@@ -311,32 +304,30 @@ def runs_chain(items, s):
         case _: raise NoCase('runs_chain')
 
 # server k runs its whole body (RKM Libraries, Exec Interrupts: server chains)
-# runs_server : ℕ → State → Outcome  [execmodel/specs/Interrupts.antt:61]
+# runs_server : ℕ → State → Outcome  [execmodel/specs/Interrupts.antt:60]
 def runs_server(k, s):
     server = server_at(k, s.bodies)
-    return andthen(
-        partial(says_in_State, TraceLine.Server(server.name)), partial(runs_body, server.name, server.code), s
-    )
+    return andthen(partial(says, TraceLine.Server(server.name)), partial(runs_body, server.name, server.code), s)
 
 # a server of the file by its number from 0
-# server_at : ℕ → Bodies → ServerData  [execmodel/specs/Interrupts.antt:38]
+# server_at : ℕ → Bodies → ServerData  [execmodel/specs/Interrupts.antt:37]
 def server_at(k, bodies):
     return slice_index_or(bodies.servers, k, no_server())
 
 # the server that is read at a number that the file does not have
-# no_server : ServerData  [execmodel/specs/Interrupts.antt:34]
+# no_server : ServerData  [execmodel/specs/Interrupts.antt:33]
 @once
 def no_server():
-    return ServerData(name=[], source=Source_in_script_source.Ports, pri=0, claim=False, code=[])
+    return ServerData(name=[], source=Source.Ports, pri=0, claim=False, code=[])
 
 # the servers of a source as they run: by priority, and those of one priority in the order of the file (autodoc
 # exec.library/AddIntServer)
-# chain_of : Source → List ServerData → List ℕ  [execmodel/specs/Interrupts.antt:57]
+# chain_of : Source → List ServerData → List ℕ  [execmodel/specs/Interrupts.antt:56]
 def chain_of(asks, servers):
-    return by_choice(len(servers), partial(server_pri, servers), servers_of_in_Interrupts(asks, servers))
+    return by_choice(len(servers), partial(server_pri, servers), servers_for(asks, servers))
 
 # the items as they are chosen one after another, each from those that are left: that many of them
-# by_choice : ℕ → (ℕ → ℤ) → List ℕ → List ℕ  [execmodel/specs/Interrupts.antt:51]
+# by_choice : ℕ → (ℕ → ℤ) → List ℕ → List ℕ  [execmodel/specs/Interrupts.antt:50]
 def by_choice(number, key, left):
     match number:
         case 0: return []
@@ -344,51 +335,49 @@ def by_choice(number, key, left):
             n = number - 1
             match chosen(key, left):
                 case None: return []
-                case Some(k): return [k, *by_choice(n, key, without_in_Order(k, left))]
+                case Some(k): return [k, *by_choice(n, key, without(k, left))]
                 case _: raise NoCase('by_choice')
         case _: raise NoCase('by_choice')
 
 # the priority of a server of the file by its number from 0
-# server_pri : List ServerData → ℕ → ℤ  [execmodel/specs/Interrupts.antt:42]
+# server_pri : List ServerData → ℕ → ℤ  [execmodel/specs/Interrupts.antt:41]
 def server_pri(servers, k):
     return pri_at([s.pri for s in servers], k)
 
 # the servers of a source, in the order of the file
-# servers_of : Source → List ServerData → List ℕ  [execmodel/specs/Interrupts.antt:46]
-def servers_of_in_Interrupts(asks, servers):
+# servers_for : Source → List ServerData → List ℕ  [execmodel/specs/Interrupts.antt:45]
+def servers_for(asks, servers):
     return [
-        k
-        for k in range_with_len(0, len(servers))
-        if is_source(source_named(slice_index_or(servers, k, no_server()).source), asks)
+        k for k in range_with_len(0, len(servers)) if is_source(slice_index_or(servers, k, no_server()).source, asks)
     ]
 
 # for VERTB the quantum of the running task loses one serving (project rule)
-# serving_counted : Source → Schedule → Schedule  [execmodel/specs/Interrupts.antt:75]
+# serving_counted : Source → Schedule → Schedule  [execmodel/specs/Interrupts.antt:74]
 def serving_counted(source, schedule):
     match source:
-        case Source_in_softint_source.Ports: return schedule
-        case Source_in_softint_source.Vertb: return ticked_in_Schedule(schedule)
-        case Source_in_softint_source.Exter: return schedule
+        case Source.Ports: return schedule
+        case Source.Vertb: return quantum_ticked(schedule)
+        case Source.Exter: return schedule
         case _: raise NoCase('serving_counted')
 
 # software interrupt i runs: it is not caused any more, so that its body may cause it again, and then its whole body
 # runs (RKM Libraries, Exec Interrupts: software interrupts)
-# runs_softint : ℕ → State → Outcome  [execmodel/specs/Interrupts.antt:26]
+# runs_softint : ℕ → State → Outcome  [execmodel/specs/Interrupts.antt:25]
 def runs_softint(i, s):
     softint = softint_at(i, s.bodies)
     return andthen(
-        partial(says_in_State, TraceLine.Softint(softint.name)),
+        partial(says, TraceLine.Softint(softint.name)),
         partial(runs_body, softint.name, softint.code),
         on_pending(partial(caused_no_more, i), s),
     )
 
 # a software interrupt of the file by its number from 0
-# softint_at : ℕ → Bodies → SoftintData  [execmodel/specs/Interrupts.antt:21]
+# softint_at : ℕ → Bodies → SoftintData  [execmodel/specs/Interrupts.antt:20]
 def softint_at(i, bodies):
     return slice_index_or(bodies.softints, i, no_softint())
 
 # the software interrupt that is read at a number that the file does not have
-# no_softint : SoftintData  [execmodel/specs/Interrupts.antt:17]
+# no_softint : SoftintData  [execmodel/specs/Interrupts.antt:16]
 @once
 def no_softint():
     return SoftintData(name=[], pri=0, code=[])
@@ -399,78 +388,69 @@ def no_softint():
 # priority. What arrives and which is next are said of either discipline. A source asks to be served by a latch: further
 # requests before the serving are the same one. [execmodel/specs/Pending.antt]
 
-# the source of a name of the texts (RKM Libraries, Exec Interrupts)
-# source_named : Named → Source  [execmodel/specs/Pending.antt:61]
-def source_named(named):
-    match named:
-        case Source_in_script_source.Ports: return Source_in_softint_source.Ports
-        case Source_in_script_source.Vertb: return Source_in_softint_source.Vertb
-        case Source_in_script_source.Exter: return Source_in_softint_source.Exter
-        case _: raise NoCase('source_named')
-
 # the software interrupt that runs next, if interrupts are allowed and one is caused: the earliest to have been caused
 # among those of greatest priority (RKM Libraries, Exec Interrupts: software interrupts)
-# next_softint : State → Option ℕ  [execmodel/specs/Pending.antt:55]
+# next_softint : State → Option ℕ  [execmodel/specs/Pending.antt:53]
 def next_softint(s):
     return softint_next(by_arrival(), s.bodies.softints, s.schedule, s.pending)
 
 # the software interrupt, of these, that runs next, if interrupts are allowed and one is caused
-# softint_next : Discipline → List SoftintData → Schedule → Pending → Option ℕ  [execmodel/specs/Pending.antt:50]
+# softint_next : Discipline → List SoftintData → Schedule → Pending → Option ℕ  [execmodel/specs/Pending.antt:48]
 def softint_next(d, softints, schedule, pending):
     if allows_interrupts(schedule): return d.choice(partial(softint_pri, softints), pending.caused)
     return None
 
-# the priority of software interrupt i
-# softint_pri : List SoftintData → ℕ → ℤ  [execmodel/specs/Pending.antt:21]
-def softint_pri(softints, i):
-    return pri_at([s.pri for s in softints], i)
-
 # interrupts are allowed: no task runs, or the running one has not disabled them (autodoc Disable)
-# allows_interrupts : Schedule → Bool  [execmodel/specs/Pending.antt:15]
+# allows_interrupts : Schedule → Bool  [execmodel/specs/Pending.antt:13]
 def allows_interrupts(schedule):
     return is_interrupting_allowed(schedule.running, schedule)
 
+# the priority of software interrupt i
+# softint_pri : List SoftintData → ℕ → ℤ  [execmodel/specs/Pending.antt:19]
+def softint_pri(softints, i):
+    return pri_at([s.pri for s in softints], i)
+
 # a source asks to be served, or does so no more
-# with_latch_of : Source → Bool → Pending → Pending  [execmodel/specs/Pending.antt:67]
+# with_latch_of : Source → Bool → Pending → Pending  [execmodel/specs/Pending.antt:59]
 def with_latch_of(asks, set_, pending):
     return replace(pending, latches=with_latch(asks, set_, pending.latches))
 
 # the source that is served next: the latched one of highest level, if interrupts are allowed (RKM Libraries, Exec
 # Interrupts)
-# next_source : State → Option Source  [execmodel/specs/Pending.antt:71]
+# next_source : State → Option Source  [execmodel/specs/Pending.antt:63]
 def next_source(s):
     return highest(s.pending.latches) if allows_interrupts(s.schedule) else None
 
 # software interrupt i is not caused any more (RKM Libraries, Exec Interrupts: software interrupts)
-# caused_no_more : ℕ → Pending → Pending  [execmodel/specs/Pending.antt:46]
+# caused_no_more : ℕ → Pending → Pending  [execmodel/specs/Pending.antt:44]
 def caused_no_more(i, pending):
-    return replace(pending, caused=without_in_Order(i, pending.caused))
+    return replace(pending, caused=without(i, pending.caused))
 
 # the number of the software interrupt of a name; if no one has it, the number of all of them, which is that of none
-# softint_named : List ℕ → List SoftintData → ℕ  [execmodel/specs/Pending.antt:25]
-def softint_named_in_Pending(name, softints):
+# softint_named : List ℕ → List SoftintData → ℕ  [execmodel/specs/Pending.antt:23]
+def softint_named(name, softints):
     return position_or_len(partial(bytes_eq, name), [s.name for s in softints])
 
 # software interrupt i is caused (autodoc exec.library/Cause)
-# causes : ℕ → State → State  [execmodel/specs/Pending.antt:42]
+# causes : ℕ → State → State  [execmodel/specs/Pending.antt:40]
 def causes(i, s):
     return on_pending(partial(with_caused, by_arrival(), i, s.bodies.softints), s)
 
 # software interrupt i, of these, arrives, unless it is caused already; a number that none has does nothing
-# with_caused : Discipline → ℕ → List SoftintData → Pending → Pending  [execmodel/specs/Pending.antt:37]
+# with_caused : Discipline → ℕ → List SoftintData → Pending → Pending  [execmodel/specs/Pending.antt:35]
 def with_caused(d, i, softints, pending):
     if i < len(softints) and not is_caused(i, pending): return arrived(d, i, softints, pending)
     return pending
 
-# software interrupt i, of these, is among those that are caused, as one that arrives
-# arrived : Discipline → ℕ → List SoftintData → Pending → Pending  [execmodel/specs/Pending.antt:33]
-def arrived(d, i, softints, pending):
-    return replace(pending, caused=d.arrival(partial(softint_pri, softints), pending.caused, i))
-
 # a software interrupt is caused and has not run since
-# is_caused : ℕ → Pending → Bool  [execmodel/specs/Pending.antt:29]
+# is_caused : ℕ → Pending → Bool  [execmodel/specs/Pending.antt:27]
 def is_caused(i, pending):
     return any(other == i for other in pending.caused)
+
+# software interrupt i, of these, is among those that are caused, as one that arrives
+# arrived : Discipline → ℕ → List SoftintData → Pending → Pending  [execmodel/specs/Pending.antt:31]
+def arrived(d, i, softints, pending):
+    return replace(pending, caused=d.arrival(partial(softint_pri, softints), pending.caused, i))
 
 
 # ---- Calls: the values of their arguments, and how they end. A call that waits is kept with its values, so that a
@@ -575,34 +555,32 @@ def stored_shared(variable, value, scripts):
 # the number that is at an argument, counted from 0
 # argument : ℕ → Call → ℕ  [execmodel/specs/Calls.antt:67]
 def argument(k, call):
-    return number_in_in_Calls(slice_get(call.arguments, k))
+    return argument_number(slice_get(call.arguments, k))
 
 # the number that an argument is, or 0 for a name and for none
-# number_in : Option Argument → ℕ  [execmodel/specs/Calls.antt:61]
-def number_in_in_Calls(argument):
-    match argument:
+# argument_number : Option Argument → ℕ  [execmodel/specs/Calls.antt:61]
+def argument_number(this_argument):
+    match this_argument:
         case None: return 0
         case Some(Argument.Value(n)): return n
         case Some(Argument.Quoted(name)): return 0
-        case _: raise NoCase('number_in_in_Calls')
+        case _: raise NoCase('argument_number')
 
 # the call has had its effect, and answers nothing
 # done : ℕ → Call → State → Outcome  [execmodel/specs/Calls.antt:95]
 def done(t, call, s):
-    return says_in_State(
-        line_of_in_Calls(t, call, Outcome_in_Trace.Done, s), on_scripts(partial(goes_on, t, call.next_), s)
-    )
+    return says(line_of_call(t, call, CallEnd.Done, s), on_scripts(partial(goes_on, t, call.next_), s))
 
 # the line of a call of task t
-# line_of : ℕ → Call → trace.Outcome → State → trace.TraceLine  [execmodel/specs/Calls.antt:91]
-def line_of_in_Calls(t, call, outcome, s):
-    return TraceLine.Call(name_of_in_Schedule(s.schedule, t), word_text(call.word), call.arguments, outcome)
+# line_of_call : ℕ → Call → trace.CallEnd → State → trace.TraceLine  [execmodel/specs/Calls.antt:91]
+def line_of_call(t, call, outcome, s):
+    return TraceLine.Call(name_of(s.schedule, t), word_text(call.word), call.arguments, outcome)
 
 # the call has had its effect, and answers, into its target if it has one
 # answered : ℕ → Call → ℕ → State → Outcome  [execmodel/specs/Calls.antt:99]
 def answered(t, call, value, s):
-    return says_in_State(
-        line_of_in_Calls(t, call, Outcome_in_Trace.Answers(value), s),
+    return says(
+        line_of_call(t, call, CallEnd.Answers(value), s),
         on_scripts(lambda scripts: goes_on(t, call.next_, stored(t, call.target, value, scripts)), s),
     )
 
@@ -625,18 +603,14 @@ def alerted_by(code, caller, call, s):
     match caller:
         case Caller.ByTask(t): return alerted(code, t, call, s)
         case Caller.ByBody(name):
-            return says_in_State(
-                TraceLine.Alert(alert_text(code), name, word_text(call.word)),
-                replace(s, stopped=True),
-            )
+            return says(TraceLine.Alert(alert_text(code), name, word_text(call.word)), replace(s, stopped=True))
         case _: raise NoCase('alerted_by')
 
 # The call is refused: it changes nothing, and the machine stops for good (project rule).
 # alerted : Alert → ℕ → Call → State → Outcome  [execmodel/specs/Calls.antt:112]
 def alerted(code, t, call, s):
-    return says_in_State(
-        TraceLine.Alert(alert_text(code), name_of_in_Schedule(s.schedule, t), word_text(call.word)),
-        replace(s, stopped=True),
+    return says(
+        TraceLine.Alert(alert_text(code), name_of(s.schedule, t), word_text(call.word)), replace(s, stopped=True)
     )
 
 # a call that answers nothing ends, for either caller: a body prints its own name
@@ -645,13 +619,13 @@ def done_by(caller, call, s):
     match caller:
         case Caller.ByTask(t): return done(t, call, s)
         case Caller.ByBody(name):
-            return says_in_State(TraceLine.Call(name, word_text(call.word), call.arguments, Outcome_in_Trace.Done), s)
+            return says(TraceLine.Call(name, word_text(call.word), call.arguments, CallEnd.Done), s)
         case _: raise NoCase('done_by')
 
 # the call has had the effect that its task waits; it is kept, to be tried again
 # waiting : ℕ → Call → State → Outcome  [execmodel/specs/Calls.antt:104]
 def waiting(t, call, s):
-    return says_in_State(line_of_in_Calls(t, call, Outcome_in_Trace.Waits, s), on_scripts(partial(keeps, t, call), s))
+    return says(line_of_call(t, call, CallEnd.Waits, s), on_scripts(partial(keeps, t, call), s))
 
 # task t will try this call again
 # keeps : ℕ → Call → Scripts → Scripts  [execmodel/specs/Calls.antt:87]
@@ -665,8 +639,8 @@ def name_argument(k, call):
 
 # the name that an argument is, if it is one
 # name_in : Option Argument → Option (List ℕ)  [execmodel/specs/Calls.antt:71]
-def name_in(argument):
-    match argument:
+def name_in(this_argument):
+    match this_argument:
         case None: return None
         case Some(Argument.Value(n)): return None
         case Some(Argument.Quoted(name)): return Some(name)
@@ -678,8 +652,8 @@ def answered_by(caller, call, value, s):
     match caller:
         case Caller.ByTask(t): return answered(t, call, value, s)
         case Caller.ByBody(name):
-            return says_in_State(
-                TraceLine.Call(name, word_text(call.word), call.arguments, Outcome_in_Trace.Answers(value)),
+            return says(
+                TraceLine.Call(name, word_text(call.word), call.arguments, CallEnd.Answers(value)),
                 on_scripts(partial(stored_shared, call.target, value), s),
             )
         case _: raise NoCase('answered_by')
@@ -824,7 +798,7 @@ def does_alloc_signal(t, call, s):
         t,
         call,
         cast_unsigned(32, grant_number(grant(n, signals_of(s.schedule, t)))),
-        on_schedule(partial(allocates_in_Schedule, t, n), s),
+        on_schedule(partial(allocates, t, n), s),
     )
 
 # FreeSignal a: the signal is not allocated any more; -1 does nothing (autodoc exec.library/FreeSignal; the alert:
@@ -833,13 +807,7 @@ def does_alloc_signal(t, call, s):
 def does_free_signal(t, call, s):
     n = argument(0, call)
     if n == 4_294_967_295: return done(t, call, s)
-    return unless(
-        free_signal_alert(n),
-        t,
-        call,
-        lambda s: done(t, call, on_schedule(partial(frees_in_Schedule, t, n), s)),
-        s,
-    )
+    return unless(free_signal_alert(n), t, call, lambda s: done(t, call, on_schedule(partial(frees, t, n), s)), s)
 
 # the alert of FreeSignal: the number is that of a signal that a task may allocate
 # free_signal_alert : ℕ → Option Alert  [execmodel/specs/Signals.antt:35]
@@ -877,8 +845,8 @@ def is_mask(mask):
 def does_signal(t, call, s):
     return does_signal_by(Caller.ByTask(t), call, s)
 
-# Signal t mask: the task of that number receives the signals of the mask (autodoc exec.library/Signal; the alerts:
-# project rule)
+# Signal t mask: the task of that number, which is 1 for the first one, receives the signals of the mask (autodoc
+# exec.library/Signal; the alerts: project rule)
 # does_signal_by : Caller → Call → State → Outcome  [execmodel/specs/Signals.antt:61]
 def does_signal_by(c, call, s):
     other = argument(0, call)
@@ -1058,7 +1026,7 @@ def live_task_alert(number, scripts, schedule):
 # ends_other : ℕ → ℕ → Call → State → Outcome  [execmodel/specs/Tasks.antt:61]
 def ends_other(other, t, call, s):
     out_of_queues = on_memory(partial(on_heap, partial(dropped, other)), s)
-    ended = on_schedule(partial(removed_in_Schedule, other), out_of_queues)
+    ended = on_schedule(partial(removed, other), out_of_queues)
     return leaving_queue(awaited_by(other, s.memory.heap), other, done(t, call, ended))
 
 # FindTask name: answers the number of the live task of that name, or 0; for 0 the caller (autodoc
@@ -1101,19 +1069,16 @@ def list_deed(list_word, call):
         # project rule)
         case ListWord.NewList: return makes(None, is_list, list_size(), Object.ListHead([]))
         # FreeList list: an empty list is freed (project rule)
-        case ListWord.FreeList: return frees_in_Deeds(partial(free_list_alert, argument(0, call)), argument(0, call))
+        case ListWord.FreeList: return frees_block(partial(free_list_alert, argument(0, call)), argument(0, call))
         # NewNode pri name: answers the address of a new node that is not linked, or 0; the priority is read as a signed
         # word (project rule)
         case ListWord.NewNode:
             pri = cast_signed(32, argument(0, call))
             return makes(
-                new_node_alert(pri),
-                is_node,
-                node_size(),
-                Object.Node(Key_in_Lists(pri=pri, name=name_argument(1, call))),
+                new_node_alert(pri), is_node, node_size(), Object.Node(KeyData(pri=pri, name=name_argument(1, call)))
             )
         # FreeNode node: a node that is not linked is freed (project rule)
-        case ListWord.FreeNode: return frees_in_Deeds(partial(free_node_alert, argument(0, call)), argument(0, call))
+        case ListWord.FreeNode: return frees_block(partial(free_node_alert, argument(0, call)), argument(0, call))
         # AddHead list node: the node is put first (autodoc exec.library/AddHead)
         case ListWord.AddHead:
             return changes(
@@ -1144,7 +1109,7 @@ def list_deed(list_word, call):
         # RemHead list: answers the first node, which leaves the list, or 0 for an empty one (autodoc
         # exec.library/RemHead)
         case ListWord.RemHead:
-            return takes_in_Deeds(
+            return answers_and_changes(
                 partial(list_alert, argument(0, call)),
                 partial(first_of, argument(0, call)),
                 partial(removed_head, argument(0, call)),
@@ -1152,7 +1117,7 @@ def list_deed(list_word, call):
         # RemTail list: answers the last node, which leaves the list, or 0 for an empty one (autodoc
         # exec.library/RemTail)
         case ListWord.RemTail:
-            return takes_in_Deeds(
+            return answers_and_changes(
                 partial(list_alert, argument(0, call)),
                 partial(last_of, argument(0, call)),
                 partial(removed_tail, argument(0, call)),
@@ -1302,12 +1267,12 @@ def enqueued(list_, node, heap):
     return with_nodes(list_, enqueue(lambda other: key_of(other, heap).pri, nodes_of(list_, heap), node), heap)
 
 # the priority and the name of the node that begins at an address
-# key_of : ℕ → Heap → Key  [execmodel/specs/Lists.antt:58]
+# key_of : ℕ → Heap → KeyData  [execmodel/specs/Lists.antt:58]
 def key_of(node, heap):
     return key_of_object(object_at(node, heap))
 
 # the priority and the name of what begins at an address
-# key_of_object : Option Object → Key  [execmodel/specs/Lists.antt:53]
+# key_of_object : Option Object → KeyData  [execmodel/specs/Lists.antt:53]
 def key_of_object(object_):
     match object_:
         case None: return blank()
@@ -1315,7 +1280,7 @@ def key_of_object(object_):
         case _: raise NoCase('key_of_object')
 
 # the priority and the name of a node, those of a blank one for another object
-# key_in : Object → Key  [execmodel/specs/Lists.antt:48]
+# key_in : Object → KeyData  [execmodel/specs/Lists.antt:48]
 def key_in(object_):
     match object_:
         case Object.Node(key): return key
@@ -1376,7 +1341,7 @@ def unlinked(node, heap):
 # left_by : ℕ → Object → Object  [execmodel/specs/Lists.antt:84]
 def left_by(node, object_):
     match object_:
-        case Object.ListHead(nodes): return Object.ListHead(without_in_Order(node, nodes))
+        case Object.ListHead(nodes): return Object.ListHead(without(node, nodes))
         case object_: return object_
 
 # the alert of a call on a list
@@ -1387,11 +1352,11 @@ def list_alert(list_, heap):
 # the first node of a list, or 0 if it is empty
 # first_of : ℕ → Heap → ℕ  [execmodel/specs/Lists.antt:188]
 def first_of(list_, heap):
-    return or_none_in_Lists(first(nodes_of(list_, heap)))
+    return or_none(first(nodes_of(list_, heap)))
 
 # an address, or 0 if there is none
 # or_none : Option ℕ → ℕ  [execmodel/specs/Lists.antt:93]
-def or_none_in_Lists(place):
+def or_none(place):
     return unwrap_or(place, 0)
 
 # a list without its first node
@@ -1402,7 +1367,7 @@ def removed_head(list_, heap):
 # the last node of a list, or 0 if it is empty
 # last_of : ℕ → Heap → ℕ  [execmodel/specs/Lists.antt:192]
 def last_of(list_, heap):
-    return or_none_in_Lists(last_in_Lists(nodes_of(list_, heap)))
+    return or_none(last(nodes_of(list_, heap)))
 
 # a list without its last node
 # removed_tail : ℕ → Heap → Heap  [execmodel/specs/Lists.antt:200]
@@ -1412,12 +1377,12 @@ def removed_tail(list_, heap):
 # the node after a node in the list that has it, or 0 if it is the last
 # succ_of : ℕ → Heap → ℕ  [execmodel/specs/Lists.antt:206]
 def succ_of(node, heap):
-    return or_none_in_Lists(first(part_after(node, sequence_with(node, heap))))
+    return or_none(first(part_after(node, sequence_with(node, heap))))
 
 # the node before a node in the list that has it, or 0 if it is the first
 # pred_of : ℕ → Heap → ℕ  [execmodel/specs/Lists.antt:210]
 def pred_of(node, heap):
-    return or_none_in_Lists(last_in_Lists(part_before(node, sequence_with(node, heap))))
+    return or_none(last(part_before(node, sequence_with(node, heap))))
 
 # the alert of FindName: it begins at a list, or after a linked node
 # find_alert : ℕ → Heap → Option Alert  [execmodel/specs/Lists.antt:214]
@@ -1427,7 +1392,7 @@ def find_alert(start, heap):
 # the first node of a name, or 0
 # found_node : ℕ → List ℕ → Heap → ℕ  [execmodel/specs/Lists.antt:226]
 def found_node(start, name, heap):
-    return or_none_in_Lists(find(partial(has_name, name, heap), searched(start, heap)))
+    return or_none(find(partial(has_name, name, heap), searched(start, heap)))
 
 # the name of a node is that one, byte for byte
 # has_name : List ℕ → Heap → ℕ → Bool  [execmodel/specs/Lists.antt:222]
@@ -1470,7 +1435,7 @@ def memory_deed(memory_word, call):
         # FreeMem addr size: a plain block that begins at the address, and is of that size rounded up, is freed (autodoc
         # exec.library/FreeMem; the alert: project rule)
         case MemoryWord.FreeMem:
-            return frees_in_Deeds(partial(free_alert, argument(0, call), argument(1, call)), argument(0, call))
+            return frees_block(partial(free_alert, argument(0, call), argument(1, call)), argument(0, call))
         # AvailMem reqs: answers the bytes that are free in the suitable regions, or with MEMF_LARGEST their greatest
         # gap, or with MEMF_TOTAL their installed size (autodoc exec.library/AvailMem; the alert: project rule)
         case MemoryWord.AvailMem:
@@ -1536,11 +1501,11 @@ def avail_bits():
 # a call makes an object of a kind, which takes that many bytes, if the pool allows one more and it fits
 # makes_object : ℕ → Call → (Object → Bool) → ℕ → Object → State → Outcome  [execmodel/specs/Memory.antt:26]
 def makes_object(t, call, kind, size, object_, s):
-    return allocates_in_Memory(t, call, size, object_, place_for_object(kind, size, s.memory), s)
+    return allocates_block(t, call, size, object_, place_for_object(kind, size, s.memory), s)
 
 # a call that takes memory answers the address that it got, or 0
-# allocates : ℕ → Call → ℕ → Object → Option ℕ → State → Outcome  [execmodel/specs/Memory.antt:22]
-def allocates_in_Memory(t, call, size, object_, place, s):
+# allocates_block : ℕ → Call → ℕ → Object → Option ℕ → State → Outcome  [execmodel/specs/Memory.antt:22]
+def allocates_block(t, call, size, object_, place, s):
     return answered(t, call, unwrap_or(place, 0), on_memory(partial(placed, size, object_, place), s))
 
 
@@ -1597,7 +1562,7 @@ def port_created(t, call, bit, place, s):
                 call,
                 address,
                 on_schedule(
-                    partial(allocates_in_Schedule, t, -1),
+                    partial(allocates, t, -1),
                     on_memory(partial(placed, port_size(), Object.MsgPort(new_port(t, bit), []), Some(address)), s),
                 ),
             )
@@ -1695,7 +1660,7 @@ def replies_to(port, object_):
 # the task of a port has its signal no more (autodoc DeleteMsgPort)
 # gives_back : Port → Schedule → Schedule  [execmodel/specs/Ports.antt:195]
 def gives_back(port, s):
-    return frees_in_Schedule(port.task, port.bit, s)
+    return frees(port.task, port.bit, s)
 
 # the task, the signal and the action of the port that begins at an address (RKM Libraries, Exec Messages and Ports)
 # port_of : ℕ → Heap → Port  [execmodel/specs/Ports.antt:52]
@@ -1747,7 +1712,7 @@ def made_public(port, name, pri, memory):
 # a port under a name, with a priority
 # under : ℕ → List ℕ → ℤ → PublicPort  [execmodel/specs/Ports.antt:123]
 def under(port, name, pri):
-    return PublicPort(port=port, key=Key_in_Lists(pri=pri, name=Some(name)))
+    return PublicPort(port=port, key=KeyData(pri=pri, name=Some(name)))
 
 # RemPort port: the port is public no more (autodoc exec.library/RemPort; the alerts: project rule)
 # does_rem_port : ℕ → Call → State → Outcome  [execmodel/specs/Ports.antt:232]
@@ -1833,7 +1798,7 @@ def with_port(address, port, messages, heap):
 # does_port_cause : ℕ → Call → State → Outcome  [execmodel/specs/Ports.antt:256]
 def does_port_cause(t, call, s):
     port = argument(0, call)
-    i = softint_named_in_Pending(unwrap_or(name_argument(1, call), []), s.bodies.softints)
+    i = softint_named(unwrap_or(name_argument(1, call), []), s.bodies.softints)
     return unless(
         port_alert(port, s.memory.heap),
         t,
@@ -1972,15 +1937,13 @@ def does_set_msg_word(t, call, s):
         message_alert(message, s.memory.heap),
         t,
         call,
-        lambda s: done(
-            t, call, on_memory(partial(on_heap, partial(with_word_in_Ports, message, argument(1, call))), s)
-        ),
+        lambda s: done(t, call, on_memory(partial(on_heap, partial(with_message_word, message, argument(1, call))), s)),
         s,
     )
 
 # a message has that word
-# with_word : ℕ → ℕ → Heap → Heap  [execmodel/specs/Ports.antt:304]
-def with_word_in_Ports(message, value, heap):
+# with_message_word : ℕ → ℕ → Heap → Heap  [execmodel/specs/Ports.antt:304]
+def with_message_word(message, value, heap):
     return with_content(message, replace(content_of(message, heap), word=value), heap)
 
 # the message that begins at an address gets that content; anything else stays as it is
@@ -2030,7 +1993,7 @@ def put_alert(port, message, heap):
 # delivered : ℕ → ℕ → ℕ → State → State  [execmodel/specs/Ports.antt:342]
 def delivered(kind, port, message, s):
     return performed(
-        acting_in_Port(port_of(port, s.memory.heap)),
+        arrival_action(port_of(port, s.memory.heap)),
         on_memory(partial(on_heap, partial(posted, kind, port, message)), s),
     )
 
@@ -2275,8 +2238,8 @@ def obtain_alert(t, semaphore, heap):
 
 # a task that owns the semaphore goes on, and one that does not waits (autodoc ObtainSemaphore)
 # obtains : Obtained → ℕ → ℕ → Call → State → Outcome  [execmodel/specs/Semaphores.antt:136]
-def obtains(obtained, semaphore, t, call, s):
-    match obtained:
+def obtains(this_obtained, semaphore, t, call, s):
+    match this_obtained:
         case Obtained.Owner: return done(t, call, s)
         case Obtained.Waits:
             return leaving(Mark.asked(semaphore, t), waiting(t, call, on_schedule(partial(waits_at_semaphore, t), s)))
@@ -2285,7 +2248,7 @@ def obtains(obtained, semaphore, t, call, s):
 # the semaphore is the task's at once, or the task waits for it (autodocs ObtainSemaphore and AttemptSemaphore)
 # obtained : ℕ → ℕ → Heap → Heap  [execmodel/specs/Semaphores.antt:132]
 def obtained(semaphore, t, heap):
-    if is_open_in_Semaphores(t, sem_of(semaphore, heap)): return entered(semaphore, t, heap)
+    if is_free_for(t, sem_of(semaphore, heap)): return entered(semaphore, t, heap)
     return queued(semaphore, t, heap)
 
 # the task owns the semaphore, and has to release it once more than before (autodoc ObtainSemaphore)
@@ -2336,7 +2299,7 @@ def does_attempt_semaphore(t, call, s):
         lambda s: answered(
             t,
             call,
-            1 if is_open_in_Semaphores(t, sem_of(semaphore, s.memory.heap)) else 0,
+            1 if is_free_for(t, sem_of(semaphore, s.memory.heap)) else 0,
             on_memory(partial(on_heap, partial(attempted, semaphore, t)), s),
         ),
         s,
@@ -2345,8 +2308,7 @@ def does_attempt_semaphore(t, call, s):
 # the semaphore is the task's at once, or nothing changes
 # attempted : ℕ → ℕ → Heap → Heap  [execmodel/specs/Semaphores.antt:155]
 def attempted(semaphore, t, heap):
-    if is_open_in_Semaphores(t, sem_of(semaphore, heap)): return entered(semaphore, t, heap)
-    return heap
+    return entered(semaphore, t, heap) if is_free_for(t, sem_of(semaphore, heap)) else heap
 
 # ReleaseSemaphore semaphore: the owner has to release the semaphore once less. The last release hands it on: the first
 # of the tasks that wait there is the owner with the count 1, and ready; if none waits, no task owns it (autodoc
@@ -2418,7 +2380,7 @@ def dropped(t, heap):
 # left_by_task : ℕ → Object → Object  [execmodel/specs/Semaphores.antt:74]
 def left_by_task(t, object_):
     match object_:
-        case Object.Semaphore(sem, waiters): return Object.Semaphore(sem, without_in_Order(t, waiters))
+        case Object.Semaphore(sem, waiters): return Object.Semaphore(sem, without(t, waiters))
         case object_: return object_
 
 # the mark of a task that is removed, if it waits for a semaphore
@@ -2457,9 +2419,7 @@ def does_cause(t, call, s):
 # Cause name: the software interrupt of that name is caused (autodoc exec.library/Cause)
 # does_cause_by : Caller → Call → State → Outcome  [execmodel/specs/Causing.antt:8]
 def does_cause_by(c, call, s):
-    return done_by(
-        c, call, causes(softint_named_in_Pending(unwrap_or(name_argument(0, call), []), s.bodies.softints), s)
-    )
+    return done_by(c, call, causes(softint_named(unwrap_or(name_argument(0, call), []), s.bodies.softints), s))
 
 
 # ---- Libraries (RKM Libraries, Exec Libraries). A library is absent, or it is loaded and begins at an address, its
@@ -2623,7 +2583,7 @@ def does_rem_library(t, call, s):
         library_alert(base, s.memory.heap),
         t,
         call,
-        lambda s: done(t, call, on_memory(partial(removed_in_Loaded, base), s)),
+        lambda s: done(t, call, on_memory(partial(after_expunge, base), s)),
         s,
     )
 
@@ -2788,9 +2748,7 @@ def resting_alert(request, heap):
 # opened_for : Option ℕ → ℕ → Heap → Heap  [execmodel/specs/Requests.antt:219]
 def opened_for(unit, request, heap):
     return with_request(
-        request,
-        replace(request_of(request, heap), unit=unit if is_unit(unit) else None, error=unit_error(unit)),
-        heap,
+        request, replace(request_of(request, heap), unit=unit if is_unit(unit) else None, error=unit_error(unit)), heap
     )
 
 # the request that begins at an address holds that; anything else stays as it is
@@ -2927,7 +2885,7 @@ def error_word(request, heap):
 # reply_taken : ℕ → Heap → Heap  [execmodel/specs/Requests.antt:285]
 def reply_taken(request, heap):
     port = request_of(request, heap).port
-    return with_port(port, port_of(port, heap), without_in_Order(request, messages_of(port, heap)), heap)
+    return with_port(port, port_of(port, heap), without(request, messages_of(port, heap)), heap)
 
 # the alert of DoIO for task t: the reply port has to live and to signal that task
 # do_alert : ℕ → ℕ → Heap → Option Alert  [execmodel/specs/Requests.antt:88]
@@ -2944,7 +2902,7 @@ def begin_alert(of_port, request, heap):
 # a request may begin: it is not under way, and open
 # can_begin : TimerRequest → Bool  [execmodel/specs/Requests.antt:73]
 def can_begin(content):
-    return not is_under_way(content) and is_open_in_Request(content)
+    return not is_under_way(content) and is_open(content)
 
 # a request begins, with its quick bit set, and the task looks for it
 # begins_and_looks : ℕ → ℕ → Call → State → Outcome  [execmodel/specs/Requests.antt:312]
@@ -2963,8 +2921,8 @@ def begun_at(quick, request, memory):
 
 # a request that is begun is under way, or it is done at once
 # heap_begun : Begun → Bool → ℕ → ℕ → Heap → Heap  [execmodel/specs/Requests.antt:155]
-def heap_begun(begun, quick, system, request, heap):
-    match begun:
+def heap_begun(this_begun, quick, system, request, heap):
+    match this_begun:
         case Begun.Queue(due): return under_way(quick, system, request, heap)
         case Begun.Until(at): return under_way(quick, system, request, heap)
         case Begun.Finish(error): return finished_at(error, request, under_way(quick, system, request, heap))
@@ -2974,7 +2932,7 @@ def heap_begun(begun, quick, system, request, heap):
 # a request is under way, begun at that system time
 # under_way : Bool → ℕ → ℕ → Heap → Heap  [execmodel/specs/Requests.antt:151]
 def under_way(quick, system, request, heap):
-    return with_request(request, begun_in_Request(quick, system, request_of(request, heap)), heap)
+    return with_request(request, begun(quick, system, request_of(request, heap)), heap)
 
 # a request is done, with an error, and its reply is put (autodoc AbortIO; RKM Devices, Timer Device)
 # finished_at : ℤ → ℕ → Heap → Heap  [execmodel/specs/Requests.antt:124]
@@ -3012,8 +2970,8 @@ def outcome_at(request, memory):
 
 # one that is under way waits, for a time of the clock or for a system time; one that sets system time does so
 # timer_begun : Begun → ℕ → Clock → Clock  [execmodel/specs/Requests.antt:162]
-def timer_begun(begun, request, timer):
-    match begun:
+def timer_begun(this_begun, request, timer):
+    match this_begun:
         case Begun.Queue(due): return begins_to_wait(request, Due.AtClock(due), timer)
         case Begun.Until(at): return begins_to_wait(request, Due.AtSystem(at), timer)
         case Begun.Finish(error): return timer
@@ -3045,8 +3003,8 @@ def replying_port(quick, request, memory):
 
 # the port if the reply of a request is put that is begun so, if it is done at once
 # answering_begun : Begun → Bool → ℕ → ℕ → Heap → Option ℕ  [execmodel/specs/Requests.antt:180]
-def answering_begun(begun, quick, system, request, heap):
-    match begun:
+def answering_begun(this_begun, quick, system, request, heap):
+    match this_begun:
         case Begun.Queue(due): return None
         case Begun.Until(at): return None
         case Begun.Finish(error): return answering_port(request, under_way(quick, system, request, heap))
@@ -3066,7 +3024,7 @@ def with_reply(port, request, o):
 def acting_at(port, heap):
     match port:
         case None: return Action.Nothing
-        case Some(port): return acting_in_Port(port_of(port, heap))
+        case Some(port): return arrival_action(port_of(port, heap))
         case _: raise NoCase('acting_at')
 
 # CheckIO request: answers 0 for a request that is under way, and else the request, and leaves its reply if it is
@@ -3189,9 +3147,7 @@ def finishes_each(next_, number, s):
 # finishes : ℕ → State → Outcome  [execmodel/specs/Requests.antt:393]
 def finishes(request, s):
     return with_reply(
-        answering_port(request, s.memory.heap),
-        request,
-        says_in_State(TraceLine.Timer(request), ends_with(0, request, s)),
+        answering_port(request, s.memory.heap), request, says(TraceLine.Timer(request), ends_with(0, request, s))
     )
 
 # all requests whose time has come finish: by the due time when it came, and those of one due time in the order in which
@@ -3286,7 +3242,8 @@ def does_interrupts_by(interrupt_word, c, call, s):
 # [execmodel/specs/Deeds.antt:8]
 Deed = record('Deed', 'alert', 'heap', 'answer')
 
-# what a call does that is such a value
+# a call of task t that is a deed: its alert, if it has one, or else what it makes of the heap, and its answer, both
+# from the memory as it was
 # performs : Deed → ℕ → Call → State → Outcome  [execmodel/specs/Deeds.antt:19]
 def performs(deed, t, call, s):
     return unless(
@@ -3294,10 +3251,7 @@ def performs(deed, t, call, s):
         t,
         call,
         lambda s: concluded(
-            deed.answer(s.memory),
-            t,
-            call,
-            on_memory(lambda memory: replace(memory, heap=deed.heap(memory)), s),
+            deed.answer(s.memory), t, call, on_memory(lambda memory: replace(memory, heap=deed.heap(memory)), s)
         ),
         s,
     )
@@ -3329,8 +3283,8 @@ def allots(alert, asked, place, size, object_):
     )
 
 # the block at an address is freed
-# frees : (Heap → Option Alert) → ℕ → Deed  [execmodel/specs/Deeds.antt:40]
-def frees_in_Deeds(alert, address):
+# frees_block : (Heap → Option Alert) → ℕ → Deed  [execmodel/specs/Deeds.antt:40]
+def frees_block(alert, address):
     return Deed(
         alert=lambda memory: alert(memory.heap),
         heap=lambda memory: freed(address, memory).heap,
@@ -3347,8 +3301,8 @@ def changes(alert, next_):
     )
 
 # a value of the blocks is answered, and they change
-# takes : (Heap → Option Alert) → (Heap → ℕ) → (Heap → Heap) → Deed  [execmodel/specs/Deeds.antt:31]
-def takes_in_Deeds(alert, value, next_):
+# answers_and_changes : (Heap → Option Alert) → (Heap → ℕ) → (Heap → Heap) → Deed  [execmodel/specs/Deeds.antt:31]
+def answers_and_changes(alert, value, next_):
     return Deed(
         alert=lambda memory: alert(memory.heap),
         heap=lambda memory: next_(memory.heap),
@@ -3358,7 +3312,7 @@ def takes_in_Deeds(alert, value, next_):
 # a value of the blocks is answered, and they stay as they are
 # reads : (Heap → Option Alert) → (Heap → ℕ) → Deed  [execmodel/specs/Deeds.antt:36]
 def reads(alert, value):
-    return takes_in_Deeds(alert, value, lambda heap: heap)
+    return answers_and_changes(alert, value, lambda heap: heap)
 
 
 # ---- Objects: what begins at an address, and where a new object goes. An object takes a block of its own, with
@@ -3434,7 +3388,7 @@ def gives_way(i, memory):
 def gives_way_at(base, memory):
     match base:
         case None: return memory
-        case Some(base): return removed_in_Loaded(base, memory)
+        case Some(base): return after_expunge(base, memory)
         case _: raise NoCase('gives_way_at')
 
 # The same before an object of a kind is made, which takes that many bytes: nothing is asked if the pool does not allow
@@ -3510,11 +3464,11 @@ def is_numbered(i, object_):
 # the library at a base is open so often, and is to be expunged or not
 # with_library : ℕ → ℕ → Bool → Heap → Heap  [execmodel/specs/Loaded.antt:43]
 def with_library(base, count, delayed, heap):
-    return [replaced(base, Object.Library(number_of_in_Loaded(base, heap), count, delayed), each) for each in heap]
+    return [replaced(base, Object.Library(library_number_at(base, heap), count, delayed), each) for each in heap]
 
 # the number of the library that begins at an address
-# number_of : ℕ → Heap → ℕ  [execmodel/specs/Loaded.antt:31]
-def number_of_in_Loaded(base, heap):
+# library_number_at : ℕ → Heap → ℕ  [execmodel/specs/Loaded.antt:31]
+def library_number_at(base, heap):
     return option_map_or(library_number, object_at(base, heap), 0)
 
 # the number of a library in the order of the file, 0 for another object
@@ -3549,8 +3503,8 @@ def delayed_in(object_):
         case _: return False
 
 # a library that is not open is freed; an open one is to be expunged when it is closed for the last time
-# removed : ℕ → Memory → Memory  [execmodel/specs/Loaded.antt:57]
-def removed_in_Loaded(base, memory):
+# after_expunge : ℕ → Memory → Memory  [execmodel/specs/Loaded.antt:57]
+def after_expunge(base, memory):
     if count_of(base, memory.heap) == 0: return freed(base, memory)
     return on_heap(partial(with_library, base, count_of(base, memory.heap), True), memory)
 
@@ -3666,7 +3620,7 @@ Schedule = record('Schedule',
 
 # the name of task t
 # name_of : Schedule → ℕ → List ℕ  [scheduler/specs/Schedule.antt:34]
-def name_of_in_Schedule(s, t):
+def name_of(s, t):
     return name_at(s.queue.names, t)
 
 # the running task ends (autodoc exec.library/RemTask)
@@ -3695,8 +3649,8 @@ def unstarted(tasks, pris, names, quantum):
     )
 
 # the quantum of the running task loses one serving of VERTB, but not below zero
-# ticked : Schedule → Schedule  [scheduler/specs/Schedule.antt:133]
-def ticked_in_Schedule(s):
+# quantum_ticked : Schedule → Schedule  [scheduler/specs/Schedule.antt:133]
+def quantum_ticked(s):
     return ticked_for(s.running, s)
 
 # the quantum of the running task, if any, loses one serving
@@ -3768,7 +3722,7 @@ def begins(t, s):
         queue=replace(
             s.queue,
             states=with_status(t, TaskState.Running, s).queue.states,
-            ready=without_in_Order(t, s.queue.ready),
+            ready=without(t, s.queue.ready),
         ),
         running=Some(t),
         left=s.quantum,
@@ -3806,7 +3760,7 @@ def signals_of(s, t):
 
 # task t allocates signal n, or for -1 the highest free one, if it is given
 # allocates : ℕ → ℤ → Schedule → Schedule  [scheduler/specs/Schedule.antt:199]
-def allocates_in_Schedule(t, n, s):
+def allocates(t, n, s):
     return with_signals(t, after_grant(grant(n, signals_of(s, t)), signals_of(s, t)), s)
 
 # task t with other signals
@@ -3816,7 +3770,7 @@ def with_signals(t, sets, s):
 
 # Signal n of a live task is not allocated any more. A task that is not live has none to give back (project rule).
 # frees : ℕ → ℕ → Schedule → Schedule  [scheduler/specs/Schedule.antt:207]
-def frees_in_Schedule(t, n, s):
+def frees(t, n, s):
     return with_signals(t, after_free(n, signals_of(s, t)), s) if is_live(status_of(s, t)) else s
 
 # the received signals of the mask become those of new
@@ -3833,7 +3787,7 @@ def come_for(mask, sets):
 # after_wait : ℕ → ℕ → Schedule → Schedule  [scheduler/specs/Schedule.antt:191]
 def after_wait(t, mask, s):
     if taken_signals(mask, signals_of(s, t)) == 0: return waits_for(t, mask, s)
-    return takes_in_Schedule(t, mask, s)
+    return takes(t, mask, s)
 
 # the running task waits for signals of the mask; no task runs then (autodoc exec.library/Wait)
 # waits_for : ℕ → ℕ → Schedule → Schedule  [scheduler/specs/Schedule.antt:179]
@@ -3842,7 +3796,7 @@ def waits_for(t, mask, s):
 
 # task t takes the signals of the mask that it has received
 # takes : ℕ → ℕ → Schedule → Schedule  [scheduler/specs/Schedule.antt:183]
-def takes_in_Schedule(t, mask, s):
+def takes(t, mask, s):
     return with_signals(t, after_take(mask, signals_of(s, t)), s)
 
 # task t with the nesting that a call gives it, or as before if the call is a fault
@@ -3860,13 +3814,13 @@ def with_nesting(t, nesting, s):
 
 # a live task that does not run is ended (autodoc exec.library/RemTask)
 # removed : ℕ → Schedule → Schedule  [scheduler/specs/Schedule.antt:155]
-def removed_in_Schedule(t, s):
+def removed(t, s):
     return departs(t, with_status(t, TaskState.Removed, s))
 
 # task t is not among the ready ones any more
 # departs : ℕ → Schedule → Schedule  [scheduler/specs/Schedule.antt:151]
 def departs(t, s):
-    return replace(s, queue=replace(s.queue, ready=without_in_Order(t, s.queue.ready)))
+    return replace(s, queue=replace(s.queue, ready=without(t, s.queue.ready)))
 
 # the live task of that name, if any (autodoc exec.library/FindTask)
 # found : List ℕ → Schedule → Option ℕ  [scheduler/specs/Schedule.antt:159]
@@ -3877,7 +3831,7 @@ def found(name, s):
 # project rule)
 # clears_and_waits : ℕ → ℕ → Schedule → Schedule  [scheduler/specs/Schedule.antt:195]
 def clears_and_waits(t, mask, s):
-    return waits_for(t, mask, takes_in_Schedule(t, mask, s))
+    return waits_for(t, mask, takes(t, mask, s))
 
 # the running task waits for a semaphore; no task runs then (autodoc exec.library/ObtainSemaphore)
 # waits_at_semaphore : ℕ → Schedule → Schedule  [scheduler/specs/Schedule.antt:213]
@@ -3891,18 +3845,18 @@ def awaits(task_state, received):
         case TaskState.Absent: return False
         case TaskState.Ready: return False
         case TaskState.Running: return False
-        case TaskState.Waiting(why): return has_come_in_Schedule(why, received)
+        case TaskState.Waiting(why): return is_signalled(why, received)
         case TaskState.Removed: return False
         case _: raise NoCase('awaits')
 
 # something that is waited for has come: a signal of the mask; no signal makes a task ready that waits for a semaphore
 # (autodocs Wait and ObtainSemaphore)
-# has_come : Why → ℕ → Bool  [scheduler/specs/Schedule.antt:166]
-def has_come_in_Schedule(why, received):
+# is_signalled : Why → ℕ → Bool  [scheduler/specs/Schedule.antt:166]
+def is_signalled(why, received):
     match why:
         case Why.Signals(mask): return not received & mask == 0
         case Why.Sem: return False
-        case _: raise NoCase('has_come_in_Schedule')
+        case _: raise NoCase('is_signalled')
 
 # task t of another priority
 # with_priority : ℕ → ℤ → Schedule → Schedule  [scheduler/specs/Schedule.antt:58]
@@ -3936,7 +3890,7 @@ Timer = record('Timer', 'clock', 'system', 'tick_micros', 'is_set', 'waiting')
 
 # clock and system time gain one tick
 # ticked : Timer → Timer  [timerdev/specs/Timing.antt:40]
-def ticked_in_Timing(timer):
+def ticked(timer):
     return replace(timer, clock=timer.clock + timer.tick_micros, system=timer.system + timer.tick_micros)
 
 # no request waits; clock and system time begin at 0 (project rule)
@@ -3967,7 +3921,7 @@ def looked_at(timer):
 # the same of those that wait for system time
 # until_next : Timer → Option ℕ  [timerdev/specs/Timing.antt:95]
 def until_next(timer):
-    return next_of(lambda w: is_system(w.due) and has_come_in_Timing(timer, w.due), timer)
+    return next_of(lambda w: is_system(w.due) and has_come(timer, w.due), timer)
 
 # the request that finishes next of those that pass a test, if there is one: by the due time, then by the order in which
 # they were begun
@@ -4006,73 +3960,90 @@ def is_system(due):
 
 # a time has come (RKM Devices, Timer Device)
 # has_come : Timer → Due → Bool  [timerdev/specs/Timing.antt:59]
-def has_come_in_Timing(timer, due):
+def has_come(timer, due):
     match due:
         case Due.AtClock(time): return time <= timer.clock
         case Due.AtSystem(time): return time <= timer.system
-        case _: raise NoCase('has_come_in_Timing')
+        case _: raise NoCase('has_come')
 
 # the request that finishes next, if the time of one has come (RKM Devices, Timer Device)
 # due_next : Timer → Option ℕ  [timerdev/specs/Timing.antt:91]
 def due_next(timer):
-    return next_of(lambda w: has_come_in_Timing(timer, w.due), timer)
+    return next_of(lambda w: has_come(timer, w.due), timer)
 
 
-# ---- The sources of interrupts, and which of them ask to be served (RKM Libraries, Exec Interrupts).
+# ---- The sources of interrupts, their names, and which of them ask to be served (RKM Libraries, Exec Interrupts).
 # [softint/specs/Sources.antt]
 
 # no source asks to be served
-# no_latches : Latches  [softint/specs/Sources.antt:31]
+# no_latches : Latches  [softint/specs/Sources.antt:45]
 @once
 def no_latches():
     return Latches(ports=False, vertb=False, exter=False)
 
+# the name of a source, in the texts and in the trace
+# source_text : Source → List ℕ  [softint/specs/Sources.antt:12]
+def source_text(source):
+    match source:
+        case Source.Ports: return codes('PORTS')
+        case Source.Vertb: return codes('VERTB')
+        case Source.Exter: return codes('EXTER')
+        case _: raise NoCase('source_text')
+
 # the two are the same source
-# is_source : (source other : Source) → Bool  [softint/specs/Sources.antt:18]
+# is_source : (source other : Source) → Bool  [softint/specs/Sources.antt:32]
 def is_source(source, other_source):
     match source, other_source:
-        case Source_in_softint_source.Ports, Source_in_softint_source.Ports: return True
-        case Source_in_softint_source.Vertb, Source_in_softint_source.Vertb: return True
-        case Source_in_softint_source.Exter, Source_in_softint_source.Exter: return True
+        case Source.Ports, Source.Ports: return True
+        case Source.Vertb, Source.Vertb: return True
+        case Source.Exter, Source.Exter: return True
         case _, _: return False
 
 # one source's latch set or cleared
-# with_latch : Source → Bool → Latches → Latches  [softint/specs/Sources.antt:35]
+# with_latch : Source → Bool → Latches → Latches  [softint/specs/Sources.antt:49]
 def with_latch(source, set_, latches):
     match source:
-        case Source_in_softint_source.Ports: return replace(latches, ports=set_)
-        case Source_in_softint_source.Vertb: return replace(latches, vertb=set_)
-        case Source_in_softint_source.Exter: return replace(latches, exter=set_)
+        case Source.Ports: return replace(latches, ports=set_)
+        case Source.Vertb: return replace(latches, vertb=set_)
+        case Source.Exter: return replace(latches, exter=set_)
         case _: raise NoCase('with_latch')
 
 # the source of highest level among those that ask to be served
-# highest : Latches → Option Source  [softint/specs/Sources.antt:41]
+# highest : Latches → Option Source  [softint/specs/Sources.antt:55]
 def highest(latches):
     return chosen(lambda source: level(source), [source for source in sources() if is_latched(source, latches)])
 
 # the level at which a source interrupts the processor
-# level : Source → ℕ  [softint/specs/Sources.antt:12]
+# level : Source → ℕ  [softint/specs/Sources.antt:26]
 def level(source):
     match source:
-        case Source_in_softint_source.Ports: return 2
-        case Source_in_softint_source.Vertb: return 3
-        case Source_in_softint_source.Exter: return 6
+        case Source.Ports: return 2
+        case Source.Vertb: return 3
+        case Source.Exter: return 6
         case _: raise NoCase('level')
 
 # all sources
 # sources : List Source  [softint/specs/Sources.antt:8]
 @once
 def sources():
-    return [Source_in_softint_source.Ports, Source_in_softint_source.Vertb, Source_in_softint_source.Exter]
+    return [Source.Ports, Source.Vertb, Source.Exter]
 
 # a source asks to be served
-# is_latched : Source → Latches → Bool  [softint/specs/Sources.antt:25]
+# is_latched : Source → Latches → Bool  [softint/specs/Sources.antt:39]
 def is_latched(source, latches):
     match source:
-        case Source_in_softint_source.Ports: return latches.ports
-        case Source_in_softint_source.Vertb: return latches.vertb
-        case Source_in_softint_source.Exter: return latches.exter
+        case Source.Ports: return latches.ports
+        case Source.Vertb: return latches.vertb
+        case Source.Exter: return latches.exter
         case _: raise NoCase('is_latched')
+
+# the source of a name
+# source_of : List ℕ → Option Source  [softint/specs/Sources.antt:18]
+@kept
+def source_of(name):
+    if name == codes('PORTS'): return Some(Source.Ports)
+    if name == codes('VERTB'): return Some(Source.Vertb)
+    return Some(Source.Exter) if name == codes('EXTER') else None
 
 
 # ---- Sequences that are kept by a key, as Exec keeps its lists by priority: what an arrival does, which item is
@@ -4101,7 +4072,7 @@ def is_lower(key, y, x):
 
 # the sequence with item n left out
 # without : ℕ → List ℕ → List ℕ  [execlist/specs/Order.antt:24]
-def without_in_Order(n, xs):
+def without(n, xs):
     return [x for x in xs if not x == n]
 
 # the first item
@@ -4227,24 +4198,23 @@ def own_signals():
 def after_grant(n, sets):
     match n:
         case None: return sets
-        case Some(n):
-            return SignalSets(received=without_in_Signals(sets.received, 2 ** n), allocated=sets.allocated | 2 ** n)
+        case Some(n): return SignalSets(received=without_bits(sets.received, 2 ** n), allocated=sets.allocated | 2 ** n)
         case _: raise NoCase('after_grant')
 
 # the set less the signals of the mask
-# without : ℕ → ℕ → ℕ  [signals/specs/Signals.antt:18]
-def without_in_Signals(set_, mask):
+# without_bits : ℕ → ℕ → ℕ  [signals/specs/Signals.antt:18]
+def without_bits(set_, mask):
     return set_ & bit_not(32, mask)
 
 # FreeSignal: the signal is not allocated any more, and what is received stays (autodoc FreeSignal)
 # after_free : ℕ → SignalSets → SignalSets  [signals/specs/Signals.antt:85]
 def after_free(n, sets):
-    return SignalSets(received=sets.received, allocated=without_in_Signals(sets.allocated, 2 ** n))
+    return SignalSets(received=sets.received, allocated=without_bits(sets.allocated, 2 ** n))
 
 # SetSignal: inside the mask the received signals become those of `new`, and outside it they stay (autodoc SetSignal)
 # after_set : ℕ → ℕ → SignalSets → SignalSets  [signals/specs/Signals.antt:40]
 def after_set(new, mask, sets):
-    return SignalSets(received=without_in_Signals(sets.received, mask) | new & mask, allocated=sets.allocated)
+    return SignalSets(received=without_bits(sets.received, mask) | new & mask, allocated=sets.allocated)
 
 # Wait, its answer: what is received and asked for (autodoc Wait)
 # taken_signals : ℕ → SignalSets → ℕ  [signals/specs/Signals.antt:32]
@@ -4254,7 +4224,7 @@ def taken_signals(mask, sets):
 # Wait: the signals asked for leave what is received, and the others stay
 # after_take : ℕ → SignalSets → SignalSets  [signals/specs/Signals.antt:36]
 def after_take(mask, sets):
-    return SignalSets(received=without_in_Signals(sets.received, mask), allocated=sets.allocated)
+    return SignalSets(received=without_bits(sets.received, mask), allocated=sets.allocated)
 
 # Signal: the mask joins what is received (autodoc Signal)
 # after_post : ℕ → SignalSets → SignalSets  [signals/specs/Signals.antt:28]
@@ -4299,12 +4269,12 @@ def with_forbids(nesting, count):
 # the count one level further in, or none past 127
 # count_inside : ℤ → Option ℤ  [forbid/specs/Nesting.antt:31]
 def count_inside(count):
-    return Some(count + 1) if count < deepest_in_Nesting() else None
+    return Some(count + 1) if count < most_nested() else None
 
 # 127, the greatest count
-# deepest : ℤ  [forbid/specs/Nesting.antt:16]
+# most_nested : ℤ  [forbid/specs/Nesting.antt:16]
 @once
-def deepest_in_Nesting():
+def most_nested():
     return 127
 
 # one Forbid less, none at -1 (autodoc Permit; the refusal: project rule)
@@ -4343,13 +4313,13 @@ def may_interrupt(nesting):
 
 # what is known of a node beside its place: its priority, and its name or none
 # [execlist/specs/Lists.antt:7]
-Key_in_Lists = record('Key_in_Lists', 'pri', 'name')
+KeyData = record('KeyData', 'pri', 'name')
 
 # the key of a new node
-# blank : Key  [execlist/specs/Lists.antt:12]
+# blank : KeyData  [execlist/specs/Lists.antt:12]
 @once
 def blank():
-    return Key_in_Lists(pri=0, name=None)
+    return KeyData(pri=0, name=None)
 
 # node n put after node p, or first if p is none
 # put_after : Option ℕ → ℕ → List ℕ → List ℕ  [execlist/specs/Lists.antt:52]
@@ -4378,12 +4348,12 @@ def part_after(n, items):
 # the last node
 # last : List ℕ → Option ℕ  [execlist/specs/Lists.antt:46]
 @kept
-def last_in_Lists(items):
+def last(items):
     match items:
         case []: return None
         case [x]: return Some(x)
-        case [x, y, *xs]: return last_in_Lists([y, *xs])
-        case _: raise NoCase('last_in_Lists')
+        case [x, y, *xs]: return last([y, *xs])
+        case _: raise NoCase('last')
 
 # a name or none is that name, byte for byte
 # name_is : Option (List ℕ) → List ℕ → Bool  [execlist/specs/Lists.antt:67]
@@ -4491,8 +4461,8 @@ def new_port(task, bit):
 
 # what a port does when a message arrives: it signals its task, causes its software interrupt, or does nothing (RKM
 # Libraries, Exec Messages and Ports: mp_Flags)
-# acting : Port → Action  [msgport/specs/Port.antt:25]
-def acting_in_Port(port):
+# arrival_action : Port → Action  [msgport/specs/Port.antt:25]
+def arrival_action(port):
     return acting_by(port.action, port)
 
 # what is to be done for a message that arrives at a port with that action
@@ -4541,13 +4511,30 @@ def idle_request(port):
 
 # the request is open for some unit
 # is_open : Request → Bool  [iorequest/specs/Request.antt:22]
-def is_open_in_Request(q):
+def is_open(q):
     return is_some(q.unit)
 
 # the request under way: its error is 0, and IOF_QUICK is as it was said, but cleared if it is to wait
 # begun : Bool → (system : ℕ) → Request → Request  [iorequest/specs/Request.antt:81]
-def begun_in_Request(quick, system, q):
+def begun(quick, system, q):
     return replace(told(system, q), state=ReqState.UnderWay, error=0, quick=quick and not is_to_wait(system, q))
+
+# system time in the time field, the seconds modulo 2 to the power 32 (project rule), if the request asks for it
+# told : (system : ℕ) → Request → Request  [iorequest/specs/Request.antt:77]
+def told(system, q):
+    if asks_time(q): return replace(q, secs=quotient(system, second()) % 2 ** 32, micros=remainder(system, second()))
+    return q
+
+# TR_GETSYSTIME
+# asks_time : Request → Bool  [iorequest/specs/Request.antt:42]
+def asks_time(q):
+    return q.command == 10
+
+# the microseconds of a second
+# second : ℕ  [iorequest/specs/Request.antt:28]
+@once
+def second():
+    return 1_000_000
 
 # a request that is to be replied once a positive time is over, or once system time has come to a time that is still to
 # come
@@ -4559,17 +4546,6 @@ def is_to_wait(system, q):
 # adds : Request → Bool  [iorequest/specs/Request.antt:38]
 def adds(q):
     return q.command == 9
-
-# the time field in microseconds
-# time_of : Request → ℕ  [iorequest/specs/Request.antt:32]
-def time_of(q):
-    return q.secs * second() + q.micros
-
-# the microseconds of a second
-# second : ℕ  [iorequest/specs/Request.antt:28]
-@once
-def second():
-    return 1_000_000
 
 # the request is open for the unit whose requests name a system time, UNIT_WAITUNTIL
 # is_until : Request → Bool  [iorequest/specs/Request.antt:50]
@@ -4584,16 +4560,10 @@ def is_unit_until(unit):
         case Some(unit): return unit == 3
         case _: raise NoCase('is_unit_until')
 
-# system time in the time field, the seconds modulo 2 to the power 32 (project rule), if the request asks for it
-# told : (system : ℕ) → Request → Request  [iorequest/specs/Request.antt:77]
-def told(system, q):
-    if asks_time(q): return replace(q, secs=quotient(system, second()) % 2 ** 32, micros=remainder(system, second()))
-    return q
-
-# TR_GETSYSTIME
-# asks_time : Request → Bool  [iorequest/specs/Request.antt:42]
-def asks_time(q):
-    return q.command == 10
+# the time field in microseconds
+# time_of : Request → ℕ  [iorequest/specs/Request.antt:32]
+def time_of(q):
+    return q.secs * second() + q.micros
 
 # the request done, with that error
 # finished : ℤ → Request → Request  [iorequest/specs/Request.antt:92]
@@ -4689,11 +4659,11 @@ def is_owned(sem):
 # a task that asks for a semaphore owns it, or waits for it (autodoc ObtainSemaphore)
 # outcome_for : ℕ → Sem → Obtained  [sigsem/specs/Semaphores.antt:45]
 def outcome_for(t, sem):
-    return Obtained.Owner if is_open_in_Semaphores(t, sem) else Obtained.Waits
+    return Obtained.Owner if is_free_for(t, sem) else Obtained.Waits
 
 # task t may have a semaphore at once: no other task owns it
-# is_open : ℕ → Sem → Bool  [sigsem/specs/Semaphores.antt:41]
-def is_open_in_Semaphores(t, sem):
+# is_free_for : ℕ → Sem → Bool  [sigsem/specs/Semaphores.antt:41]
+def is_free_for(t, sem):
     return not is_owned(sem) or is_owner(t, sem)
 
 # task t owns a semaphore
@@ -4704,12 +4674,12 @@ def is_owner(t, sem):
 # task t owns a semaphore so often that once more is too often
 # is_too_deep : ℕ → Sem → Bool  [sigsem/specs/Semaphores.antt:49]
 def is_too_deep(t, sem):
-    return is_owner(t, sem) and deepest_in_Semaphores() < sem.count + 1
+    return is_owner(t, sem) and most_obtained() < sem.count + 1
 
 # the greatest count (project rule: that of a signed word, as ss_NestCount is in exec/semaphores.h)
-# deepest : ℕ  [sigsem/specs/Semaphores.antt:21]
+# most_obtained : ℕ  [sigsem/specs/Semaphores.antt:21]
 @once
-def deepest_in_Semaphores():
+def most_obtained():
     return 32767
 
 # task t owns the semaphore, and has to release it once more than before (autodocs ObtainSemaphore and ReleaseSemaphore)
@@ -4778,33 +4748,6 @@ def is_unit(unit):
         case None: return False
         case Some(unit): return unit <= 1 or unit == 3
         case _: raise NoCase('is_unit')
-
-
-# ---- The sources of interrupts, by their names. [script/specs/Sources.antt]
-
-# the name of a source, in the texts and in the trace
-# source_text : Source → List ℕ  [script/specs/Sources.antt:7]
-def source_text(source):
-    match source:
-        case Source_in_script_source.Ports: return codes('PORTS')
-        case Source_in_script_source.Vertb: return codes('VERTB')
-        case Source_in_script_source.Exter: return codes('EXTER')
-        case _: raise NoCase('source_text')
-
-# the source that an event may request: the vertical blank comes with ticks alone
-# requested_source_of : List ℕ → Option Source  [script/specs/Sources.antt:21]
-@kept
-def requested_source_of(name):
-    if name == codes('PORTS'): return Some(Source_in_script_source.Ports)
-    return Some(Source_in_script_source.Exter) if name == codes('EXTER') else None
-
-# the source of a name
-# source_of : List ℕ → Option Source  [script/specs/Sources.antt:13]
-@kept
-def source_of(name):
-    if name == codes('PORTS'): return Some(Source_in_script_source.Ports)
-    if name == codes('VERTB'): return Some(Source_in_script_source.Vertb)
-    return Some(Source_in_script_source.Exter) if name == codes('EXTER') else None
 
 
 # ---- The words of a body. The scripts of this simulator are our own; a word that is named as a call of exec.library
@@ -5292,7 +5235,7 @@ def without_answer(text, kinds):
 
 # A source of interrupts. RKM Libraries, Exec Interrupts: the order of their priorities.
 # [softint/src/source.rt:7]
-Source_in_softint_source = data('Source_in_softint_source',
+Source = data('Source',
     # Ports, timers and the keyboard: source 3, of level 2.
     Ports='',
     # The start of the vertical blank: source 5, of level 3.
@@ -5348,20 +5291,6 @@ TaskState = data('TaskState',
 # For each source whether it asks to be served. RKM Libraries, Exec Interrupts: interrupt requests.
 # [softint/src/latches.rt:9]
 Latches = record('Latches', 'ports', 'vertb', 'exter')
-
-
-# ---- Types of the code in source.rt [script/src/source.rt]
-
-# A source of interrupts. RKM Libraries, Exec Interrupts: the order of their priorities.
-# [script/src/source.rt:7]
-Source_in_script_source = data('Source_in_script_source',
-    # Ports, timers and the keyboard.
-    Ports='',
-    # The start of the vertical blank.
-    Vertb='',
-    # An external interrupt.
-    Exter='',
-)
 
 
 # ---- Types of the code in region.rt [memlist/src/region.rt]
@@ -5932,14 +5861,14 @@ Mark = data(
 
 # the next state, the lines that are printed on the way, and the marks that are left
 # [execmodel/specs/State.antt:71]
-Outcome_in_State = record('Outcome_in_State', 'state', 'lines', 'marks')
+Outcome = record('Outcome', 'state', 'lines', 'marks')
 
 # one action after another
 # andthen : (State → Outcome) → (State → Outcome) → State → Outcome  [execmodel/specs/State.antt:91]
 def andthen(first, next_, s):
     a = first(s)
     b = next_(a.state)
-    return Outcome_in_State(state=b.state, lines=a.lines + b.lines, marks=a.marks + b.marks)
+    return Outcome(state=b.state, lines=a.lines + b.lines, marks=a.marks + b.marks)
 
 # The machine of a file before its start: no task was added, nothing runs, it was not yet reported as idle, and no
 # interrupt was asked for. No memory is allocated, no port is public, and no request waits; the clock of the timer and
@@ -5954,7 +5883,7 @@ def booted(machine):
             machine.quantum,
         ),
         scripts=Scripts(
-            programs=[begun_in_State(each) for each in machine.tasks],
+            programs=[new_program(each) for each in machine.tasks],
             shared=replicate(shared_variables(), 0),
         ),
         memory=Memory(
@@ -5973,8 +5902,8 @@ def booted(machine):
     )
 
 # the program of a task of the file before its first command
-# begun : TaskData → Program  [execmodel/specs/State.antt:146]
-def begun_in_State(task):
+# new_program : TaskData → Program  [execmodel/specs/State.antt:146]
+def new_program(task):
     return begun_with(task.code, task.start)
 
 # a program at its first command; every variable begins at 0
@@ -6007,12 +5936,12 @@ def unless_stopped(next_, s):
 # nothing is printed
 # quiet : State → Outcome  [execmodel/specs/State.antt:83]
 def quiet(s):
-    return Outcome_in_State(state=s, lines=[], marks=[])
+    return Outcome(state=s, lines=[], marks=[])
 
 # one line is printed
 # says : TraceLine → State → Outcome  [execmodel/specs/State.antt:87]
-def says_in_State(line, s):
-    return Outcome_in_State(state=s, lines=[line], marks=[])
+def says(line, s):
+    return Outcome(state=s, lines=[line], marks=[])
 
 # the program of task t
 # program_of : Scripts → ℕ → Program  [execmodel/specs/State.antt:108]
@@ -6094,15 +6023,25 @@ PublicPort = record('PublicPort', 'port', 'key')
 # for a semaphore, the blocks that are allocated, the public ports in order of arrival, and the timer (RKM Libraries,
 # Exec Memory Allocation; RKM Libraries, Exec Messages and Ports; RKM Devices, Timer Device)
 # [execmodel/specs/Blocks.antt:54]
-Memory = record('Memory', 'regions', 'libraries', 'asks', 'pool', 'tasks', 'heap', 'public', 'timer')
+Memory = record('Memory',
+    'regions',
+    'libraries',
+    # libraries that are not open are expunged if memory is refused: in version 2 of the rules
+    'asks',
+    'pool',
+    'tasks',
+    'heap',
+    'public',
+    'timer',
+)
 
 # an action on the timer
-# on_timer : (Timer → Timer) → Memory → Memory  [execmodel/specs/Blocks.antt:69]
+# on_timer : (Timer → Timer) → Memory → Memory  [execmodel/specs/Blocks.antt:70]
 def on_timer(f, memory):
     return replace(memory, timer=f(memory.timer))
 
 # an action on the blocks and what begins there
-# on_heap : (Heap → Heap) → Memory → Memory  [execmodel/specs/Blocks.antt:65]
+# on_heap : (Heap → Heap) → Memory → Memory  [execmodel/specs/Blocks.antt:66]
 def on_heap(f, memory):
     return replace(memory, heap=f(memory.heap))
 
@@ -6110,18 +6049,6 @@ def on_heap(f, memory):
 # ======================================================================================================================
 # The trace
 # ======================================================================================================================
-
-
-# ---- The line that is printed of what a machine says. [exectrace/specs/Heard.antt]
-
-# the name of a source, as it is in the texts
-# text_of_source : Source → List ℕ  [exectrace/specs/Heard.antt:15]
-def text_of_source(source):
-    match source:
-        case Source_in_softint_source.Ports: return source_text(Source_in_script_source.Ports)
-        case Source_in_softint_source.Vertb: return source_text(Source_in_script_source.Vertb)
-        case Source_in_softint_source.Exter: return source_text(Source_in_script_source.Exter)
-        case _: raise NoCase('text_of_source')
 
 
 # ---- The lines of a trace, and their bytes. A name, a word, a code and a source are lists of bytes; a value is a
@@ -6133,7 +6060,7 @@ Argument = data('Argument', Value='value', Quoted='name')
 
 # how a call ends: it does not answer, it answers a value, or it waits
 # [exectrace/specs/Trace.antt:10]
-Outcome_in_Trace = data('Outcome_in_Trace', Done='', Answers='value', Waits='')
+CallEnd = data('CallEnd', Done='', Answers='value', Waits='')
 
 # what happened; a name is that of a task, a server or a software interrupt
 # [exectrace/specs/Trace.antt:16]
@@ -6179,8 +6106,8 @@ def printed_line(trace_line):
 
 # an argument, after the space before it
 # argument_text : Argument → List ℕ  [exectrace/specs/Trace.antt:47]
-def argument_text(argument):
-    match argument:
+def argument_text(this_argument):
+    match this_argument:
         case Argument.Value(n): return codes(' ') + value_text(n)
         case Argument.Quoted(name): return codes(' "') + name + codes('"')
         case _: raise NoCase('argument_text')
@@ -6201,12 +6128,12 @@ def hex_digit(n):
     return slice_index_or(codes('0123456789ABCDEF'), n, 0)
 
 # the end of the line of a call: nothing, its answer, or that it waits
-# outcome_text : Outcome → List ℕ  [exectrace/specs/Trace.antt:52]
-def outcome_text(outcome):
-    match outcome:
-        case Outcome_in_Trace.Done: return []
-        case Outcome_in_Trace.Answers(n): return codes(' -> ') + value_text(n)
-        case Outcome_in_Trace.Waits: return codes(' waits')
+# outcome_text : CallEnd → List ℕ  [exectrace/specs/Trace.antt:52]
+def outcome_text(call_end):
+    match call_end:
+        case CallEnd.Done: return []
+        case CallEnd.Answers(n): return codes(' -> ') + value_text(n)
+        case CallEnd.Waits: return codes(' waits')
         case _: raise NoCase('outcome_text')
 
 
@@ -6249,7 +6176,7 @@ def is_skipped(items):
 def fault_by(event, number, events):
     match event:
         case None: return [EventFault.BadLine(number)]
-        case Some(event): return [] if is_within_in_Events(events) else [EventFault.TooMany]
+        case Some(event): return [] if is_within(events) else [EventFault.TooMany]
         case _: raise NoCase('fault_by')
 
 # the event that a line states, if it states one
@@ -6312,10 +6239,8 @@ def fault_or(fault, value):
 
 # the sum of the steps and that of the ticks are at most 1,000,000, and there are at most 100,000 events
 # is_within : List Event → Bool  [script/specs/Events.antt:21]
-def is_within_in_Events(events):
-    return are_within(
-        sum(steps_in_Events(each) for each in events), sum(ticks_in_Events(each) for each in events), len(events)
-    )
+def is_within(events):
+    return are_within(sum(event_steps(each) for each in events), sum(event_ticks(each) for each in events), len(events))
 
 # steps, ticks and events are within the limits of a text
 # are_within : ℕ → ℕ → ℕ → Bool  [script/specs/Events.antt:17]
@@ -6323,18 +6248,28 @@ def are_within(run, tick, count):
     return run <= 1_000_000 and tick <= 1_000_000 and count <= 100_000
 
 # the steps that an event asks for
-# steps : Event → ℕ  [script/specs/Events.antt:7]
-def steps_in_Events(event):
-    match event:
+# event_steps : Event → ℕ  [script/specs/Events.antt:7]
+def event_steps(this_event):
+    match this_event:
         case Event.Run(n): return n
         case _: return 0
 
 # the ticks that the event asks for
-# ticks : Event → ℕ  [script/specs/Events.antt:12]
-def ticks_in_Events(event):
-    match event:
+# event_ticks : Event → ℕ  [script/specs/Events.antt:12]
+def event_ticks(this_event):
+    match this_event:
         case Event.Tick(n): return n
         case _: return 0
+
+
+# ---- The sources of interrupts that the texts of events may name. [script/specs/Sources.antt]
+
+# the source that an event may request: the vertical blank comes with ticks alone
+# requested_source_of : List ℕ → Option Source  [script/specs/Sources.antt:7]
+@kept
+def requested_source_of(name):
+    if name == codes('PORTS'): return Some(Source.Ports)
+    return Some(Source.Exter) if name == codes('EXTER') else None
 
 
 # ---- Numbers as the texts write them. [taskscript/specs/Numbers.antt]
@@ -6360,13 +6295,13 @@ def below_word(n):
 # after `$` base 16, after `-` a negative number, else a decimal one
 # number_of : List ℕ → Option ℕ  [taskscript/specs/Numbers.antt:35]
 @kept
-def number_of_in_Numbers(items):
+def number_of(items):
     match items:
         case []: return None
         case [b, *bs]:
             if b == 36: return hex_of(bs)
             return option_and_then(negated, decimal_of(bs)) if b == 45 else decimal_of([b, *bs])
-        case _: raise NoCase('number_of_in_Numbers')
+        case _: raise NoCase('number_of')
 
 # 1 to 8 digits in base 16
 # hex_of : List ℕ → Option ℕ  [taskscript/specs/Numbers.antt:25]
@@ -6429,19 +6364,19 @@ def top_keys():
 def settings_faults(tree):
     return (
         at(
-            key_at(TablePlace.Top, Key_in_place.Version),
+            key_at(TablePlace.Top, Key.Version),
             optional(partial(integer_faults, 1, 2), get_member(codes('version'), tree)),
         )
         + at(
-            key_at(TablePlace.Top, Key_in_place.Quantum),
+            key_at(TablePlace.Top, Key.Quantum),
             optional(partial(integer_faults, 1, 255), get_member(codes('quantum'), tree)),
         )
         + at(
-            key_at(TablePlace.Top, Key_in_place.TickMicros),
+            key_at(TablePlace.Top, Key.TickMicros),
             optional(partial(integer_faults, 1, 1_000_000), get_member(codes('tick_micros'), tree)),
         )
         + at(
-            key_at(TablePlace.Top, Key_in_place.Pool),
+            key_at(TablePlace.Top, Key.Pool),
             optional(partial(integer_faults, 1, 1024), get_member(codes('pool'), tree)),
         )
     )
@@ -6470,17 +6405,15 @@ def region_faults(of, region):
     return (
         at(unknown_key_at(of), check(keys_are_among(region_keys(), region), FileFault.UnknownKey))
         + at(
-            key_at(of, Key_in_place.Base),
+            key_at(of, Key.Base),
             required(partial(integer_faults, 0, 4_294_967_295), get_member(codes('base'), region)),
         )
         + at(
-            key_at(of, Key_in_place.Size),
+            key_at(of, Key.Size),
             required(partial(integer_faults, 0, 4_294_967_295), get_member(codes('size'), region)),
         )
-        + at(
-            key_at(of, Key_in_place.Attrs), optional(partial(integer_faults, 0, 7), get_member(codes('attrs'), region))
-        )
-        + at(key_at(of, Key_in_place.Pri), pri_faults(region))
+        + at(key_at(of, Key.Attrs), optional(partial(integer_faults, 0, 7), get_member(codes('attrs'), region)))
+        + at(key_at(of, Key.Pri), pri_faults(region))
     )
 
 # the keys of the table of a region
@@ -6530,7 +6463,7 @@ def named_faults(judge, of, number, before, items):
         case Items.item(owner, rest):
             return (
                 named_item_faults(judge, of, number, before, owner)
-                + named_faults(judge, of, number + 1, before + [name_of_in_File(owner)], rest)
+                + named_faults(judge, of, number + 1, before + [name_in_table(owner)], rest)
             )
         case _: raise NoCase('named_faults')
 
@@ -6540,8 +6473,8 @@ def named_item_faults(judge, of, number, before, data):
     return table_faults(item_at(of, number), partial(judge, TablePlace.Item(of, number), before), data)
 
 # the name in a table
-# name_of : Data → List ℕ  [taskscript/specs/File.antt:111]
-def name_of_in_File(owner):
+# name_in_table : Data → List ℕ  [taskscript/specs/File.antt:111]
+def name_in_table(owner):
     return string_or_nothing(get_member(codes('name'), members_or_none(owner)))
 
 # the table of a library after the names of the libraries before it: its keys, then its values in the order name,
@@ -6550,15 +6483,11 @@ def name_of_in_File(owner):
 def library_faults(of, before, library):
     return (
         at(unknown_key_at(of), check(keys_are_among(library_keys(), library), FileFault.UnknownKey))
-        + at(key_at(of, Key_in_place.Name), required(partial(name_faults, before), get_member(codes('name'), library)))
+        + at(key_at(of, Key.Name), required(partial(name_faults, before), get_member(codes('name'), library)))
         + at(
-            key_at(of, Key_in_place.Version),
-            required(partial(integer_faults, 0, 65535), get_member(codes('version'), library)),
+            key_at(of, Key.Version), required(partial(integer_faults, 0, 65535), get_member(codes('version'), library))
         )
-        + at(
-            key_at(of, Key_in_place.Size),
-            required(partial(integer_faults, 8, 65_536), get_member(codes('size'), library)),
-        )
+        + at(key_at(of, Key.Size), required(partial(integer_faults, 8, 65_536), get_member(codes('size'), library)))
     )
 
 # the keys of the table of a library
@@ -6601,9 +6530,9 @@ def owners_faults(tree):
 def softint_faults(of, before, softint):
     return (
         at(unknown_key_at(of), check(keys_are_among(softint_keys(), softint), FileFault.UnknownKey))
-        + at(key_at(of, Key_in_place.Name), required(partial(name_faults, before), get_member(codes('name'), softint)))
-        + at(key_at(of, Key_in_place.Pri), required(softint_pri_faults, get_member(codes('pri'), softint)))
-        + at(key_at(of, Key_in_place.Code), required(code_faults, get_member(codes('code'), softint)))
+        + at(key_at(of, Key.Name), required(partial(name_faults, before), get_member(codes('name'), softint)))
+        + at(key_at(of, Key.Pri), required(softint_pri_faults, get_member(codes('pri'), softint)))
+        + at(key_at(of, Key.Code), required(code_faults, get_member(codes('code'), softint)))
     )
 
 # the keys of the table of a software interrupt
@@ -6617,11 +6546,11 @@ def softint_keys():
 def server_faults(of, before, server):
     return (
         at(unknown_key_at(of), check(keys_are_among(server_keys(), server), FileFault.UnknownKey))
-        + at(key_at(of, Key_in_place.Name), required(partial(name_faults, before), get_member(codes('name'), server)))
-        + at(key_at(of, Key_in_place.Source), required(source_faults, get_member(codes('source'), server)))
-        + at(key_at(of, Key_in_place.Pri), pri_faults(server))
-        + at(key_at(of, Key_in_place.Claim), optional(boolean_faults, get_member(codes('claim'), server)))
-        + at(key_at(of, Key_in_place.Code), required(code_faults, get_member(codes('code'), server)))
+        + at(key_at(of, Key.Name), required(partial(name_faults, before), get_member(codes('name'), server)))
+        + at(key_at(of, Key.Source), required(source_faults, get_member(codes('source'), server)))
+        + at(key_at(of, Key.Pri), pri_faults(server))
+        + at(key_at(of, Key.Claim), optional(boolean_faults, get_member(codes('claim'), server)))
+        + at(key_at(of, Key.Code), required(code_faults, get_member(codes('code'), server)))
     )
 
 # the keys of the table of a server
@@ -6638,7 +6567,7 @@ def names_before_servers(tree):
 # the names of the items
 # item_names : Items → List (List ℕ)  [taskscript/specs/File.antt:145]
 def item_names(owners):
-    return of_items(name_of_in_File, owners)
+    return of_items(name_in_table, owners)
 
 # the array of software interrupts of a tree
 # softints_in : Members → Items  [taskscript/specs/File.antt:161]
@@ -6650,10 +6579,10 @@ def softints_in(tree):
 def task_faults(of, before, task):
     return (
         at(unknown_key_at(of), check(keys_are_among(task_keys(), task), FileFault.UnknownKey))
-        + at(key_at(of, Key_in_place.Name), required(partial(name_faults, before), get_member(codes('name'), task)))
-        + at(key_at(of, Key_in_place.Pri), pri_faults(task))
-        + at(key_at(of, Key_in_place.Start), optional(boolean_faults, get_member(codes('start'), task)))
-        + at(key_at(of, Key_in_place.Code), required(code_faults, get_member(codes('code'), task)))
+        + at(key_at(of, Key.Name), required(partial(name_faults, before), get_member(codes('name'), task)))
+        + at(key_at(of, Key.Pri), pri_faults(task))
+        + at(key_at(of, Key.Start), optional(boolean_faults, get_member(codes('start'), task)))
+        + at(key_at(of, Key.Code), required(code_faults, get_member(codes('code'), task)))
     )
 
 # the keys of the table of a task
@@ -6737,7 +6666,7 @@ def machine_of(tree):
         regions=regions_in(tree),
         libraries=of_items(library_of, libraries_in(tree)),
         softints=softints_of([], softints_in(tree)),
-        servers=servers_of_in_File(shared_after_softints(tree), servers_in(tree)),
+        servers=servers_of(shared_after_softints(tree), servers_in(tree)),
         tasks=tasks_of(shared_after_servers(tree), tasks_in(tree)),
     )
 
@@ -6760,7 +6689,7 @@ def pool_of(tree):
 # library_of : Data → LibraryData  [taskscript/specs/File.antt:195]
 def library_of(library):
     return LibraryData(
-        name=name_of_in_File(library),
+        name=name_in_table(library),
         version=number_or(0, get_member(codes('version'), members_or_none(library))),
         size=number_or(0, get_member(codes('size'), members_or_none(library))),
     )
@@ -6788,7 +6717,7 @@ def with_bodies(of, shared, items):
 # the software interrupt that a table is, after the shared variables that were seen before it
 # softint_of : List (List ℕ) → Data → SoftintData  [taskscript/specs/File.antt:290]
 def softint_of(shared, softint):
-    return SoftintData(name=name_of_in_File(softint), pri=pri_of(softint), code=code_of(shared, code_lines(softint)))
+    return SoftintData(name=name_in_table(softint), pri=pri_of(softint), code=code_of(shared, code_lines(softint)))
 
 # the priority in a table, 0 if it has none
 # pri_of : Data → ℤ  [taskscript/specs/File.antt:115]
@@ -6797,14 +6726,14 @@ def pri_of(owner):
 
 # the servers that an array is
 # servers_of : List (List ℕ) → Items → List ServerData  [taskscript/specs/File.antt:312]
-def servers_of_in_File(shared, servers):
+def servers_of(shared, servers):
     return with_bodies(server_of, shared, servers)
 
 # the server that a table is
 # server_of : List (List ℕ) → Data → ServerData  [taskscript/specs/File.antt:302]
 def server_of(shared, server):
     return ServerData(
-        name=name_of_in_File(server),
+        name=name_in_table(server),
         source=server_source_of(server),
         pri=pri_of(server),
         claim=claim_of(server),
@@ -6830,7 +6759,7 @@ def tasks_of(shared, tasks):
 # task_of : List (List ℕ) → Data → TaskData  [taskscript/specs/File.antt:282]
 def task_of(shared, task):
     return TaskData(
-        name=name_of_in_File(task),
+        name=name_in_table(task),
         pri=pri_of(task),
         start=start_of(task),
         code=code_of(shared, code_lines(task)),
@@ -6904,7 +6833,7 @@ def check(good, fault):
 # [taskscript/specs/Tree.antt]
 
 # each key of the table is one of those listed
-# keys_are_among : List (List ℕ) → Members → Bool  [taskscript/specs/Tree.antt:27]
+# keys_are_among : List (List ℕ) → Members → Bool  [taskscript/specs/Tree.antt:28]
 def keys_are_among(listed, members):
     match members:
         case Members.no_members: return True
@@ -6913,7 +6842,7 @@ def keys_are_among(listed, members):
         case _: raise NoCase('keys_are_among')
 
 # a key that may be absent
-# optional : {F : Type 0} → (Data → List F) → Option Data → List F  [taskscript/specs/Tree.antt:22]
+# optional : {F : Type 0} → (Data → List F) → Option Data → List F  [taskscript/specs/Tree.antt:23]
 def optional(judge, value):
     match value:
         case None: return []
@@ -6921,14 +6850,14 @@ def optional(judge, value):
         case _: raise NoCase('optional')
 
 # an integer from low to high
-# integer_faults : ℤ → ℤ → Data → List FileFault  [taskscript/specs/Tree.antt:39]
+# integer_faults : ℤ → ℤ → Data → List FileFault  [taskscript/specs/Tree.antt:40]
 def integer_faults(low, high, data):
     match data:
         case Data.integer(z): return check(low <= z and z <= high, FileFault.BadValue)
         case _: return [FileFault.BadValue]
 
 # an array of at most as many items as it may have, which are then judged in their order
-# array_faults : Array → (Items → List Refused) → Data → List Refused  [taskscript/specs/Tree.antt:78]
+# array_faults : Array → (Items → List Refused) → Data → List Refused  [taskscript/specs/Tree.antt:79]
 def array_faults(of, judge, data):
     match data:
         case Data.array(items):
@@ -6936,7 +6865,7 @@ def array_faults(of, judge, data):
         case _: return [refused(array_at(of), FileFault.BadValue)]
 
 # the number of the items of an array
-# count_items : Items → ℕ  [taskscript/specs/Tree.antt:73]
+# count_items : Items → ℕ  [taskscript/specs/Tree.antt:74]
 def count_items(items):
     match items:
         case Items.no_items: return 0
@@ -6944,7 +6873,7 @@ def count_items(items):
         case _: raise NoCase('count_items')
 
 # the items of an array from that number on, each judged by itself
-# items_faults : (ℕ → Data → List Refused) → ℕ → Items → List Refused  [taskscript/specs/Tree.antt:83]
+# items_faults : (ℕ → Data → List Refused) → ℕ → Items → List Refused  [taskscript/specs/Tree.antt:84]
 def items_faults(judge, number, items):
     match items:
         case Items.no_items: return []
@@ -6952,14 +6881,14 @@ def items_faults(judge, number, items):
         case _: raise NoCase('items_faults')
 
 # a table, which is then judged; what is none has its fault at that place
-# table_faults : Place → (Members → List Refused) → Data → List Refused  [taskscript/specs/Tree.antt:34]
+# table_faults : Place → (Members → List Refused) → Data → List Refused  [taskscript/specs/Tree.antt:35]
 def table_faults(place, judge, data):
     match data:
         case Data.table(members): return judge(members)
         case _: return [refused(place, FileFault.BadValue)]
 
 # a key that has to be there
-# required : (Data → List FileFault) → Option Data → List FileFault  [taskscript/specs/Tree.antt:17]
+# required : (Data → List FileFault) → Option Data → List FileFault  [taskscript/specs/Tree.antt:18]
 def required(judge, value):
     match value:
         case None: return [FileFault.MissingKey]
@@ -6967,19 +6896,19 @@ def required(judge, value):
         case _: raise NoCase('required')
 
 # a priority, of the key `pri`
-# pri_faults : Members → List FileFault  [taskscript/specs/Tree.antt:44]
+# pri_faults : Members → List FileFault  [taskscript/specs/Tree.antt:45]
 def pri_faults(owner):
     return optional(partial(integer_faults, -128, 127), get_member(codes('pri'), owner))
 
 # the items of an array, none of another value
-# items_or_none : Option Data → Items  [taskscript/specs/Tree.antt:128]
+# items_or_none : Option Data → Items  [taskscript/specs/Tree.antt:129]
 def items_or_none(data):
     match data:
         case Some(Data.array(items)): return items
         case _: return Items.no_items
 
 # what some items are, each by itself
-# of_items : {X : Type 0} → (Data → X) → Items → List X  [taskscript/specs/Tree.antt:138]
+# of_items : {X : Type 0} → (Data → X) → Items → List X  [taskscript/specs/Tree.antt:139]
 def of_items(of, items):
     match items:
         case Items.no_items: return []
@@ -6987,38 +6916,38 @@ def of_items(of, items):
         case _: raise NoCase('of_items')
 
 # the number that a value is, or another one if it is none
-# number_or : ℕ → Option Data → ℕ  [taskscript/specs/Tree.antt:110]
+# number_or : ℕ → Option Data → ℕ  [taskscript/specs/Tree.antt:111]
 def number_or(otherwise, value):
     return unsigned_abs(integer_or(otherwise, value))
 
 # the integer that a value is, or another one if it is none
-# integer_or : ℤ → Option Data → ℤ  [taskscript/specs/Tree.antt:101]
+# integer_or : ℤ → Option Data → ℤ  [taskscript/specs/Tree.antt:102]
 def integer_or(otherwise, data):
     match data:
         case Some(Data.integer(z)): return z
         case _: return otherwise
 
 # the members of a table, none of another value
-# members_or_none : Data → Members  [taskscript/specs/Tree.antt:133]
+# members_or_none : Data → Members  [taskscript/specs/Tree.antt:134]
 def members_or_none(data):
     match data:
         case Data.table(members): return members
         case _: return Members.no_members
 
 # the priority, 0 if there is none
-# pri_in : Members → ℤ  [taskscript/specs/Tree.antt:106]
+# pri_in : Members → ℤ  [taskscript/specs/Tree.antt:107]
 def pri_in(owner):
     return integer_or(0, get_member(codes('pri'), owner))
 
 # the bytes of a string, none of another value
-# string_or_nothing : Option Data → List ℕ  [taskscript/specs/Tree.antt:119]
+# string_or_nothing : Option Data → List ℕ  [taskscript/specs/Tree.antt:120]
 def string_or_nothing(data):
     match data:
         case Some(Data.string(s)): return s
         case _: return []
 
 # a name that is none of the names before it
-# name_faults : List (List ℕ) → Data → List FileFault  [taskscript/specs/Tree.antt:68]
+# name_faults : List (List ℕ) → Data → List FileFault  [taskscript/specs/Tree.antt:69]
 def name_faults(before, data):
     match data:
         case Data.string(s):
@@ -7027,19 +6956,19 @@ def name_faults(before, data):
         case _: return [FileFault.BadValue]
 
 # the faults of the priority of a software interrupt, which is -32, -16, 0, 16 or 32
-# softint_pri_faults : Data → List FileFault  [taskscript/specs/Tree.antt:53]
+# softint_pri_faults : Data → List FileFault  [taskscript/specs/Tree.antt:54]
 def softint_pri_faults(data):
     match data:
         case Data.integer(z): return check(is_softint_pri(z), FileFault.BadValue)
         case _: return [FileFault.BadValue]
 
 # the priority of a software interrupt (RKM Libraries, Exec Interrupts: software interrupts)
-# is_softint_pri : ℤ → Bool  [taskscript/specs/Tree.antt:48]
+# is_softint_pri : ℤ → Bool  [taskscript/specs/Tree.antt:49]
 def is_softint_pri(pri):
     return pri == -32 or pri == -16 or pri == 0 or pri == 16 or pri == 32
 
 # an array of strings, of which there are at most 1,024
-# code_faults : Data → List FileFault  [taskscript/specs/Tree.antt:94]
+# code_faults : Data → List FileFault  [taskscript/specs/Tree.antt:95]
 def code_faults(data):
     match data:
         case Data.array(items):
@@ -7047,7 +6976,7 @@ def code_faults(data):
         case _: return [FileFault.BadValue]
 
 # each item of an array is a string
-# are_strings : Items → Bool  [taskscript/specs/Tree.antt:88]
+# are_strings : Items → Bool  [taskscript/specs/Tree.antt:89]
 def are_strings(items):
     match items:
         case Items.no_items: return True
@@ -7056,26 +6985,26 @@ def are_strings(items):
         case _: raise NoCase('are_strings')
 
 # the name of a source
-# source_faults : Data → List FileFault  [taskscript/specs/Tree.antt:58]
+# source_faults : Data → List FileFault  [taskscript/specs/Tree.antt:59]
 def source_faults(data):
     match data:
         case Data.string(s): return check(is_some(source_of(s)), FileFault.BadValue)
         case _: return [FileFault.BadValue]
 
 # the faults of a boolean
-# boolean_faults : Data → List FileFault  [taskscript/specs/Tree.antt:63]
+# boolean_faults : Data → List FileFault  [taskscript/specs/Tree.antt:64]
 def boolean_faults(data):
     match data:
         case Data.boolean(b): return []
         case _: return [FileFault.BadValue]
 
 # the source that the key `source` names
-# source_in : Members → Source  [taskscript/specs/Tree.antt:124]
+# source_in : Members → Source  [taskscript/specs/Tree.antt:125]
 def source_in(owner):
-    return unwrap_or(source_of(string_or_nothing(get_member(codes('source'), owner))), Source_in_script_source.Ports)
+    return unwrap_or(source_of(string_or_nothing(get_member(codes('source'), owner))), Source.Ports)
 
 # the boolean that a value is, or another one if it is none
-# boolean_or : Bool → Option Data → Bool  [taskscript/specs/Tree.antt:114]
+# boolean_or : Bool → Option Data → Bool  [taskscript/specs/Tree.antt:115]
 def boolean_or(otherwise, data):
     match data:
         case Some(Data.boolean(b)): return b
@@ -7086,32 +7015,32 @@ def boolean_or(otherwise, data):
 
 # a task: its name (1 to 31 characters), its priority (-128 to 127), whether it is added at the start, and its commands
 # in the order of its lines
-# [script/specs/File.antt:7]
+# [script/specs/File.antt:8]
 TaskData = record('TaskData', 'name', 'pri', 'start', 'code')
 
 # a library: its name, its version (0 to 65535), and the bytes of memory that it takes while it is loaded (8 to 65536)
-# [script/specs/File.antt:14]
+# [script/specs/File.antt:15]
 LibraryData = record('LibraryData', 'name', 'version', 'size')
 
 # a software interrupt: its name, its priority (-32, -16, 0, 16 or 32), and its commands in the order of its lines
-# [script/specs/File.antt:20]
+# [script/specs/File.antt:21]
 SoftintData = record('SoftintData', 'name', 'pri', 'code')
 
 # a server: its name, the source that it serves, its priority (-128 to 127), whether it ends the chain of its source,
 # and its commands in the order of its lines
-# [script/specs/File.antt:27]
+# [script/specs/File.antt:28]
 ServerData = record('ServerData', 'name', 'source', 'pri', 'claim', 'code')
 
 # a machine: the version of its rules (1 or 2), the quantum in servings of VERTB (1 to 255), the microseconds of a tick
 # (1 to 1,000,000), the number of objects of each kind that may live (1 to 1,024), and its regions of memory, its
 # libraries, its software interrupts, its servers and its tasks, each in the order of the file; the first task is task 1
-# [script/specs/File.antt:36]
+# [script/specs/File.antt:37]
 MachineData = record(
     'MachineData', 'version', 'quantum', 'tick_micros', 'pool', 'regions', 'libraries', 'softints', 'servers', 'tasks'
 )
 
 # the bytes that all regions may have together: 1,048,576 in version 1, and 4,194,304 in version 2 (project rule)
-# total_of : ℕ → ℕ  [script/specs/File.antt:48]
+# total_of : ℕ → ℕ  [script/specs/File.antt:49]
 def total_of(version):
     return 1_048_576 if version == 1 else 4_194_304
 
@@ -7136,7 +7065,9 @@ def get_member(k, members):
             return (
                 get_member(k, ms)
                 if slice_cmp(nat_cmp, k, l) < 0
-                else Some(d) if slice_cmp(nat_cmp, k, l) == 0 else get_member(k, ms)
+                else Some(d)
+                if slice_cmp(nat_cmp, k, l) == 0
+                else get_member(k, ms)
             )
         case _: raise NoCase('get_member')
 
@@ -7161,7 +7092,7 @@ def lines_faults(owner, item, number, setting, names, before, items):
         case []: return []
         case [line, *others]:
             return (
-                at(line_at(owner, item, number), line_faults(setting, names, before, says_in_Meaning(line)))
+                at(line_at(owner, item, number), line_faults(setting, names, before, line_meaning(line)))
                 + lines_faults(owner, item, number + 1, setting, names, before + labels_of([line]), others)
             )
         case _: raise NoCase('lines_faults')
@@ -7182,14 +7113,14 @@ def line_faults(setting, names, before, line_data):
             return (
                 check(names_softints(setting, c), FileFault.BadCommand)
                 + check(may_stand(setting, c), FileFault.NotInInterrupt)
-                + check(all(is_within_in_Numbering(variable_in(names, v)) for v in variables_of(c)), FileFault.TooMany)
+                + check(all(keeps_variable_limits(variable_in(names, v)) for v in variables_of(c)), FileFault.TooMany)
             )
         case _: raise NoCase('line_faults')
 
 # the labels of those lines that are labels
 # labels_of : List (List ℕ) → List (List ℕ)  [taskscript/specs/Code.antt:39]
 def labels_of(lines):
-    return filter_map(lambda line: label_said(says_in_Meaning(line)), lines)
+    return filter_map(lambda line: label_said(line_meaning(line)), lines)
 
 # the label that a line is, if it is one
 # label_said : Option LineData → Option (List ℕ)  [taskscript/specs/Code.antt:28]
@@ -7206,7 +7137,7 @@ def names_of(shared, lines):
 # the commands of those lines that are commands
 # commands_of : List (List ℕ) → List NamedCommandData  [taskscript/specs/Code.antt:35]
 def commands_of(lines):
-    return filter_map(lambda line: command_said(says_in_Meaning(line)), lines)
+    return filter_map(lambda line: command_said(line_meaning(line)), lines)
 
 # the command that a line is, if it is one
 # command_said : Option LineData → Option NamedCommandData  [taskscript/specs/Code.antt:23]
@@ -7222,7 +7153,7 @@ def jumps_faults(owner, item, number, labels, items):
         case []: return []
         case [line, *others]:
             return (
-                at(line_at(owner, item, number), jumps_said(labels, command_said(says_in_Meaning(line))))
+                at(line_at(owner, item, number), jumps_said(labels, command_said(line_meaning(line))))
                 + jumps_faults(owner, item, number + 1, labels, others)
             )
         case _: raise NoCase('jumps_faults')
@@ -7239,8 +7170,7 @@ def jumps_said(labels, c):
 # jump_faults : List (List ℕ) → NamedCommandData → List FileFault  [taskscript/specs/Code.antt:76]
 def jump_faults(labels, c):
     return check(
-        all(any(name == each for each in labels) for name in labels_of_arguments(c.arguments)),
-        FileFault.BadLabel,
+        all(any(name == each for each in labels) for name in labels_of_arguments(c.arguments)), FileFault.BadLabel
     )
 
 # the shared names, as the bodies after it find them
@@ -7276,7 +7206,7 @@ def place_of(lines, name):
 # a line is the label of a name
 # is_label_of : List ℕ → List ℕ → Bool  [taskscript/specs/Code.antt:43]
 def is_label_of(name, line):
-    return option_map_or(partial(bytes_eq, name), label_said(says_in_Meaning(line)), False)
+    return option_map_or(partial(bytes_eq, name), label_said(line_meaning(line)), False)
 
 
 # ---- Names of the machine file. [script/specs/Names.antt]
@@ -7295,9 +7225,9 @@ def is_name_byte(b):
 # ---- What a line says, as the function that the relation determines. [taskscript/specs/Meaning.antt]
 
 # what a line says, if it says something
-# says : List ℕ → Option LineData  [taskscript/specs/Meaning.antt:10]
+# line_meaning : List ℕ → Option LineData  [taskscript/specs/Meaning.antt:10]
 @kept
-def says_in_Meaning(line):
+def line_meaning(line):
     return meaning().answer(fields(line))
 
 # Such a function is there, and by its type alone it is known: no definition and no proof sees more of it.
@@ -7331,12 +7261,12 @@ def softints_named_by(c):
 def softints_among(items, other_items):
     match items, other_items:
         case [kind, *kinds2], [a, *others]:
-            return cons_option(softint_named_in_Interrupting(kind, a), softints_among(kinds2, others))
+            return cons_option(softint_argument(kind, a), softints_among(kinds2, others))
         case _, _: return []
 
 # the name of a software interrupt that an argument of a kind is, if it is one
-# softint_named : Kind → NamedArgumentData → Option (List ℕ)  [taskscript/specs/Interrupting.antt:27]
-def softint_named_in_Interrupting(kind, named_argument_data):
+# softint_argument : Kind → NamedArgumentData → Option (List ℕ)  [taskscript/specs/Interrupting.antt:27]
+def softint_argument(kind, named_argument_data):
     match kind, named_argument_data:
         case Kind.Softint, NamedArgumentData.quoted(name): return Some(name)
         case _, _: return None
@@ -7384,22 +7314,22 @@ def variables_of_arguments(items):
         case _: raise NoCase('variables_of_arguments')
 
 # 32 private variables a body, 64 shared ones
-# is_within : Variable → Bool  [taskscript/specs/Numbering.antt:56]
-def is_within_in_Numbering(variable):
+# keeps_variable_limits : Variable → Bool  [taskscript/specs/Numbering.antt:56]
+def keeps_variable_limits(variable):
     match variable:
         case Variable.Private(n): return n < 32
         case Variable.Shared(n): return n < 64
-        case _: raise NoCase('is_within_in_Numbering')
+        case _: raise NoCase('keeps_variable_limits')
 
 # a variable by its number: its place among the names in order of first sight
 # variable_in : Names → NamedVariableData → Variable  [taskscript/specs/Numbering.antt:40]
 def variable_in(names, v):
-    if v.is_shared: return Variable.Shared(number_in_in_Numbering(names.shared, v.name))
-    return Variable.Private(number_in_in_Numbering(names.private, v.name))
+    if v.is_shared: return Variable.Shared(number_in(names.shared, v.name))
+    return Variable.Private(number_in(names.private, v.name))
 
 # the place of a name among those seen; after them, if it is new
 # number_in : List (List ℕ) → List ℕ → ℕ  [taskscript/specs/Numbering.antt:19]
-def number_in_in_Numbering(seen, name):
+def number_in(seen, name):
     return position_or_len(partial(bytes_eq, name), seen)
 
 # the names of the variables after some more of them
@@ -7480,7 +7410,7 @@ def fields(line):
 # reader : Meaning  [taskscript/specs/Reader.antt:128]
 @once
 def reader():
-    return Meaning(answer=line_of_in_Parsing)
+    return Meaning(answer=line_of)
 
 
 # ---- Which words the body of a software interrupt or of a server may have (project rule).
@@ -7527,7 +7457,7 @@ def is_port_of_interrupt(port_word):
 
 # the label or the command of the fields, if they are one
 # line_of : List (List ℕ) → Option LineData  [taskscript/specs/Parsing.antt:93]
-def line_of_in_Parsing(fields):
+def line_of(fields):
     return option_or(
         option_map(LineData.label_line, label_of(fields)), option_map(LineData.command_line, command_of(fields))
     )
@@ -7550,10 +7480,10 @@ def label_in(field):
 # the command of a line's fields, if they are one
 # command_of : List (List ℕ) → Option NamedCommandData  [taskscript/specs/Parsing.antt:74]
 def command_of(fields):
-    return with_word_in_Parsing(cut_target(fields)[0], cut_target(fields)[1])
+    return with_word(cut_target(fields)[0], cut_target(fields)[1])
 
 # with_word : Option (List ℕ) → List (List ℕ) → Option NamedCommandData  [taskscript/specs/Parsing.antt:60]
-def with_word_in_Parsing(target, items):
+def with_word(target, items):
     match items:
         case []: return None
         case [text, *after]:
@@ -7567,7 +7497,7 @@ def with_word_in_Parsing(target, items):
                     ),
                 ),
             )
-        case _: raise NoCase('with_word_in_Parsing')
+        case _: raise NoCase('with_word')
 
 # ◌>>=◌ : {A B : Type 0} → Option A → (A → Option B) → Option B  [taskscript/specs/Parsing.antt:41]
 def bind(x, f):
@@ -7619,7 +7549,7 @@ def argument_of(kind, field):
         case Kind.Value:
             return option_or(
                 option_map(NamedArgumentData.variable, variable_of(field)),
-                option_map(NamedArgumentData.number, number_of_in_Numbers(field)),
+                option_map(NamedArgumentData.number, number_of(field)),
             )
         case Kind.Label: return option_map(NamedArgumentData.label, identifier_in(field))
         case Kind.Name: return option_map(NamedArgumentData.quoted, quoted_in(field))
@@ -7684,8 +7614,8 @@ Array = data('Array', Region='', Library='', Softint='', Server='', Task='')
 
 # A key of a table that holds a value.
 # [taskscript/src/place.rt:52]
-Key_in_place = data(
-    'Key_in_place',
+Key = data(
+    'Key',
     Quantum='',
     TickMicros='',
     Pool='',
@@ -7816,8 +7746,8 @@ Turn = data('Turn', Came='who', Served='who', Left='who')
 # First come, first served: those who was in the queue at first and those who came, less those that left unserved, are
 # those who were served, in that order, followed by those who are in it at last.
 # IsInOrder : List ℕ → List Turn → List ℕ → Type 0  [execmodel/specs/Queues.antt:37]
-def IsInOrder(first, turns, last2):
-    return staying(turns, first) + comers(turns) == served(turns) + last2
+def IsInOrder(first, turns, last):
+    return staying(turns, first) + comers(turns) == served(turns) + last
 
 # of those who are in the queue, the ones that do not leave it unserved
 # staying : List Turn → List ℕ → List ℕ  [execmodel/specs/Queues.antt:18]
@@ -7863,8 +7793,8 @@ def turns_at_port(port, marks):
 
 # at a port a message comes by a put, is served by GetMsg, and leaves if WaitIO or DoIO takes it out
 # port_turn : ℕ → Mark → List Turn  [execmodel/specs/Marks.antt:10]
-def port_turn(address, mark):
-    match mark:
+def port_turn(address, this_mark):
+    match this_mark:
         case Mark.put(port, message): return turn_at(address, port, Turn.Came(message))
         case Mark.got(port, message): return turn_at(address, port, Turn.Served(message))
         case Mark.out(port, message): return turn_at(address, port, Turn.Left(message))
@@ -7881,8 +7811,8 @@ def turns_at_semaphore(semaphore, marks):
 
 # at a semaphore a task comes if it has to wait, is served if a release makes it the owner, and leaves if it is removed
 # semaphore_turn : ℕ → Mark → List Turn  [execmodel/specs/Marks.antt:17]
-def semaphore_turn(address, mark):
-    match mark:
+def semaphore_turn(address, this_mark):
+    match this_mark:
         case Mark.asked(semaphore, task): return turn_at(address, semaphore, Turn.Came(task))
         case Mark.passed(semaphore, task): return turn_at(address, semaphore, Turn.Served(task))
         case Mark.left(semaphore, task): return turn_at(address, semaphore, Turn.Left(task))
@@ -7892,12 +7822,12 @@ def semaphore_turn(address, mark):
 # ---- Laws of every run: of each machine that a file may state, and each list of events. [execmodel/specs/Laws.antt]
 
 # The clock has counted the ticks of the events, and nothing else; after an alert it has gained no more than these.
-# [execmodel/specs/Laws.antt:389]
+# [execmodel/specs/Laws.antt:381]
 def CountsTicks(machine, list_, s):
     return (
         s.memory.timer.tick_micros == machine.tick_micros
-        and (s.stopped or s.memory.timer.clock == sum(ticks_in_Events(each) for each in list_) * machine.tick_micros)
-        and s.memory.timer.clock <= sum(ticks_in_Events(each) for each in list_) * machine.tick_micros
+        and (s.stopped or s.memory.timer.clock == sum(event_ticks(each) for each in list_) * machine.tick_micros)
+        and s.memory.timer.clock <= sum(event_ticks(each) for each in list_) * machine.tick_micros
     )
 
 # If no task runs none is ready; if switching is allowed no ready task has a higher priority than the running one; and a
@@ -7913,7 +7843,7 @@ def IsSettled(s):
         )
         and all(
             not is_latched(asks, s.pending.latches) or not allows_interrupts(s.schedule)
-            for asks in [Source_in_softint_source.Ports, Source_in_softint_source.Vertb, Source_in_softint_source.Exter]
+            for asks in [Source.Ports, Source.Vertb, Source.Exter]
         )
     )
 
@@ -7995,7 +7925,7 @@ def AreArguments(items, other_items, other_items2):
 def IsArgument(kind, field, named_argument_data):
     match kind, named_argument_data:
         case Kind.Value, NamedArgumentData.variable(v): return IsVariable(field, v)
-        case Kind.Value, NamedArgumentData.number(n): return number_of_in_Numbers(field) == Some(n)
+        case Kind.Value, NamedArgumentData.number(n): return number_of(field) == Some(n)
         case Kind.Label, NamedArgumentData.label(n): return field == n and is_identifier(n)
         case Kind.Name, NamedArgumentData.quoted(n): return field == quote() + n + quote() and is_name(n)
         case Kind.NameOrNone, NamedArgumentData.quoted(n): return field == quote() + n + quote() and is_name(n)
@@ -8018,6 +7948,7 @@ def monus(a, b): return a - b if a > b else 0  # subtraction of naturals ends at
 def quotient(a, b): return a // b if b else 0  # to divide by 0 gives 0
 def remainder(a, b): return a % b if b else a  # and leaves the number
 def max_(a, b): return a if a > b else b  # the greater of two
+def min_(a, b): return a if a < b else b  # the lesser of two
 def nat_eq(a, b): return a == b
 def bit_not(width, a): return ((1 << width) - 1) ^ a  # of a number of that many bits
 def cast_signed(width, n): return n - (1 << width) if n >> (width - 1) else n  # a word that is read as one with a sign
@@ -8096,7 +8027,7 @@ def finmap_put(order, key, value, pairs):
 # RefusesEvents: a statement [execsim/specs/Headline.antt:86]
 # LacksMemory: a statement [execsim/specs/Headline.antt:93]
 # RunsShort: a statement [execsim/specs/Headline.antt:73]
-# document_of: only statements speak of it [taskscript/specs/Tree.antt:11]
+# document_of: only statements speak of it [taskscript/specs/Tree.antt:12]
 # TakesAll: a statement [exectrace/specs/Sink.antt:31]
 # end_of: only statements speak of it [execsim/specs/Headline.antt:50]
 # Breaks: a statement [exectrace/specs/Sink.antt:37]
@@ -8122,7 +8053,7 @@ LAWS = {
     'messages_of': messages_of,
     'waiters_of': waiters_of,
     'status_of': status_of,
-    'says': says_in_Meaning,
+    'says': line_meaning,
     'Says': Says,
     'fields': fields,
 }
@@ -8142,6 +8073,7 @@ import textwrap
 import threading
 import time
 import tomllib
+from functools import reduce
 
 LIMIT = 4_194_304
 
@@ -8150,34 +8082,23 @@ class _Unread(Exception):
     """A file that cannot be read."""
 
 
-def _name_of(value):
-    return type(value).__name__
-
-
 def _data_of(value):
     """The data of a TOML value."""
-    if isinstance(value, bool):
-        return Data.boolean(value)
-    if isinstance(value, int):
-        return Data.integer(value)
-    if isinstance(value, float):
-        return Data.float_(value)
-    if isinstance(value, str):
-        return Data.string(codes(value))
-    if isinstance(value, list):
-        items = Items.no_items
-        for it in reversed(value):
-            items = Items.item(_data_of(it), items)
-        return Data.array(items)
-    return Data.table(_members_of(value)) if isinstance(value, dict) else Data.datetime(value)
+    match value:
+        case bool(): return Data.boolean(value)
+        case int(): return Data.integer(value)
+        case float(): return Data.float_(value)
+        case str(): return Data.string(codes(value))
+        case list():
+            return Data.array(reduce(lambda rest, it: Items.item(_data_of(it), rest), reversed(value), Items.no_items))
+        case dict(): return Data.table(_members_of(value))
+    return Data.datetime(value)
 
 
 def _members_of(table):
     """The members of a TOML table, in the order of their keys."""
-    members = Members.no_members
-    for key in sorted(table, key=str.encode, reverse=True):
-        members = Members.member(codes(key), _data_of(table[key]), members)
-    return members
+    keys = sorted(table, key=str.encode, reverse=True)
+    return reduce(lambda members, it: Members.member(codes(it), _data_of(table[it]), members), keys, Members.no_members)
 
 
 def _float_of(digits):
@@ -8209,11 +8130,11 @@ def _outcome(machine, events):
     """The status of a run, what is printed, the line of a refusal, and all that came of it."""
     file = MACHINE_OF(machine)
     if isinstance(file, Err):
-        return 1, b"", f"execsim: machine: {_name_of(file.fault.fault)}", None
+        return 1, b"", f"execsim: machine: {type(file.fault.fault).__name__}", None
     script = EVENTS_OF(list(events))
     if isinstance(script, Err):
         fault = script.fault
-        said = [_name_of(fault), *(str(getattr(fault, it)) for it in getattr(fault, "__slots__", ()))]
+        said = [type(fault).__name__, *(str(getattr(fault, it)) for it in getattr(fault, "__slots__", ()))]
         return 1, b"", f"execsim: events: {' '.join(said)}", None
     done = RUN(file.value, script.value)
     return 3 if done.state.stopped else 0, bytes(PRINTED(done.lines)), "", (file.value, script.value, done)
@@ -8224,8 +8145,8 @@ def _read(path):
         with open(path, "rb") as file:
             text = file.read(LIMIT + 1)
     except OSError:
-        raise _Unread(f"execsim: cannot read {path}") from None
-    if len(text) > LIMIT:
+        text = None
+    if text is None or len(text) > LIMIT:
         raise _Unread(f"execsim: cannot read {path}")
     return text
 
@@ -8234,26 +8155,27 @@ def _watch(name, before):
     """Has a function called before each call of a definition."""
     inner = globals()[name]
 
-    def watched(*arguments):
+    def _watched(*arguments):
         before()
         return inner(*arguments)
 
-    globals()[name] = watched
+    globals()[name] = _watched
 
 
 def _show_progress(name, what):
     """Says on a terminal, once a second, how often a definition was used."""
     if not sys.stderr.isatty():
         return
-    state = {"count": 0, "next": time.monotonic() + 2}
+    count, last = 0, time.monotonic() + 1
 
-    def before():
-        state["count"] += 1
-        if time.monotonic() >= state["next"]:
-            state["next"] += 1
-            print(f"\r{state['count']} {what}", end="", file=sys.stderr, flush=True)
+    def _before():
+        nonlocal count, last
+        count += 1
+        if time.monotonic() >= last + 1:
+            last += 1
+            print(f"\r{count} {what}", end="", file=sys.stderr, flush=True)
 
-    _watch(name, before)
+    _watch(name, _before)
 
 
 def _run_files(machine, events):
@@ -8303,8 +8225,8 @@ def _difference(got, wanted):
 
 
 def _check(project, first=False, seconds=0, part="0/1", only=""):
-    """Runs all that is stored, or each Nth of it, or the runs of some names. Laws are asked of each too, unless the first
-    is sought that differs."""
+    """Runs all that is stored, or each Nth of it, or the runs of some names. Laws are asked of each too, unless the
+    first is sought that differs."""
     counts, wrong, begun = [0, 0], 0, time.monotonic()
     if not first:
         _check_lines()
@@ -8317,7 +8239,7 @@ def _check(project, first=False, seconds=0, part="0/1", only=""):
             *got, whole = _outcome(machine, events)
             told = _difference(got, (status, trace, said)) or (_broken_law(*whole) if whole and not first else "")
         except Exception as why:  # a mutant may break anything
-            told = f"{_name_of(why)}: {why}"
+            told = f"{type(why).__name__}: {why}"
         counts[name.startswith("recording")] += 1
         if told:
             wrong += 1
@@ -8339,7 +8261,7 @@ def _check_lines():
     name = LAWS["says"].__name__
     says, asked = LAWS["says"], set()
 
-    def checked(line):
+    def _checked(line):
         found = says(line)
         if found is not None and tuple(line) not in asked:
             asked.add(tuple(line))
@@ -8347,7 +8269,7 @@ def _check_lines():
                 raise NoCase(f"{bytes(line)} does not say {found.value}")
         return found
 
-    globals()[name] = checked
+    globals()[name] = _checked
 
 
 def _broken_law(file, script, done):
@@ -8428,39 +8350,36 @@ def _why(number, machine, events):
         return status if said else 2
     made = []
 
-    def definitions_at_work():
+    def _at_work():
         frame, names = sys._getframe(2), []
         while frame:
-            function = globals().get(frame.f_code.co_name)
-            if getattr(getattr(function, "__wrapped__", function), "__code__", None) is frame.f_code:
-                names.append(frame.f_code.co_name)
+            names += [frame.f_code.co_name] if frame.f_globals is globals() and frame.f_code.co_name in OWN else []
             frame = frame.f_back
-        return [it for it in names if it in OWN]
+        return names[::-1]
 
     # a line is made as its class is called; of one that is always the same value, as an outcome has it alone
-    def watched_class(kind, line_of):
+    def watch_class(kind, line_of):
         begin = kind.__init__
 
-        def watched(whole, *arguments, **named):
+        def _watched(whole, *arguments, **named):
             begin(whole, *arguments, **named)
-            line = line_of(whole)
-            if line is not None:
-                made.append((line, definitions_at_work()))
+            if (line := line_of(whole)) is not None:
+                made.append((line, _at_work()))
 
-        kind.__init__ = watched
+        kind.__init__ = _watched
 
     def lone_value(outcome):
         return outcome.lines[0] if len(outcome.lines) == 1 and not type(outcome.lines[0]).__slots__ else None
 
     for kind in {type(it) for it in done.lines if type(it).__slots__}:
-        watched_class(kind, lambda line: line)
-    watched_class(type(done), lone_value)
+        watch_class(kind, lambda line: line)
+    watch_class(type(done), lone_value)
     lines = RUN(MACHINE_OF(machine).value, EVENTS_OF(list(events)).value).lines
     line = lines[number - 1]
     print(bytes(PRINTED([line])).decode(errors="replace"), end="")
     before = sum(it is line for it in lines[:number - 1])
     names = ([names for it, names in made if it is line] + [[]] * number)[before if not type(line).__slots__ else 0]
-    for it in reversed(names):
+    for it in names:
         said = " ".join(part[2:] for part in _text_of(it) if part.startswith("# "))
         said = re.sub(r" *[^ ]+ : [^.]*\[[^\[]*$", "", said)
         print(f"  {it:24} {textwrap.shorten(said, 120)}")
@@ -8499,7 +8418,7 @@ def _begin():
     """Runs in a thread whose calls may go deep. Ctrl-C ends it."""
     ended = [4]
 
-    def inside():
+    def _inside():
         try:
             ended[0] = _main(sys.argv[1:])
         except _Unread as why:
@@ -8511,7 +8430,7 @@ def _begin():
 
     sys.setrecursionlimit(10_000_000)
     threading.stack_size(1 << 29)
-    thread = threading.Thread(target=inside, daemon=True)
+    thread = threading.Thread(target=_inside, daemon=True)
     thread.start()
     try:
         while thread.is_alive():

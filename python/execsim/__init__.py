@@ -249,7 +249,8 @@ _library = _load()
 
 
 def _as_bytes(text: Text) -> bytes:
-    return text.encode() if isinstance(text, str) else bytes(text)
+    # (a number is not a text: `bytes` alone would make as many zeros of it)
+    return text.encode() if isinstance(text, str) else bytes(memoryview(text))
 
 
 def _filled(call: typing.Callable[..., int], *given: typing.Any) -> tuple[int, str]:

@@ -4,13 +4,26 @@ import html.parser
 import http.server
 import os
 import pathlib
+import re
 import struct
 import subprocess
 import tempfile
 import zlib
 
+import callwords
+
 # Limits of time are twice what is asked for, and are judged only if the machine has less to do than it has processors.
 TWICE = 2
+# How often a time is taken, at most, and for how many parts of a hundred of the last minute some process of a quiet machine waits for a processor.
+MOST_TIMES, QUIET = 5, 25
+
+
+def waiting_for_processors():
+    """For how many parts of a hundred of the last minute some process waited for a processor; 0 if the kernel does not say it."""
+    try:
+        return float(re.search(r"some .*avg60=([0-9.]+)", pathlib.Path("/proc/pressure/cpu").read_text())[1])
+    except (OSError, TypeError):
+        return 0.0
 
 
 class Tally:
@@ -33,12 +46,16 @@ class Tally:
         self.skipped += 1
         print(f"page: SKIPPED: {why}")
 
-    def in_time(self, title, milliseconds, asked):
-        """Judges a time if the machine has little else to do."""
-        is_quiet = os.getloadavg()[0] < os.cpu_count()
-        print(f"page: {title}: {milliseconds:.0f} ms, of {asked} ms that are asked for{'' if is_quiet else ', on a machine with much else to do'}")
-        if is_quiet or milliseconds <= asked:
-            self.judge(title, milliseconds <= TWICE * asked, f"{milliseconds:.0f} ms")
+    def in_time(self, title, measure, asked):
+        """Judges the least of some times, each in milliseconds as `measure` takes it, up to the first that is short enough. If none is, it is a failure
+        if the machine has little else to do."""
+        times = [measure()]
+        while times[-1] > asked and len(times) < MOST_TIMES:
+            times.append(measure())
+        least, is_quiet = min(times), os.getloadavg()[0] < os.cpu_count() and waiting_for_processors() < QUIET
+        print(f"page: {title}: {least:.0f} ms, of {asked} ms that are asked for{'' if is_quiet else ', on a machine with much else to do'}")
+        if is_quiet or least <= TWICE * asked:
+            self.judge(title, least <= TWICE * asked, f"{times} ms")
         else:
             self.skip(f"{title} was not judged")
 
@@ -84,8 +101,8 @@ class Native:
             pathlib.Path(folder, "run.events").write_bytes(events)
             words = [self.room / command, *map(str, options), "machine.toml", "run.events"]
             ran = subprocess.run(words, cwd=folder, stdin=subprocess.DEVNULL, capture_output=True, check=False)
-        said = ran.stderr.removeprefix(f"{command}: ".encode()).removesuffix(b"\n")
-        return ran.returncode, ran.stdout or said
+        said = callwords.said(ran.stderr.decode(errors="replace")).removeprefix(f"{command}: ").removesuffix("\n")
+        return ran.returncode, ran.stdout or said.encode()
 
     def all(self, asked):
         """The same for each of a list, several at a time."""

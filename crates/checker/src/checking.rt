@@ -1,12 +1,12 @@
 //! What is found in the texts at the paths, and the status that comes of it.
 ghost use Rattle.std.specs.Prelude.{◌≡◌, ◌≢◌, ◌≤◌, ◌⊎◌, ◌↔◌, [], true, false, IfErr, IfOk};
-ghost use Rattle.checker.specs.Judging.{IsRefusedMachine, IsRefusedScript, JudgesEvents, JudgesTexts};
+ghost use Rattle.checker.specs.{Failing.IsOfText, Failing.failure_of, Judging.IsRefusedMachine, Judging.IsRefusedScript, Judging.JudgesEvents, Judging.JudgesTexts};
 ghost use Rattle.execrun.specs.Texts.{IsTextAt};
 
 use crate::command_line::Paths;
 use crate::failure::Failure;
 use execadvice::{check_events, check_machine};
-use execrun::{Fault, Texts, read_text};
+use execrun::{TextFault, Texts, read_text};
 use runadvice::check_run;
 use std::alloc::Global;
 use std::io::Write;
@@ -20,15 +20,25 @@ const REFUSED: u8 = 1;
 /// The status if there are warnings, or an alert ended the run, and no text is refused.
 const WARNED: u8 = 3;
 
+/// Why the text at a path is not at hand.
+fn failure_of(path: &str, fault: TextFault) -> Failure<'_>
+    ensures is { result ≡ failure_of path.entry fault }
+    ensures of_text { IsOfText path.entry result }
+{
+    match fault {
+        TextFault::NoMemory => Failure::NoMemory,
+        TextFault::CannotRead(why) => Failure::CannotRead(path, why),
+    }
+}
+
 /// The bytes of the text at a path.
 fn text_at<'a, T: Texts>(texts: &T, alloc: Global, path: &'a str) -> Result<Vec<u8>, Failure<'a>>
     ensures bytes { IfOk result (λ bytes. IsTextAt (T.text_at texts.now) path.now bytes.items) }
-    ensures failure { IfErr result (λ failure. (failure ≡ Failure.NoMemory) ⊎ (failure ≡ Failure.CannotRead path.entry)) }
+    ensures failure { IfErr result (IsOfText path.entry) }
 {
     match read_text(texts, alloc, path) {
         Ok(bytes) => Ok(bytes),
-        Err(Fault::NoMemory) => Err(Failure::NoMemory),
-        Err(_) => Err(Failure::CannotRead(path)),
+        Err(fault) => Err(failure_of(path, fault)),
     }
 }
 

@@ -1,7 +1,8 @@
 //! Why there is no answer, and what the program says of it.
-ghost use Rattle.std.specs.Prelude.{◌≡◌};
+ghost use Rattle.std.specs.Prelude.{◌≡◌, ◌++◌, IfOk, codes, string_bytes};
+ghost use Rattle.execrun.specs.Unread.{unread_text};
 
-use escape::shown_text;
+use execrun::{CannotRead, Unread};
 use std::alloc::{AllocError, Global};
 use std::io::Write;
 
@@ -16,8 +17,8 @@ const NO_MEMORY: &[u8] = b"execcheck: no memory\n";
 pub enum Failure<'a> {
     /// Memory was refused.
     NoMemory,
-    /// The file at this path could not be read, or is longer than the limit.
-    CannotRead(&'a str),
+    /// The file at this path cannot be read, and why.
+    CannotRead(&'a str, Unread),
     /// Standard output did not take all that was to be written.
     WriteFailed,
 }
@@ -28,10 +29,11 @@ impl From<AllocError> for Failure<'_> {
     }
 }
 
-/// What is said of a file that could not be read. The path is shown with the characters escaped that a terminal obeys.
-fn cannot_read_text(alloc: Global, path: &str) -> Result<String, AllocError> {
-    let path = shown_text(alloc, path)?;
-    format!(in alloc; "execcheck: cannot read {path}\n")
+/// What is said of a file that cannot be read.
+fn cannot_read_text(alloc: Global, path: &str, why: Unread) -> Result<String, AllocError>
+    ensures { IfOk result (λ text. string_bytes text ≡ codes "execcheck: " ++ (unread_text path.now why ++ codes "\n")) }
+{
+    format!(in alloc; "execcheck: {}\n", CannotRead(path, why))
 }
 
 /// Says on standard error, in one write, why there is no answer, and answers the status that represents that. A write that fails there changes
@@ -42,7 +44,7 @@ pub fn report<E: Write>(alloc: Global, failure: &Failure<'_>, err: &mut E) -> u8
     let _ = match failure {
         Failure::NoMemory => err.write_all(NO_MEMORY),
         Failure::WriteFailed => err.write_all(b"execcheck: write failed\n"),
-        Failure::CannotRead(path) => match cannot_read_text(alloc, path) {
+        Failure::CannotRead(path, why) => match cannot_read_text(alloc, path, *why) {
             Ok(text) => err.write_all(text.as_str().as_bytes()),
             Err(_) => err.write_all(NO_MEMORY),
         },

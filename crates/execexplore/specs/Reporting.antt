@@ -2,7 +2,8 @@
 use Rattle.std.specs.Prelude.{ℕ, ◌++◌, List, [], ◌∷◌, Option, option_map, codes, length, map, decimal, flat_map, string_bytes}
 use Rattle.escape.specs.Shown.{shown}
 use Rattle.script.specs.declared.event.Event.TheVariants.{Run, Tick, Irq}
-use Rattle.script.specs.{Sources.source_text, declared.event.Event.Event}
+use Rattle.script.specs.declared.event.Event.{Event}
+use Rattle.softint.specs.Sources.{source_text}
 use Rattle.ways.specs.{Ways.part_of, Ways.ways, Tables.Entry, Tables.number_where, Tables.table_of, declared.visiting.Window.Window}
 use Rattle.wayrun.specs.{Seen.is_alerted, Seen.seen_of, Words.see_text, declared.see.See.See}
 use Rattle.wayreport.specs.{Reports.ReportData, Reports.told, declared.report.Part.Part}

@@ -2,7 +2,7 @@
 ghost use Rattle.std.specs.Prelude.{◌≤◌};
 
 use escape::Shown;
-use execrun::Fault;
+use execrun::{CannotRead, TextFault, Unread};
 use std::alloc::{AllocError, AllocFailed};
 use std::fmt;
 use std::io::Write;
@@ -15,8 +15,8 @@ use ways::SearchFault;
 pub enum Failure<'a> {
     /// Memory was refused.
     NoMemory,
-    /// The file at this path could not be read, or is longer than the limit.
-    CannotRead(&'a str),
+    /// The file at this path cannot be read, and why.
+    CannotRead(&'a str, Unread),
     /// Standard output did not take all that was to be written.
     WriteFailed,
     /// The machine file is refused.
@@ -61,14 +61,12 @@ impl From<SearchFault> for Failure<'_> {
     }
 }
 
-impl<'a> From<Fault<'a>> for Failure<'a> {
-    fn from(fault: Fault<'a>) -> Self {
+impl<'a> Failure<'a> {
+    /// Why the text at a path is not at hand.
+    pub(crate) fn of_text(path: &'a str, fault: TextFault) -> Failure<'a> {
         match fault {
-            Fault::Machine(fault) => Failure::Machine(fault),
-            Fault::Events(fault) => Failure::Events(fault),
-            Fault::NoMemory => Failure::NoMemory,
-            Fault::CannotRead(path) => Failure::CannotRead(path),
-            Fault::WriteFailed => Failure::WriteFailed,
+            TextFault::NoMemory => Failure::NoMemory,
+            TextFault::CannotRead(why) => Failure::CannotRead(path, why),
         }
     }
 }
@@ -82,7 +80,7 @@ impl Failure<'_> {
     {
         match self {
             Failure::Machine(_) | Failure::Events(_) => 1,
-            Failure::NoMemory | Failure::CannotRead(_) | Failure::WriteFailed => 4,
+            Failure::NoMemory | Failure::CannotRead(_, _) | Failure::WriteFailed => 4,
             _ => 2,
         }
     }
@@ -161,7 +159,7 @@ impl fmt::Display for Failure<'_> {
     fn fmt<W: fmt::Write>(&self, f: &mut fmt::Formatter<W>) -> fmt::Result {
         match self {
             Failure::NoMemory => f.write_str("no memory"),
-            Failure::CannotRead(path) => write!(f, "cannot read {}", Shown(path)),
+            Failure::CannotRead(path, why) => write!(f, "{}", CannotRead(path, *why)),
             Failure::WriteFailed => f.write_str("write failed"),
             Failure::Machine(fault) => write!(f, "machine: {}", fault.name()),
             Failure::Events(fault) => show_event_fault(*fault, f),

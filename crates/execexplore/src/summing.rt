@@ -1,10 +1,10 @@
 //! The sum of reports, from their texts to the text of the whole.
 use crate::failure::Failure;
 use crate::whole::Answer;
-use execrun::Texts;
+use execrun::{TextFault, Texts};
 use std::alloc::Global;
 use std::io;
-use std::io::{ErrorKind, Read};
+use std::io::Read;
 use wayreport::{
     REPORT_LIMIT, Report, ReportFault, SumFault, read_report, report_text, sum_reports,
 };
@@ -21,8 +21,7 @@ fn read_whole<T: Texts>(texts: &T, alloc: Global, path: &str) -> io::Result<Vec<
 fn report_at<'a, T: Texts>(texts: &T, alloc: Global, path: &'a str) -> Result<Report, Failure<'a>> {
     let bytes = match read_whole(texts, alloc, path) {
         Ok(bytes) => bytes,
-        Err(error) if error.kind() == ErrorKind::OutOfMemory => return Err(Failure::NoMemory),
-        Err(_) => return Err(Failure::CannotRead(path)),
+        Err(error) => return Err(Failure::of_text(path, TextFault::from(error))),
     };
     match read_report(alloc, &bytes) {
         Ok(report) => Ok(report),

@@ -98,6 +98,14 @@ pub fn frame_in<'a>(
     })
 }
 
+/// The bytes of the text at a path.
+fn text_at<'a, T: Texts>(texts: &T, alloc: Global, path: &'a str) -> Result<Vec<u8>, Failure<'a>> {
+    match read_text(texts, alloc, path) {
+        Ok(bytes) => Ok(bytes),
+        Err(fault) => Err(Failure::of_text(path, fault)),
+    }
+}
+
 /// What is searched, by the texts at both paths and the options. Nothing is judged before both are read.
 pub fn frame_of<'a, T: Texts>(
     texts: &T,
@@ -105,8 +113,8 @@ pub fn frame_of<'a, T: Texts>(
     paths: Paths<'a>,
     options: &Options<'a>,
 ) -> Result<Frame, Failure<'a>> {
-    let machine = read_text(texts, alloc, paths.machine)?;
-    let events = read_text(texts, alloc, paths.events)?;
+    let machine = text_at(texts, alloc, paths.machine)?;
+    let events = text_at(texts, alloc, paths.events)?;
     frame_in(alloc, &machine, &events, options)
 }
 

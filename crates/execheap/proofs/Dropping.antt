@@ -82,8 +82,8 @@ module _ (s : Numbered) (n semaphore : ℕ) (found : number_at variant.Semaphore
   pub obtained_heap : shown_heap (on_semaphores (sems.obtained n t) s) ≡ model.obtained semaphore t (shown_heap s)
   unfolding model.obtained
   obtained_heap =
-      either (sems.is_open t (sems.sem_at n s.sems))
-      ∙ ap (λ sem. if sems.is_open t sem then model.entered semaphore t (shown_heap s) else model.queued semaphore t (shown_heap s))
+      either (sems.is_free_for t (sems.sem_at n s.sems))
+      ∙ ap (λ sem. if sems.is_free_for t sem then model.entered semaphore t (shown_heap s) else model.queued semaphore t (shown_heap s))
       (sym (sem_shown s semaphore n found))
     where
       either : (b : Bool) → shown_heap (on_semaphores (λ m. if b then sems.entered n t m else sems.queued n t m) s)

@@ -1,7 +1,7 @@
 -- What calls on semaphores leave alone.
 use Rattle.std.proofs.Common.{◌≡◌, ℕ, Bool, true, false, length, refl, ap, sym, ◌∙◌, subst, Some, None, Option, Ok, Result, is_ok, if◌then◌else◌, IsTrue, length-set}
 use Rattle.execlist.specs.{Order.first, Answers.fault_or, Answers.kept_or}
-use Rattle.sigsem.specs.Semaphores.{Semaphores, attempted, dropped, dropped_from, entered, free_sem, handed_on, is_last, is_open, is_sem, let_go, obtained, once_less, once_more, owned_by, queued, sem_at, waiters_of, waits_at, with_sem}
+use Rattle.sigsem.specs.Semaphores.{Semaphores, attempted, dropped, dropped_from, entered, free_sem, handed_on, is_last, is_free_for, is_sem, let_go, obtained, once_less, once_more, owned_by, queued, sem_at, waiters_of, waits_at, with_sem}
 use Rattle.sigsem.specs.{declared.fault.SemFault.SemFault, declared.semaphore.Sem.Sem}
 use Rattle.execheap.specs.{declared.tag.Kind.Kind, Table.pool_of, Numbered.Numbered, Numbered.Fits, Numbered.IsKept, Numbered.own_shape, Numbered.shape}
 use Rattle.execheap.specs.declared.tag.Kind.TheVariants as variant
@@ -28,13 +28,13 @@ pub kept_queued : (n t : ℕ) (m : Semaphores) → IsAlike m (queued n t m)
 kept_queued n t m = record { same = refl; each_task = length-set m.places t (Some n) }
 
 pub kept_attempted : (n t : ℕ) (m : Semaphores) → IsTrue (is_sem n m) → IsAlike m (attempted n t m)
-kept_attempted n t m lives = by_case (is_open t (sem_at n m)) where
+kept_attempted n t m lives = by_case (is_free_for t (sem_at n m)) where
   by_case : (b : Bool) → IsAlike m (if b then entered n t m else m)
   by_case true = kept_written n (once_more t (sem_at n m)) m lives
   by_case false = kept_same m
 
 pub kept_obtained : (n t : ℕ) (m : Semaphores) → IsTrue (is_sem n m) → IsAlike m (obtained n t m)
-kept_obtained n t m lives = by_case (is_open t (sem_at n m)) where
+kept_obtained n t m lives = by_case (is_free_for t (sem_at n m)) where
   by_case : (b : Bool) → IsAlike m (if b then entered n t m else queued n t m)
   by_case true = kept_written n (once_more t (sem_at n m)) m lives
   by_case false = kept_queued n t m

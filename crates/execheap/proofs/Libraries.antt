@@ -59,8 +59,8 @@ module _ (s : Numbered) (sound : IsSound s.table) (i : ℕ) where
     unfolding is_library_at
     library_there = ap (is_kind is_library) library_begins
 
-    pub number_there : model.number_of a (shown_heap s) ≡ i
-    unfolding model.number_of
+    pub number_there : model.library_number_at a (shown_heap s) ≡ i
+    unfolding model.library_number_at
     number_there = ap (λ o. option_map_or model.library_number o 0) library_begins
 
     pub count_there : model.count_of a (shown_heap s) ≡ count_of i s.table.libs
@@ -184,7 +184,7 @@ module _ (s : Numbered) (sound : IsSound s.table) (formed : IsWellFormed s.table
         (λ same. ap (λ n. shown_tagged (changed (Some l)) (tag.Library n)) same ∙ here l known)
         (λ other. beside (Some l) j other)
 
-    heap_is : shown_heap (changed (Some l)) ≡ map (replaced a (Library (model.number_of a (shown_heap s)) l.count l.delayed_expunge)) (shown_heap s)
+    heap_is : shown_heap (changed (Some l)) ≡ map (replaced a (Library (model.library_number_at a (shown_heap s)) l.count l.delayed_expunge)) (shown_heap s)
     heap_is = tagged_replaced s (changed (Some l)) a (Library i l.count l.delayed_expunge) (is_the_library i) shows (library_tells s sound i a lies formed) refl
         ∙ ap (λ n. map (replaced a (Library n l.count l.delayed_expunge)) (shown_heap s)) (sym (number_there s sound i a lies))
 

@@ -120,8 +120,8 @@ module _ {s : Numbered} (kept : IsKept s) (sound : IsSound s.table) (formed : Is
         let delayed = sym (delayed_there s sound i a lies) k in
         if nat_eq count 1 && delayed then freed a (shown_memory s) else on_heap (with_library a (count - 1) delayed) (shown_memory s))
 
-    pub removed_shown : (t : Tabled) → t ≡ library_removed i s.table → shown_memory (record s { table = t }) ≡ model.removed a (shown_memory s)
-    unfolding model.removed
+    pub removed_shown : (t : Tabled) → t ≡ library_removed i s.table → shown_memory (record s { table = t }) ≡ model.after_expunge a (shown_memory s)
+    unfolding model.after_expunge
     removed_shown t next =
         ap (λ u. shown_memory (record s { table = u })) next
         ∙ settled_shown (leaves_by_removal i s.table.libs)

@@ -2,7 +2,7 @@
 use Rattle.std.proofs.Common.{◌≡◌, ℕ, ◌-◌, ◌<◌, List, [], ◌∷◌, ◌++◌, map, length, take, drop, slice_set, refl, ap, sym, ◌∙◌, arith, ℤ, Some, None, Option, is_some, if◌then◌else◌, unwrap_or, option_map, IsSome, find}
 use Rattle.std.specs.{Option.ForSome, List.AllByRecursion}
 use Rattle.std.proofs.lemmas.{Simd.map-map, List.map-append}
-use Rattle.execlist.specs.Lists.{Key, home, is_at, is_named, last, name_is, part_after, part_before, part_from, pri_of, put_after, sequence, key_at}
+use Rattle.execlist.specs.Lists.{KeyData, home, is_at, is_named, last, name_is, part_after, part_before, part_from, pri_of, put_after, sequence, key_at}
 use Rattle.execlist.specs.{Order.enqueue, Order.first, Order.without, Pool.slot}
 use Rattle.memlist.specs.Memory.{IsWellFormed}
 use Rattle.execmodel.specs.Lists.{added_head, added_tail, enqueued, found_node, first_of, has_name, inserted, key_of, last_of, left_by, nodes_of, or_none, pred_of, predecessor, removed_head, removed_tail, searched, succ_of, unlinked, with_nodes}
@@ -72,7 +72,7 @@ module _ {s : Numbered} (sound : IsSound s) (space : IsSpace s) where
       ∙ ap or_none (last-map (address_in (places variant.Node s)) (part_before n (sequence s.sequences h)))
 
   all_named : (name : List ℕ) (h : ℕ) → AllByRecursion (λ n. has_name name (shown_heap s) (address_in (places variant.Node s) n) ≡ is_named s.keys name n) (sequence s.sequences h)
-  all_named name h = all_then (λ n live. ap (λ (key : Key). name_is key.name name) (key_at_address n live)) (sequence s.sequences h) (all_live h)
+  all_named name h = all_then (λ n live. ap (λ (key : KeyData). name_is key.name name) (key_at_address n live)) (sequence s.sequences h) (all_live h)
 
   all_from : (P : ℕ → Type 0) (after : Option ℕ) (xs : List ℕ) → AllByRecursion P xs → AllByRecursion P (part_from after xs)
   all_from P None xs all = all
@@ -127,8 +127,8 @@ module _ {s : Numbered} (sound : IsSound s) (space : IsSpace s) where
         (ap (λ nodes. enqueue pri nodes node) (nodes_at h list live)
         ∙ ap (λ a. enqueue pri (map (address_in (places variant.Node s)) (sequence s.sequences h)) a) (sym (address_is n node here))
         ∙ enqueue-map (address_in (places variant.Node s)) pri (pri_of s.keys) (sequence s.sequences h) n
-        (all_then (λ m there. ap (λ (key : Key). key.pri) (key_at_address m there)) (sequence s.sequences h) (all_live h))
-        (ap (λ (key : Key). key.pri) (key_at_address n (ap is_some here))))
+        (all_then (λ m there. ap (λ (key : KeyData). key.pri) (key_at_address m there)) (sequence s.sequences h) (all_live h))
+        (ap (λ (key : KeyData). key.pri) (key_at_address n (ap is_some here))))
 
     pub put_shown : (h n list node pred : ℕ) (p : Option ℕ) → slot (places variant.List s) h ≡ Some list → slot (places variant.Node s) n ≡ Some node
         → option_map (address_in (places variant.Node s)) p ≡ predecessor pred → ForSome p (λ m. IsSome (slot (places variant.Node s) m))

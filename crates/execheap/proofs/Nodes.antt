@@ -1,6 +1,6 @@
 -- Nodes made and freed.
 use Rattle.std.proofs.Common.{◌≡◌, ◌≢◌, ℕ, ◌<◌, List, true, false, length, map, refl, ap, sym, ◌∙◌, arith, Some, None, Option, is_some, slice_set, ◌++◌, get_or-set_other, get_or-set_same}
-use Rattle.execlist.specs.{Lists.Key, Lists.blank, Lists.home, Pool.slot}
+use Rattle.execlist.specs.{Lists.KeyData, Lists.blank, Lists.home, Pool.slot}
 use Rattle.execmodel.specs.{State.ListHead, State.MsgPort, State.Node, Memory.freed, Memory.placed}
 use Rattle.msgport.specs.Ports.{messages_of, port_at}
 use Rattle.execheap.specs.{declared.tag.Kind.Kind, Table.Tabled, Numbered.Numbered, Numbered.IsKept, Numbered.address_in, Numbered.object_of, Numbered.places, Numbered.shown_memory}
@@ -23,11 +23,11 @@ module _ {s : Numbered} {n a : ℕ} {t : Tabled} where
       by_home None is = refl
       by_home (Some h) is = absurd (not_new made n (made.kept.live_nodes n (ap is_some is)) refl)
 
-    pub node_made_kept : (keys : List Key) → IsKept (record s { table = t; keys = keys })
+    pub node_made_kept : (keys : List KeyData) → IsKept (record s { table = t; keys = keys })
     node_made_kept keys = kept_new made (record s { table = t; keys = keys }) refl refl refl (λ k other. own_kept s (record s { table = t; keys = keys }) (ap (λ u. u.pool) made.is) refl refl refl k) tt
         made.kept.apt (along_same refl refl refl)
 
-    pub node_made_shown : Stands s → (key : Key) → length s.keys ≡ length s.homes
+    pub node_made_shown : Stands s → (key : KeyData) → length s.keys ≡ length s.homes
         → shown_memory (record s { table = t; keys = slice_set s.keys n key }) ≡ placed 14 (Node key) (Some a) (shown_memory s)
     node_made_shown stands key keyed =
         shown_new made (record s { table = t; keys = slice_set s.keys n key }) (Node key) refl refl others

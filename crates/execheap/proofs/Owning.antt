@@ -79,8 +79,8 @@ module _ (s : Numbered) (n semaphore : ℕ) (found : number_at variant.Semaphore
     pub attempted_heap : (t : ℕ) → shown_heap (on_semaphores (sems.attempted n t) s) ≡ model.attempted semaphore t (shown_heap s)
     unfolding model.attempted
     attempted_heap t =
-        either (sems.is_open t (sem_at n s.sems))
-        ∙ ap (λ sem. if sems.is_open t sem then model.entered semaphore t (shown_heap s) else shown_heap s) (sym sem_is)
+        either (sems.is_free_for t (sem_at n s.sems))
+        ∙ ap (λ sem. if sems.is_free_for t sem then model.entered semaphore t (shown_heap s) else shown_heap s) (sym sem_is)
       where
         either : (b : Bool) → shown_heap (on_semaphores (λ m. if b then sems.entered n t m else m) s)
             ≡ (if b then model.entered semaphore t (shown_heap s) else shown_heap s)

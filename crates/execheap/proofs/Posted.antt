@@ -166,8 +166,8 @@ module _ (s : Numbered) (m message : ℕ) (found : number_at variant.Message mes
       (written_at s.ports.messages.slots m content (new_message 0 0) (item_known s.ports.messages.slots m live)) told
       (message_at_shown s message ∙ ap is_some found)
 
-  pub word_heap : (value : ℕ) → shown_heap (on_ports (with_message m (record (message_at m s.ports) { word = value })) s) ≡ model.with_word message value (shown_heap s)
-  unfolding model.with_word
+  pub word_heap : (value : ℕ) → shown_heap (on_ports (with_message m (record (message_at m s.ports) { word = value })) s) ≡ model.with_message_word message value (shown_heap s)
+  unfolding model.with_message_word
   word_heap value =
       content_heap (record (message_at m s.ports) { word = value })
       ∙ (λ i. model.with_content message (record (sym (content_shown s message m found) i) { word = value }) (shown_heap s))
@@ -221,8 +221,8 @@ module _ {s : Numbered} (sound : IsSound s) (held : ports.IsSound s.ports) (form
     message_told : Tells s message variant.Message m
     message_told = tells sound.table formed variant.Message m message there
 
-    pub word_shown : (value : ℕ) → shown_memory (on_ports (with_message m (record (message_at m s.ports) { word = value })) s) ≡ on_heap (model.with_word message value) (shown_memory s)
-    word_shown value = heap_beside s (with_message m (record (message_at m s.ports) { word = value }) s.ports) (model.with_word message value (shown_heap s))
+    pub word_shown : (value : ℕ) → shown_memory (on_ports (with_message m (record (message_at m s.ports) { word = value })) s) ≡ on_heap (model.with_message_word message value) (shown_memory s)
+    word_shown value = heap_beside s (with_message m (record (message_at m s.ports) { word = value }) s.ports) (model.with_message_word message value (shown_heap s))
         (word_heap s m message message_begins message_told lives value) refl
 
     pub typed_shown : (kind : ℕ) → shown_memory (on_ports (ports.typed kind m) s) ≡ on_heap (model.typed kind message) (shown_memory s)

@@ -2,7 +2,7 @@
 use Rattle.std.proofs.Common.{◌≡◌, ℕ, ◌<◌, List, [], ◌∷◌, Bool, true, false, cond, map, length, refl, ap, sym, ◌∙◌, ℤ, Some, None, Option, codes, filter, find, if◌then◌else◌, is_some, not, option_map, unwrap_or, ◌==◌, ◌||◌, ◌≢◌, IsTrue, get_or-set_other}
 use Rattle.std.specs.List.{AllByRecursion, list_any}
 use Rattle.std.proofs.lemmas.Grind.{get_or-set_at}
-use Rattle.execlist.specs.{Order.enqueue, Order.first, Lists.Key, Lists.blank, Lists.is_named, Lists.pri_of, Pool.slot}
+use Rattle.execlist.specs.{Order.enqueue, Order.first, Lists.KeyData, Lists.blank, Lists.is_named, Lists.pri_of, Pool.slot}
 use Rattle.msgport.specs.Ports as ports
 use Rattle.msgport.specs.Ports.{MessagePorts, keyed, made_private, made_public}
 use Rattle.execmodel.specs.{State.Memory, State.PublicPort, Lists.or_none, Ports.add_port_alert, Ports.delete_alert, Ports.is_called, Ports.is_port_at, Ports.is_public, Ports.port_alert, Ports.port_or_none, Ports.priority_of_public, Ports.rem_port_alert, Ports.under, Tasks.is_priority}
@@ -117,7 +117,7 @@ module _ {s : Numbered} (sound : IsSound s) (held : ports.IsSound s.ports) where
       -- those that were public show the same
       public_before : AllByRecursion (λ q. shown_public public_now q ≡ shown_public s q) s.ports.public
       public_before = members (λ q. shown_public public_now q ≡ shown_public s q) s.ports.public
-          (λ q stands. ap (λ (key : Key). record { port = address_in (places variant.Port s) q; key = key })
+          (λ q stands. ap (λ (key : KeyData). record { port = address_in (places variant.Port s) q; key = key })
           (get_or-set_other s.ports.keys p q (record { pri = pri; name = Some name }) blank (no_public p private q stands)))
 
       own_public : shown_public public_now p ≡ under port name pri

@@ -9,7 +9,7 @@ use Rattle.iorequest.specs.declared.request.Begun.TheVariants.{Finish, NewTime, 
 use Rattle.iorequest.specs.Requests.{closed, is_request, is_unit, opened, request_at, unit_error, with_request, written_with}
 use Rattle.iorequest.specs.declared.request.ReqState.TheVariants.{Idle, UnderWay, Quick, Replied}
 use Rattle.iorequest.specs.{declared.request.Request.Request as TimerRequest, declared.request.Begun.Begun, Request.begun, Request.finished, Request.idle_request, Request.outcome, Request.reply_port, declared.request.ReqState.ReqState}
-use Rattle.msgport.specs.{Port.acting, Port.new_port, Ports.MessagePorts, Ports.appended, Ports.left_port, Ports.let_go, Ports.message_at, Ports.messages_of, Ports.new_message, Ports.nt_replymsg, Ports.port_at, Ports.taken_out, Ports.typed}
+use Rattle.msgport.specs.{Port.arrival_action, Port.new_port, Ports.MessagePorts, Ports.appended, Ports.left_port, Ports.let_go, Ports.message_at, Ports.messages_of, Ports.new_message, Ports.nt_replymsg, Ports.port_at, Ports.taken_out, Ports.typed}
 use Rattle.msgport.specs.Ports as ports
 use Rattle.timerdev.specs.Timing.{AtClock, AtSystem, Due, Timer, Waiting, begins_to_wait, due_next, has_come, is_system, is_waiting, moment, next_of, sooner, system_set, until_next, waits_no_more}
 use Rattle.timerdev.specs.Held.{on_timer}
@@ -147,7 +147,7 @@ module _ {s : Numbered} (sound : IsSound s) (held : ports.IsSound s.ports) (form
         ≡ model.acting_at (if port_model.is_port_at port (shown_heap s) then Some port else None) (shown_heap s)
     by_number None none = sym (ap (λ b. model.acting_at (if b then Some port else None) (shown_heap s)) (port_at_shown s port ∙ ap is_some none))
     by_number (Some p) found =
-        ap acting (sym (port_shown s port p found))
+        ap arrival_action (sym (port_shown s port p found))
         ∙ sym (ap (λ b. model.acting_at (if b then Some port else None) (shown_heap s)) (port_at_shown s port ∙ ap is_some found))
 
   pub acting_ended_shown : numbers.acting_ended r s ≡ model.acting_at (model.answering_port request (shown_heap s)) (shown_heap s)

@@ -1,13 +1,13 @@
 -- Objects stay sound if nodes are linked and unlinked: no block and no number changes, and a linked node and its list still live.
 use Rattle.std.proofs.Common.{◌≡◌, ℕ, zero, suc, ◌<◌, List, [], ◌∷◌, true, false, length, slice_set, refl, ap, sym, ◌∙◌, subst, arith, Some, None, Option, is_some, IsSome, MatchOption, get_or-set_same, get_or-set_other, length-set}
-use Rattle.execlist.specs.{Lists.Key, Lists.home, Pool.slot}
+use Rattle.execlist.specs.{Lists.KeyData, Lists.home, Pool.slot}
 use Rattle.execheap.specs.{declared.tag.Kind.Kind, Table.pool_of, Numbered.Numbered, Numbered.Fits, Numbered.IsKept, Numbered.own_shape, Numbered.places}
 use Rattle.execheap.specs.declared.tag.Kind.TheVariants as variant
 use Rattle.execheap.proofs.{Entries.some_same, InTime.in_time_beside, Linked.some_is, Tagging.either_number}
 use Rattle.execlist.proofs.Pools.{slot_known}
 
 -- what lists and nodes hold is other, and their blocks and numbers are the same
-abbrev relinked : Numbered → List (List ℕ) → List (Option ℕ) → List Key → Numbered
+abbrev relinked : Numbered → List (List ℕ) → List (Option ℕ) → List KeyData → Numbered
 relinked s sequences homes keys = record s { sequences = sequences; homes = homes; keys = keys }
 
 -- ---- a home that is set
@@ -33,7 +33,7 @@ module _ {s : Numbered} (kept : IsKept s) where
   homed : (n : ℕ) → IsHomed s n (home s.homes n)
   homed n h is = (kept.live_nodes n (ap is_some is), kept.live_lists n h is)
 
-  relinked_kept : (sequences : List (List ℕ)) (homes : List (Option ℕ)) (keys : List Key) → length sequences ≡ length s.sequences → length homes ≡ length s.homes
+  relinked_kept : (sequences : List (List ℕ)) (homes : List (Option ℕ)) (keys : List KeyData) → length sequences ≡ length s.sequences → length homes ≡ length s.homes
       → ((n : ℕ) → IsHomed s n (home homes n)) → IsKept (relinked s sequences homes keys)
   relinked_kept sequences homes keys lists nodes both = record {
     live_nodes = λ n there. (both n (some_is (home homes n) there).0 (some_is (home homes n) there).1).0;
@@ -54,7 +54,7 @@ module _ {s : Numbered} (kept : IsKept s) where
   -- ---- nodes linked and unlinked
 
   -- a live node is linked into a live list
-  pub linked_kept : {now : Numbered} (sequences : List (List ℕ)) (homes : List (Option ℕ)) (keys : List Key) (h n : ℕ) (nodes : List ℕ) → s ≡ now
+  pub linked_kept : {now : Numbered} (sequences : List (List ℕ)) (homes : List (Option ℕ)) (keys : List KeyData) (h n : ℕ) (nodes : List ℕ) → s ≡ now
       → sequences ≡ slice_set s.sequences h nodes → homes ≡ slice_set s.homes n (Some h)
       → IsSome (slot (places variant.List now) h) → IsSome (slot (places variant.Node now) n) → IsKept (relinked s sequences homes keys)
   linked_kept {now} sequences homes keys h n nodes same placed set list node =
@@ -69,14 +69,14 @@ module _ {s : Numbered} (kept : IsKept s) where
       (λ k is. (lives, subst (λ j. IsSome (slot (places variant.List s) j)) (some_same is) has)) homed m))
 
   -- a node leaves its list
-  pub left_kept : (sequences : List (List ℕ)) (homes : List (Option ℕ)) (keys : List Key) (n : ℕ) → length sequences ≡ length s.sequences
+  pub left_kept : (sequences : List (List ℕ)) (homes : List (Option ℕ)) (keys : List KeyData) (n : ℕ) → length sequences ≡ length s.sequences
       → homes ≡ slice_set s.homes n None → IsKept (relinked s sequences homes keys)
   left_kept sequences homes keys n same set = relinked_kept sequences homes keys same (ap length set ∙ length-set s.homes n None)
       (λ m. subst (λ hs. IsHomed s m (home hs m)) (sym set)
       (home_either (IsHomed s) s.homes n None (home_cleared s.homes n) (λ h is. let bad : false ≡ true = ap is_some is in cc) homed m))
 
   -- a node or none leaves list h, which has other nodes then
-  pub taken_kept : (sequences : List (List ℕ)) (homes : List (Option ℕ)) (keys : List Key) (o : Option ℕ) (h : ℕ) (nodes : List ℕ)
+  pub taken_kept : (sequences : List (List ℕ)) (homes : List (Option ℕ)) (keys : List KeyData) (o : Option ℕ) (h : ℕ) (nodes : List ℕ)
       → sequences ≡ slice_set s.sequences h nodes → MatchOption o (homes ≡ s.homes) (λ n. homes ≡ slice_set s.homes n None)
       → IsKept (relinked s sequences homes keys)
   taken_kept sequences homes keys None h nodes placed is = relinked_kept sequences homes keys

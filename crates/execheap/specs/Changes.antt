@@ -1,6 +1,6 @@
 -- What the calls on objects by number make of them.
 use Rattle.std.specs.Prelude.{Bool, ℕ, zero, suc, ℤ, ◌+◌, ◌-◌, List, [], ◌∷◌, ◌++◌, drop, length, replicate, slice_set, take, Option, None, Some}
-use Rattle.execlist.specs.{Order.enqueue, Order.first, Order.without, Lists.Key, Lists.blank, Lists.home, Lists.last, Lists.pri_of, Lists.put_after, Lists.sequence, Pool.all_free}
+use Rattle.execlist.specs.{Order.enqueue, Order.first, Order.without, Lists.KeyData, Lists.blank, Lists.home, Lists.last, Lists.pri_of, Lists.put_after, Lists.sequence, Pool.all_free}
 use Rattle.execlib.specs.Libraries.{Description}
 use Rattle.memlist.specs.declared.region.Region.{Region}
 use Rattle.msgport.specs.Ports.{MessagePorts, message_made, no_ports}
@@ -30,7 +30,7 @@ unused regions pool tasks known asks tick_micros = record {
 }
 
 -- the key of a node with that priority, and that name or none
-abbrev pub key_with : ℤ → Option (List ℕ) → Key
+abbrev pub key_with : ℤ → Option (List ℕ) → KeyData
 key_with pri name = record { pri = pri; name = name }
 
 -- ---- what ports and semaphores hold

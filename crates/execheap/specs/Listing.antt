@@ -4,7 +4,7 @@ use Rattle.std.specs.Prelude.{ℕ, ℤ, pos, negsuc, ◌<◌, Bool, if◌then◌
 use Rattle.execlist.specs.Order.{enqueue}
 use Rattle.iorequest.specs.declared.request.ReqState.TheVariants.{Idle, UnderWay, Quick, Replied}
 use Rattle.iorequest.specs.{Request.is_under_way, declared.request.ReqState.ReqState}
-use Rattle.msgport.specs.{declared.action.Action.Action, Port.acting, Ports.nt_freemsg, Ports.nt_replymsg}
+use Rattle.msgport.specs.{declared.action.Action.Action, Port.arrival_action, Ports.nt_freemsg, Ports.nt_replymsg}
 use Rattle.msgport.specs.declared.action.Action.TheVariants as action
 use Rattle.execmodel.specs.{State.Heap, State.Memory, Requests.acting_at, Requests.ended, Requests.replying_port, Requests.answering_port, Requests.reply_taken, Requests.request_of, Ports.content_of, Ports.port_of, Ports.posted, Ports.priority_of_public, Ports.typed, Ports.under}
 use Rattle.execheap.specs.declared.awaited.Awaited.{Awaited}
@@ -24,7 +24,7 @@ replied_by message heap = replied_to (content_of message heap).reply message hea
 
 -- what is to be done for the reply
 abbrev pub replying_at : ℕ → Heap → Action
-replying_at reply heap = if nat_eq reply 0 then action.Nothing else acting (port_of reply heap)
+replying_at reply heap = if nat_eq reply 0 then action.Nothing else arrival_action (port_of reply heap)
 
 unfoldable pub replying : ℕ → Heap → Action
 replying message heap = replying_at (content_of message heap).reply heap

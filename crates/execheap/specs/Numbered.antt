@@ -1,6 +1,6 @@
 -- Objects by number, and the memory that they are for: the objects by address.
 use Rattle.std.specs.Prelude.{◌≡◌, ℕ, ◌+◌, ◌^◌, ◌<◌, ◌≤◌, ◌&&◌, ◌++◌, false, take, if◌then◌else◌, Bool, IsSome, IsTrue, is_some, List, length, map, Option, None, Some, unwrap_or}
-use Rattle.execlist.specs.{Lists.Key, Lists.sequence, Lists.home, Lists.is_at, Lists.times, Lists.key_at, Pool.Pooled, Pool.slot}
+use Rattle.execlist.specs.{Lists.KeyData, Lists.sequence, Lists.home, Lists.is_at, Lists.times, Lists.key_at, Pool.Pooled, Pool.slot}
 use Rattle.execlib.specs.Libraries.{Description, count_of, is_delayed}
 use Rattle.memlist.specs.Memory.{IsWellFormed}
 use Rattle.msgport.specs.Ports as ports
@@ -23,7 +23,7 @@ pub record Numbered : Type 0 where
   pub table : Tabled
   pub sequences : List (List ℕ)
   pub homes : List (Option ℕ)
-  pub keys : List Key
+  pub keys : List KeyData
   pub ports : MessagePorts
   pub sems : Semaphores
   pub requests : Pooled TimerRequest

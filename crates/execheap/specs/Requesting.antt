@@ -4,7 +4,7 @@ use Rattle.execlist.specs.Pool.{Pooled}
 use Rattle.iorequest.specs.declared.request.Begun.TheVariants.{Finish, NewTime, Queue, Until}
 use Rattle.iorequest.specs.declared.request.ReqState.TheVariants.{Idle, UnderWay, Quick, Replied}
 use Rattle.iorequest.specs.{declared.request.Begun.Begun, declared.request.Request.Request, declared.request.ReqState.ReqState, Request.begun, Request.finished, Request.is_under_way, Request.outcome, Request.reply_port, Requests.request_at, Requests.with_request}
-use Rattle.msgport.specs.{declared.action.Action.Action, Port.acting, Ports.MessagePorts, Ports.held, Ports.let_go, Ports.nt_replymsg, Ports.port_at, Ports.posted, Ports.taken_out}
+use Rattle.msgport.specs.{declared.action.Action.Action, Port.arrival_action, Ports.MessagePorts, Ports.held, Ports.let_go, Ports.nt_replymsg, Ports.port_at, Ports.posted, Ports.taken_out}
 use Rattle.msgport.specs.declared.action.Action.TheVariants as action
 use Rattle.timerdev.specs.{Held.on_timer, Timing.AtClock, Timing.AtSystem, Timing.Due, Timing.Timer, Timing.begins_to_wait, Timing.system_set, Timing.waits_no_more}
 use Rattle.execheap.specs.{declared.awaited.Awaited.Awaited, Table.Tabled, Table.number_at, Numbered.Numbered, Numbered.message_of_request}
@@ -34,7 +34,7 @@ put_at (Some p) m ports = posted nt_replymsg p m (let_go m ports)
 -- what is to be done if a reply arrives at a port, if there is one
 abbrev pub acting_at : Option ℕ → MessagePorts → Action
 acting_at None ports = action.Nothing
-acting_at (Some p) ports = acting (port_at p ports)
+acting_at (Some p) ports = arrival_action (port_at p ports)
 
 -- the port if the reply of a request is put that finishes
 abbrev pub answering : Request → Numbered → Option ℕ

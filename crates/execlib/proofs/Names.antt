@@ -2,7 +2,7 @@
 use Rattle.std.proofs.Common.{◌≡◌, ℕ, suc, ◌+◌, ◌<◌, ◌≤◌, Bool, cond, List, [], ◌∷◌, ◌++◌, length, map, slice_index_or, slice_set, take, refl, sym, ap, ◌∙◌, arith, Option, Some, None, bytes_eq, find, get_or-set_other}
 use Rattle.std.specs.List.{position_from, range_with_len}
 use Rattle.std.proofs.lemmas.List.{get_or-map, take_more, take_more_set}
-use Rattle.execlist.specs.Lists.{Key, blank, home, is_named, name_is}
+use Rattle.execlist.specs.Lists.{KeyData, blank, home, is_named, name_is}
 use Rattle.execlib.specs.Libraries.{Description, no_library, key_of, numbers}
 
 -- ---- finding
@@ -25,7 +25,7 @@ found name libraries =
     (λ k small.
     let place : 0 + k ≡ k = omega arith in
     ap (is_named (map key_of libraries) name) place
-    ∙ ap (λ (key : Key). name_is key.name name) (get_or-map key_of libraries k no_library blank small))
+    ∙ ap (λ (key : KeyData). name_is key.name name) (get_or-map key_of libraries k no_library blank small))
 
 -- ---- making
 
@@ -35,7 +35,7 @@ pub still_nowhere : (homes : List (Option ℕ)) (i : ℕ) → ((t : ℕ) → i �
 still_nowhere homes i before t later = get_or-set_other homes i t (Some 0) None (omega (arith, later)) ∙ before t (omega (arith, later))
 
 -- one more node has its key
-pub one_more_key : (keys wanted : List Key) (i : ℕ) (key : Key) → i < length keys → i < length wanted
+pub one_more_key : (keys wanted : List KeyData) (i : ℕ) (key : KeyData) → i < length keys → i < length wanted
     → take i keys ≡ take i wanted → key ≡ slice_index_or wanted i blank → take (i + 1) (slice_set keys i key) ≡ take (i + 1) wanted
 one_more_key keys wanted i key small known before right =
     take_more_set keys i key small ∙ ap (λ l. l ++ key ∷ []) before ∙ ap (λ x. take i wanted ++ x ∷ []) right ∙ sym (take_more wanted i blank known)

@@ -2,7 +2,7 @@
 -- is to be expunged when it is closed for the last time (RKM Libraries, Exec Libraries).
 use Rattle.std.specs.Prelude.{◌≡◌, ℕ, ◌+◌, ◌-◌, ◌≤◌, pos, nat_le, nat_eq, bytes_eq, Bool, true, false, not, ◌&&◌, is_some, if◌then◌else◌, List, [], ◌∷◌, length, map, replicate, slice_set, slice_index_or, Option, Some, None, option_and_then, option_map}
 use Rattle.std.specs.{List.position_from, List.range_with_len, Option.option_map_or}
-use Rattle.execlist.specs.Lists.{Key}
+use Rattle.execlist.specs.Lists.{KeyData}
 use Rattle.memlist.specs.{Blocks.Blocks, Blocks.block_at, Fit.fit, Memory.Memory, Memory.allocated, Memory.without_block}
 use Rattle.execlib.specs.{declared.fault.LibFault.LibFault, declared.fault.LibFault.TheVariants.NotOpen, declared.library.LibInit.LibInit, declared.library.Loaded.Loaded}
 
@@ -233,11 +233,11 @@ pub record LieIn (m : Libraries) (memory : Memory) : Type 0 where
   pub each : (i base : ℕ) → base_at i m ≡ Some base → tag_at base memory.blocks ≡ Some (library_tag i)
 
 -- the key of the node that has a library's name
-abbrev pub key_of : Description → Key
+abbrev pub key_of : Description → KeyData
 key_of library = record { pri = pos 0; name = Some library.name }
 
 -- the nodes of all libraries are in one header, in the order of the libraries and with their names
-pub record IsKept (sequences : List (List ℕ)) (keys : List Key) (m : Libraries) : Type 0 where
+pub record IsKept (sequences : List (List ℕ)) (keys : List KeyData) (m : Libraries) : Type 0 where
   pub listed : sequences ≡ numbers (length m.known) ∷ []
   pub named : keys ≡ map key_of m.known
   pub few : length m.known ≤ 32

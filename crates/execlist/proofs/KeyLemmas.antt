@@ -1,7 +1,7 @@
 -- The keys of the nodes of a space, of which the first are stored.
 use Rattle.std.proofs.Common.{◌≡◌, ℕ, zero, suc, ◌+◌, ◌-◌, ◌<◌, ◌≤◌, List, [], ◌∷◌, ◌++◌, length, get_or, set, map, replicate, refl, sym, ap, ◌∙◌, arith, append_assoc, Option, None, Some, slice_get, length-append, length-set}
 use Rattle.std.proofs.lemmas.List.{length-map, length-replicate, replicate-append-replicate, replicate_more, map-append, map-set}
-use Rattle.execlist.specs.{Lists.Key, Lists.blank, Lists.key_at, DigestKeys.digest_key_of, DigestKeys.digest_keys_of, DigestKeys.keys_in, declared.digest.DigestKey.DigestKey}
+use Rattle.execlist.specs.{Lists.KeyData, Lists.blank, Lists.key_at, DigestKeys.digest_key_of, DigestKeys.digest_keys_of, DigestKeys.keys_in, declared.digest.DigestKey.DigestKey}
 
 -- a list set before its end
 set-left : {A : Type 0} (xs ys : List A) (n : ℕ) (a : A) → n < length xs → set (xs ++ ys) n a ≡ set xs n a ++ ys
@@ -25,7 +25,7 @@ unfolding keys_in
 filled nodes m ks more e le =
     let long : length more ≡ length ks + m =
     sym (length-map more digest_key_of) ∙ ap length e ∙ length-append (map digest_key_of ks) (replicate m blank) ∙ sum in
-    ap (λ (l : List Key). l ++ replicate (nodes - length more) blank) e
+    ap (λ (l : List KeyData). l ++ replicate (nodes - length more) blank) e
     ∙ append_assoc (map digest_key_of ks) (replicate m blank) (replicate (nodes - length more) blank)
     ∙ ap (λ l. map digest_key_of ks ++ l) (replicate-append-replicate m (nodes - length more) blank)
     ∙ ap (λ k. map digest_key_of ks ++ replicate k blank) (let rest : m + (nodes - length more) ≡ nodes - length ks = omega (arith, long, le) in rest)
@@ -60,10 +60,10 @@ pushed ks was k n e new le =
     let old = map digest_key_of was in
     let one : (n - length was) + 1 ≡ n + 1 - length was = omega (arith, le) in
     map-append digest_key_of ks (k ∷ [])
-    ∙ ap (λ (l : List Key). l ++ digest_key_of k ∷ []) e
-    ∙ ap (λ (b : Key). (old ++ replicate (n - length was) blank) ++ b ∷ []) new
+    ∙ ap (λ (l : List KeyData). l ++ digest_key_of k ∷ []) e
+    ∙ ap (λ (b : KeyData). (old ++ replicate (n - length was) blank) ++ b ∷ []) new
     ∙ append_assoc old (replicate (n - length was) blank) (blank ∷ [])
-    ∙ ap (λ (l : List Key). old ++ l) (replicate_more (n - length was) blank)
+    ∙ ap (λ (l : List KeyData). old ++ l) (replicate_more (n - length was) blank)
     ∙ ap (λ (j : ℕ). old ++ replicate j blank) one
 
 -- one node is given a key, once each node up to it has one
@@ -73,10 +73,10 @@ key_set nodes n was ks k e lt le =
     let long = stored-length ks was (n + 1 - length was) e in
     let inside : length ks ≤ nodes = omega (arith, long, lt, le) in
     let there : n < length ks = omega (arith, long) in
-    (inside, set_stored nodes n ks k there ∙ ap (λ (l : List Key). set l n (digest_key_of k)) (filled nodes (n + 1 - length was) was ks e inside))
+    (inside, set_stored nodes n ks k there ∙ ap (λ (l : List KeyData). set l n (digest_key_of k)) (filled nodes (n + 1 - length was) was ks e inside))
 
 -- what is stored of a node, if something is, or the key of a new node
-abbrev pub key_or : Option DigestKey → Key
+abbrev pub key_or : Option DigestKey → KeyData
 key_or None = blank
 key_or (Some k) = digest_key_of k
 

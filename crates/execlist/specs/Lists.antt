@@ -4,12 +4,12 @@ use Rattle.std.specs.Prelude.{ℕ, ℤ, pos, suc, List, [], ◌∷◌, ◌++◌,
 use Rattle.std.specs.Cmp.Lexicographic.{pointwise}
 
 -- what is known of a node beside its place: its priority, and its name or none
-pub record Key : Type 0 where
+pub record KeyData : Type 0 where
   pub pri : ℤ
   pub name : Option (List ℕ)
 
 -- the key of a new node
-abbrev pub blank : Key
+abbrev pub blank : KeyData
 blank = record { pri = pos 0; name = None }
 
 -- the sequence of header h
@@ -21,15 +21,15 @@ abbrev pub home : List (Option ℕ) → ℕ → Option ℕ
 home homes n = slice_index_or homes n None
 
 -- the key of node n
-abbrev pub key_at : List Key → ℕ → Key
+abbrev pub key_at : List KeyData → ℕ → KeyData
 key_at keys n = slice_index_or keys n blank
 
 -- the priority of node n
-abbrev pub pri_of : List Key → ℕ → ℤ
+abbrev pub pri_of : List KeyData → ℕ → ℤ
 pri_of keys n = (slice_index_or keys n blank).pri
 
 -- the name of node n, or none
-abbrev pub name_of : List Key → ℕ → Option (List ℕ)
+abbrev pub name_of : List KeyData → ℕ → Option (List ℕ)
 name_of keys n = (slice_index_or keys n blank).name
 
 -- what is before node n
@@ -69,7 +69,7 @@ name_is None b = false
 name_is (Some a) b = pointwise ◌==◌ a b
 
 -- node n has that name
-abbrev pub is_named : List Key → List ℕ → ℕ → Bool
+abbrev pub is_named : List KeyData → List ℕ → ℕ → Bool
 is_named keys name n = name_is (name_of keys n) name
 
 -- a header or none is that header

@@ -1,13 +1,13 @@
 //! What a search along a list asks of the key of each node.
 ghost use Rattle.std.specs.Prelude.{◌≡◌, Bool, int_lt};
-ghost use Rattle.execlist.specs.{Lists.Key, Lists.name_is, Digest.digest_of};
+ghost use Rattle.execlist.specs.{Lists.KeyData, Lists.name_is, Digest.digest_of};
 
 use crate::digest::{DigestKey, digest};
 
 /// What a search asks of the key of each node.
 pub trait Sought {
     /// Whether a node of this key is sought.
-    ghost wanted: { Self → Key → Bool };
+    ghost wanted: { Self → KeyData → Bool };
 
     ghost use Rattle.execlist.specs.DigestKeys.{digest_key_of};
 

@@ -2,7 +2,7 @@
 //! which has a priority and a name or none. A node is in at most one sequence, and there once.
 ghost use Rattle.std.specs.Prelude.{◌≡◌, ℕ, ◌<◌, ◌≤◌, List, [], ◌∷◌, ◌++◌, Option, Some, None, length, replicate, slice_set, drop, take, find, option_map, IfOk, IfSome, IsSome, MatchOption, if◌then◌else◌, ◌-◌};
 ghost use Rattle.std.specs.Option.{ForSome};
-ghost use Rattle.execlist.specs.Lists.{Key, blank, sequence, home, pri_of, part_before, part_after, part_from, put_after, last, is_named, is_at, times};
+ghost use Rattle.execlist.specs.Lists.{KeyData, blank, sequence, home, pri_of, part_before, part_after, part_from, put_after, last, is_named, is_at, times};
 ghost use Rattle.execlist.specs.Order.{enqueue, first, without};
 
 use crate::key::Name;
@@ -27,7 +27,7 @@ pub trait ListSpace: Drop {
     ghost homes: { Self → List (Option ℕ) };
 
     /// The key of each node, by its number.
-    ghost keys: { Self → List Key };
+    ghost keys: { Self → List KeyData };
 
     /// Makes `headers` empty headers, and `nodes` nodes that are in none, of priority 0 and with no
     /// name. At most 4,096 of each. An error means that memory is refused. Autodoc amiga.lib/NewList.

@@ -4,7 +4,7 @@ use Rattle.std.proofs.lemmas.{Grind.flat_map-append, List.length-replicate, List
 use Rattle.exectrace.specs.{Sink.Tape, Sink.Adds, Sink.Breaks, Sink.Puts, Sink.TakesAll, declared.sinks.SinkState.SinkState, declared.sinks.SinkState.TheVariants.Good, Trace.printed, Trace.printed_line}
 use Rattle.exectrace.proofs.Pieces.{adds_all, adds_fitting, adds_none, adds_then, put_all, put_part}
 use Rattle.script.specs.declared.event.Event.TheVariants.{Run, Tick, Irq}
-use Rattle.script.specs.{Events.ticks as ticks_of, File.MachineData, declared.event.Event.Event}
+use Rattle.script.specs.{Events.event_ticks, File.MachineData, declared.event.Event.Event}
 use Rattle.scheduler.specs.Schedule.{Schedule}
 use Rattle.execmodel.specs.{State.Memory, State.Timer, State.Scripts, State.State, State.Outcome, State.andthen, State.booted, Pending.next_softint, Step.starts, Step.event, Step.events, Step.run, Step.steps}
 use Rattle.execmodel.proofs.Moments.{events_more}
@@ -259,10 +259,10 @@ module _ (list : List Event) (i : ℕ) (d : Event) (within : i < length list) wh
   pub turns_more : (k n m : ℕ) → n ≡ k + sum_by turns (take i list) → m ≡ n + turns (get_or list i d) → m ≡ k + sum_by turns (take (i + 1) list)
   turns_more k n m number more = omega (arith, number, more, sum_by_more turns list i d within)
 
-  pub time_for_one : (m : Seen) → HasTimeFor (sum_by ticks_of (drop i list)) m → HasTimeFor (ticks_of (get_or list i d)) m
+  pub time_for_one : (m : Seen) → HasTimeFor (sum_by event_ticks (drop i list)) m → HasTimeFor (event_ticks (get_or list i d)) m
   time_for_one m enough =
-      let rest = sum_by-drop_more ticks_of list i d within in
-      time_for_fewer (ticks_of (get_or list i d)) (sum_by ticks_of (drop i list)) m (omega (arith, rest)) enough
+      let rest = sum_by-drop_more event_ticks list i d within in
+      time_for_fewer (event_ticks (get_or list i d)) (sum_by event_ticks (drop i list)) m (omega (arith, rest)) enough
 
 -- ---- the whole run
 

@@ -2,7 +2,7 @@
 use Rattle.std.proofs.Common.{◌≡◌, ℕ, zero, suc, ◌+◌, ◌*◌, List, [], ◌∷◌, ◌++◌, replicate, refl, ap, sym, ◌∙◌, append-nil, arith, sum_by}
 use Rattle.std.proofs.lemmas.{List.Folds.sum_by-replicate, List.Sums.sum_by-append, List.Sums.sum_by-cons}
 use Rattle.script.specs.declared.event.Event.TheVariants.{Run, Tick, Irq}
-use Rattle.script.specs.{Events.ticks as ticks_of, declared.event.Event.Event}
+use Rattle.script.specs.{Events.event_ticks, declared.event.Event.Event}
 use Rattle.execmodel.specs.{State.State, State.Outcome, State.quiet, State.andthen, Step.steps, Step.ticks, Step.event, Step.events}
 use Rattle.execmodel.proofs.Moments.{events_more, run_cut, tick_cut}
 use Rattle.execlog.specs.Log.{unit_of, units}
@@ -66,16 +66,16 @@ units_same (e ∷ rest) s =
 
 -- ---- the ticks of events
 
-unit_ticks : (e : Event) → sum_by ticks_of (unit_of e) ≡ ticks_of e
-unit_ticks (Run n) = let none : n * 0 ≡ 0 = omega arith in sum_by-replicate ticks_of n (Run 1) ∙ none
-unit_ticks (Tick n) = let all : n * 1 ≡ n = omega arith in sum_by-replicate ticks_of n (Tick 1) ∙ all
-unit_ticks (Irq source) = let none : 1 * 0 ≡ 0 = omega arith in sum_by-replicate ticks_of 1 (Irq source) ∙ none
+unit_ticks : (e : Event) → sum_by event_ticks (unit_of e) ≡ event_ticks e
+unit_ticks (Run n) = let none : n * 0 ≡ 0 = omega arith in sum_by-replicate event_ticks n (Run 1) ∙ none
+unit_ticks (Tick n) = let all : n * 1 ≡ n = omega arith in sum_by-replicate event_ticks n (Tick 1) ∙ all
+unit_ticks (Irq source) = let none : 1 * 0 ≡ 0 = omega arith in sum_by-replicate event_ticks 1 (Irq source) ∙ none
 
-pub units_ticks : (list : List Event) → sum_by ticks_of (units list) ≡ sum_by ticks_of list
+pub units_ticks : (list : List Event) → sum_by event_ticks (units list) ≡ sum_by event_ticks list
 units_ticks [] = refl
 units_ticks (e ∷ rest) =
-    let both = sum_by-append ticks_of (unit_of e) (units rest) in
+    let both = sum_by-append event_ticks (unit_of e) (units rest) in
     let first = unit_ticks e in
     let others = units_ticks rest in
-    let whole = sum_by-cons ticks_of e rest in
+    let whole = sum_by-cons event_ticks e rest in
     omega (arith, both, first, others, whole)

@@ -1,7 +1,7 @@
 //! A run with an entry for each step, tick and request. Steps that print nothing are done together if they are not shown.
 ghost use Rattle.std.specs.Prelude.{◌≡◌, ◌+◌, ◌*◌, ◌∷◌, ◌<◌, ◌≤◌, ◌^◌, ℕ, [], false, replicate, sum_by, None, IfOk, OnOk};
 ghost use Rattle.exectrace.specs.declared.sinks.SinkState.{SinkState};
-ghost use Rattle.script.specs.{Events.ticks as ticks_of, File.MachineData};
+ghost use Rattle.script.specs.{Events.event_ticks, File.MachineData};
 ghost use Rattle.execmodel.specs.{State.booted, Step.starts};
 ghost use Rattle.execsim.specs.{Agreement.Agrees, Time.HasTimeFor};
 ghost use Rattle.execlog.specs.{declared.moment.Moment.Moment, Log.Entry, Log.ShowsLog, Log.entry_after, Log.log_of, Log.turns, Log.unit_of, Log.units, Runs.Extends, Runs.Logs, Runs.LogsRun, Runs.Wrote};
@@ -115,13 +115,13 @@ fn advance<S: ListSpace, F: Form, W: Sink>(
     requires going { machine.old.failed ≡ false }
     requires good { log.old.text.state ≡ SinkState.Good }
     requires number { log.old.number < 2 ^ 63 }
-    requires time { HasTimeFor (ticks_of one) machine.old.seen }
+    requires time { HasTimeFor (event_ticks one) machine.old.seen }
     ensures logs { OnOk result (Logs (F.shows log.old.form.now) (one ∷ []) log.old.number machine.old.seen machine.new.seen (record { tape = W.tape out.old; page = log.old.page }) (record { tape = W.tape out.new; page = log.new.page })) }
     ensures going { OnOk result (machine.new.failed ≡ false) }
     ensures good { OnOk result (log.new.text.state ≡ SinkState.Good) }
     ensures number { OnOk result (log.new.number ≡ log.old.number + 1) }
     ensures form { log.new.form ≡ log.old.form }
-    ensures time { OnOk result ((ticks : ℕ) → HasTimeFor (ticks_of one + ticks) machine.old.seen → HasTimeFor ticks machine.new.seen) }
+    ensures time { OnOk result ((ticks : ℕ) → HasTimeFor (event_ticks one + ticks) machine.old.seen → HasTimeFor ticks machine.new.seen) }
 {
     let actor = actor_of(machine, one);
     log.form.note(machine, log.number, actor, &mut log.before);
@@ -146,13 +146,13 @@ fn advance_many<S: ListSpace, F: Form, W: Sink>(
     requires going { machine.old.failed ≡ false }
     requires good { log.old.text.state ≡ SinkState.Good }
     requires number { log.old.number + many < 2 ^ 63 }
-    requires time { HasTimeFor (many * ticks_of one) machine.old.seen }
+    requires time { HasTimeFor (many * event_ticks one) machine.old.seen }
     ensures logs { OnOk result (Logs (F.shows log.old.form.now) (replicate many one) log.old.number machine.old.seen machine.new.seen (record { tape = W.tape out.old; page = log.old.page }) (record { tape = W.tape out.new; page = log.new.page })) }
     ensures going { OnOk result (machine.new.failed ≡ false) }
     ensures good { OnOk result (log.new.text.state ≡ SinkState.Good) }
     ensures number { OnOk result (log.new.number ≡ log.old.number + many) }
     ensures form { log.new.form ≡ log.old.form }
-    ensures time { OnOk result ((ticks : ℕ) → HasTimeFor (many * ticks_of one + ticks) machine.old.seen → HasTimeFor ticks machine.new.seen) }
+    ensures time { OnOk result ((ticks : ℕ) → HasTimeFor (many * event_ticks one + ticks) machine.old.seen → HasTimeFor ticks machine.new.seen) }
 {
     for _turn in 0..many {
         advance(machine, one, log, out)?;
@@ -236,13 +236,13 @@ fn advance_event<S: ListSpace, F: Form, W: Sink>(
     requires going { machine.old.failed ≡ false }
     requires good { log.old.text.state ≡ SinkState.Good }
     requires number { log.old.number + turns one < 2 ^ 63 }
-    requires time { HasTimeFor (ticks_of one) machine.old.seen }
+    requires time { HasTimeFor (event_ticks one) machine.old.seen }
     ensures logs { OnOk result (Logs (F.shows log.old.form.now) (unit_of one) log.old.number machine.old.seen machine.new.seen (record { tape = W.tape out.old; page = log.old.page }) (record { tape = W.tape out.new; page = log.new.page })) }
     ensures going { OnOk result (machine.new.failed ≡ false) }
     ensures good { OnOk result (log.new.text.state ≡ SinkState.Good) }
     ensures number { OnOk result (log.new.number ≡ log.old.number + turns one) }
     ensures form { log.new.form ≡ log.old.form }
-    ensures time { OnOk result ((ticks : ℕ) → HasTimeFor (ticks_of one + ticks) machine.old.seen → HasTimeFor ticks machine.new.seen) }
+    ensures time { OnOk result ((ticks : ℕ) → HasTimeFor (event_ticks one + ticks) machine.old.seen → HasTimeFor ticks machine.new.seen) }
 {
     match one {
         Event::Run(n) => advance_steps(machine, n, log, out),
@@ -261,7 +261,7 @@ fn advance_all<S: ListSpace, F: Form, W: Sink>(
     requires going { machine.old.failed ≡ false }
     requires good { log.old.text.state ≡ SinkState.Good }
     requires number { log.old.number + sum_by turns list.now < 2 ^ 63 }
-    requires time { HasTimeFor (sum_by ticks_of list.now) machine.old.seen }
+    requires time { HasTimeFor (sum_by event_ticks list.now) machine.old.seen }
     ensures { OnOk result (Logs (F.shows log.old.form.now) (units list.now) log.old.number machine.old.seen machine.new.seen (record { tape = W.tape out.old; page = log.old.page }) (record { tape = W.tape out.new; page = log.new.page })) }
 {
     for one in list {
@@ -282,7 +282,7 @@ fn log_all<S: ListSpace, F: Form, W: Sink>(
     requires blank { log.old.text.bytes ≡ [] }
     requires number { log.old.number ≡ 0 }
     requires few { sum_by turns list.now < 2 ^ 62 }
-    requires time { HasTimeFor (sum_by ticks_of list.now) machine.old.seen }
+    requires time { HasTimeFor (sum_by event_ticks list.now) machine.old.seen }
     ensures { OnOk result ((m : MachineData) → Agrees machine.old.seen (booted m) → Wrote (Extends (record { tape = W.tape out.old; page = log.old.page }) (record { tape = W.tape out.new; page = log.new.page })) (ShowsLog (F.shows log.old.form.now) (log_of m list.now))) }
 {
     begin(machine, log, out)?;
@@ -307,7 +307,7 @@ pub fn write_log<S: ListSpace, F: Form, W: Sink>(
     requires going { machine.old.failed ≡ false }
     requires good { (W.tape out.old).state ≡ SinkState.Good }
     requires few { sum_by turns events.now < 2 ^ 62 }
-    requires time { HasTimeFor (sum_by ticks_of events.now) machine.old.seen }
+    requires time { HasTimeFor (sum_by event_ticks events.now) machine.old.seen }
     ensures { (m : MachineData) → Agrees machine.old.seen (booted m) → LogsRun (ShowsLog (F.shows form.now) (log_of m events.now)) (W.tape out.old) (W.tape out.new) result }
 {
     let mut log = Log {

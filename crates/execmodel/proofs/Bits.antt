@@ -2,7 +2,7 @@
 use Rattle.std.proofs.Common.{inl, inr, ◌≡◌, ℕ, ◌^◌, true, bit_or, ap, ◌∙◌, arith, bit_and, ◌||◌, w32}
 use Rattle.std.specs.{Int.bit_not, Int.Bits.and_self, Int.Bits.and_zero_l, Int.Bits.and_zero_r}
 use Rattle.std.proofs.lemmas.{Bool.cases_lt, Nat.and_assoc, Nat.and-not}
-use Rattle.signals.specs.Signals.{has_signal, without}
+use Rattle.signals.specs.Signals.{has_signal, without_bits}
 use Rattle.signals.proofs.Sets.{has_signal-or}
 
 -- a mask and what it leaves have nothing in common
@@ -13,7 +13,7 @@ not_and mask =
       | inr past ↦ let none : bit_not w32 mask ≡ 0 = omega (arith, past) in ap (λ n. bit_and n mask) none ∙ and_zero_l mask
     ]
 
-pub nothing_left : (bits mask : ℕ) → bit_and (without bits mask) mask ≡ 0
+pub nothing_left : (bits mask : ℕ) → bit_and (without_bits bits mask) mask ≡ 0
 nothing_left bits mask =
     and_assoc mask bits (bit_not w32 mask) ∙ ap (λ n. bit_and bits n) (not_and mask) ∙ and_zero_r bits
 

@@ -6,7 +6,7 @@ use Rattle.execlist.specs.Order.{enqueue, order, first, without, is_lower}
 use Rattle.execlist.proofs.OrderLaws.{first_of_order, order_leaves_out}
 use Rattle.softint.specs.{Sources.is_source, declared.source.Source.Source}
 use Rattle.script.specs.File.{ServerData}
-use Rattle.execmodel.specs.{Pending.source_named, Interrupts.server_pri, Interrupts.servers_of, Interrupts.no_server, Interrupts.by_choice, Interrupts.chain_of}
+use Rattle.execmodel.specs.{Interrupts.server_pri, Interrupts.servers_for, Interrupts.no_server, Interrupts.by_choice, Interrupts.chain_of}
 use Rattle.execmodel.proofs.Heaps.{true_is_not_false}
 
 -- ---- numbers that are apart
@@ -127,12 +127,12 @@ apart_from_none [] = tt
 apart_from_none (x ∷ xs) = (tt, apart_from_none xs)
 
 -- the servers of a source run by priority, and those of one priority in the order of the file
-pub chain_is_order : (asks : Source) (servers : List ServerData) → chain_of asks servers ≡ order (server_pri servers) (servers_of asks servers)
+pub chain_is_order : (asks : Source) (servers : List ServerData) → chain_of asks servers ≡ order (server_pri servers) (servers_for asks servers)
 unfolding chain_of order
 chain_is_order asks servers =
-    let all = servers_of asks servers in
-    let distinct = distinct_range (λ k. is_source (source_named (slice_index_or servers k no_server).source) asks) 0 (length servers) in
-    let some = length-filter (λ k. is_source (source_named (slice_index_or servers k no_server).source) asks) (range_with_len 0 (length servers)) in
+    let all = servers_for asks servers in
+    let distinct = distinct_range (λ k. is_source (slice_index_or servers k no_server).source asks) 0 (length servers) in
+    let some = length-filter (λ k. is_source (slice_index_or servers k no_server).source asks) (range_with_len 0 (length servers)) in
     chosen_in_order (server_pri servers) (order (server_pri servers) all) (length servers) all refl
     (distinct_fold (server_pri servers) all [] distinct tt (apart_from_none all))
     (omega (arith, some, length-fold (server_pri servers) all [], length-range_with_len 0 (length servers)))

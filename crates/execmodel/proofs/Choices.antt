@@ -10,7 +10,7 @@ use Rattle.timerdev.specs.Timing.{ticked}
 use Rattle.scheduler.specs.{declared.Switch.Switch as Choice, Schedule.name_of, Dispatch.switch_of}
 use Rattle.scheduler.specs.declared.Switch.TheVariants as choice
 use Rattle.execmodel.specs.Step.{announced, switches, settle, call_step, task_step, softint_or_task_step, acting, acts, step, steps, request, tick, ticks, all_added, starts, event, events, run}
-use Rattle.execmodel.specs.{State.Call as TaskCall, State.State, State.Outcome, State.quiet, State.andthen, State.unless_stopped, State.on_schedule, State.on_memory, State.on_pending, State.on_timer, State.booted, Calls.next_call, Pending.source_named, Pending.with_latch_of, Pending.next_softint, Interrupts.interrupts, Laws.OneStep, Laws.OneTick, Laws.OneRequest, Laws.says_switch, Laws.ComesTo, Laws.begins, Laws.goes_on, Laws.SwitchesTo, Laws.at_start, Laws.by_action, Laws.EachSwitchLineIsAChoice}
+use Rattle.execmodel.specs.{State.Call as TaskCall, State.State, State.Outcome, State.quiet, State.andthen, State.unless_stopped, State.on_schedule, State.on_memory, State.on_pending, State.on_timer, State.booted, Calls.next_call, Pending.with_latch_of, Pending.next_softint, Interrupts.interrupts, Laws.OneStep, Laws.OneTick, Laws.OneRequest, Laws.says_switch, Laws.ComesTo, Laws.begins, Laws.goes_on, Laws.SwitchesTo, Laws.at_start, Laws.by_action, Laws.EachSwitchLineIsAChoice}
 use Rattle.execmodel.proofs.{Heaps.true_is_not_false, Saying.only_switches_say_so}
 
 -- ---- what says no switch
@@ -121,7 +121,7 @@ module _ (machine : MachineData) where
   unfolding event
   one_event (Run n) s comes = all_steps n s comes
   one_event (Tick n) s comes = all_ticks n s comes
-  one_event (Irq name) s comes = (requested (source_named name) s comes, goes_on (OneRequest (source_named name)) s comes)
+  one_event (Irq asks) s comes = (requested asks s comes, goes_on (OneRequest asks) s comes)
 
   all_events : (list : List Event) (s : State) → ComesTo machine s → AreChoices (events list s).lines
   unfolding events

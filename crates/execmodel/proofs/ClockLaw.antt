@@ -4,9 +4,9 @@ use Rattle.std.proofs.lemmas.List.Sums.{sum_by-cons}
 use Rattle.execlist.specs.Disciplines.{by_arrival}
 use Rattle.softint.specs.{declared.source.Source.Source, declared.source.Source.TheVariants.Vertb}
 use Rattle.script.specs.declared.event.Event.TheVariants.{Run, Tick, Irq}
-use Rattle.script.specs.{declared.word.Word.Word, declared.event.Event.Event, Events.ticks as event_ticks, File.MachineData}
+use Rattle.script.specs.{declared.word.Word.Word, declared.event.Event.Event, Events.event_ticks, File.MachineData}
 use Rattle.script.specs.declared.word.Word.TheVariants as group
-use Rattle.execmodel.specs.{State.Call, State.Timer, State.State, State.Outcome, State.quiet, State.andthen, State.booted, State.on_schedule, Pending.source_named, Step.ends, Step.switches, Step.step, Step.steps, Step.request, Step.tick, Step.ticks, Step.event, Step.events, Step.starts, Step.run, Laws.TheClockCountsTicks}
+use Rattle.execmodel.specs.{State.Call, State.Timer, State.State, State.Outcome, State.quiet, State.andthen, State.booted, State.on_schedule, Step.ends, Step.switches, Step.step, Step.steps, Step.request, Step.tick, Step.ticks, Step.event, Step.events, Step.starts, Step.run, Laws.TheClockCountsTicks}
 use Rattle.scheduler.specs.Dispatch.{rescheduled}
 use Rattle.execmodel.proofs.{Heaps.true_is_not_false, Itself.word_itself, Itself.word_keeps, Stopped.step_stopped, Stopped.request_stopped, Stretches.Relation, Stretches.HoldsOfEach, Stretches.clock_gains, Stretches.of_request, Stretches.of_step, Stretches.of_starts, Telling.body_alters, Asking.finishing, TidyLaw.quietly, TidyLaw.switches_quiet}
 
@@ -136,7 +136,7 @@ event_gains : (e : Event) (s : State) → Gains (event_ticks e) s (event e s).st
 unfolding event
 event_gains (Run n) s = steps_gain n s
 event_gains (Tick n) s = ticks_gain n s
-event_gains (Irq name) s = asked_gains (source_named name) s
+event_gains (Irq asks) s = asked_gains asks s
 
 events_gain : (list : List Event) (s : State) → Gains (sum_by event_ticks list) s (events list s).state
 unfolding events andthen

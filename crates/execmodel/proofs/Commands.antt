@@ -3,7 +3,7 @@
 use Rattle.std.proofs.Common.{◌≡◌, ℕ, Bool, true, false, List, [], ◌∷◌, Option, None, Some, length, refl, sym, ap, ◌∙◌, subst, ◌-◌, not, if◌then◌else◌, nat_eq, is_some, nat_lt, ◌&&◌, unwrap_or, length-set}
 use Rattle.execlist.specs.{Order.first, Disciplines.by_arrival}
 use Rattle.scheduler.specs.{Schedule.Schedule, Schedule.signals_of, Schedule.status_of, Schedule.awaits, Dispatch.signalled, Dispatch.arrives}
-use Rattle.msgport.specs.{Port.acting, Ports.nt_message, Ports.nt_replymsg, declared.action.Action.Action, declared.message.Message.Message as Content}
+use Rattle.msgport.specs.{Port.arrival_action, Ports.nt_message, Ports.nt_replymsg, declared.action.Action.Action, declared.message.Message.Message as Content}
 use Rattle.msgport.specs.declared.action.Action.TheVariants as action
 use Rattle.script.specs.declared.variable.Variable.TheVariants.{Private, Shared}
 use Rattle.script.specs.{declared.variable.Variable.Variable, File.SoftintData}
@@ -341,7 +341,7 @@ delivered_alters : (kind port message : ℕ) (s : State) → is_port_at port s.m
     → is_queued message s.memory.heap ≡ false → Alters s (put port message ∷ []) (delivered kind port message s)
 unfolding delivered posted typed
 delivered_alters kind port message s is also loose =
-    performed_alters (acting (port_of port s.memory.heap)) s (put port message ∷ []) _ refl refl refl (lands port message _ s.memory.heap is also loose)
+    performed_alters (arrival_action (port_of port s.memory.heap)) s (put port message ∷ []) _ refl refl refl (lands port message _ s.memory.heap is also loose)
     (λ p. refl)
 
 pub put_alters : (c : Caller) (call : Call) (s : State) → IsAltered s (does_put_msg_by c call s)

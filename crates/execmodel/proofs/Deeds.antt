@@ -1,6 +1,6 @@
 -- Facts about every call that is a value of what refuses it, what it makes of the blocks, and what it answers.
 use Rattle.std.proofs.Common.{◌≡◌, ℕ, Bool, Option, None, Some, refl, sym, ap, ◌∙◌, List, unwrap_or}
-use Rattle.execmodel.specs.{State.Call, State.Object, State.Memory, State.State, State.Outcome, State.on_memory, Calls.answered, Calls.unless, Deeds.allots, Deeds.makes, Deeds.performs, GivingWay.after_asking_for_object, Keeping.without_blocks, Memory.allocates, Memory.makes_object, Objects.place_for_object, Places.placed}
+use Rattle.execmodel.specs.{State.Call, State.Object, State.Memory, State.State, State.Outcome, State.on_memory, Calls.answered, Calls.unless, Deeds.allots, Deeds.makes, Deeds.performs, GivingWay.after_asking_for_object, Keeping.without_blocks, Memory.allocates_block, Memory.makes_object, Objects.place_for_object, Places.placed}
 use Rattle.execmodel.proofs.GivingWay.{asking_for_object_keeps}
 use Rattle.script.specs.declared.alert.Alert.{Alert}
 
@@ -21,7 +21,7 @@ unless_same (Some code) t call f g s e = refl
 pub allotting : (alert : Option Alert) (asked : Memory → Memory) (place : Memory → Option ℕ) (size : ℕ) (object : Object) (t : ℕ) (call : Call) (s : State)
     → without_blocks (asked s.memory) ≡ without_blocks s.memory
     → performs (allots alert asked place size object) t call s
-    ≡ unless alert t call (λ s. allocates t call size object (place (asked s.memory)) (on_memory asked s)) s
+    ≡ unless alert t call (λ s. allocates_block t call size object (place (asked s.memory)) (on_memory asked s)) s
 unfolding performs
 allotting alert asked place size object t call s keeps =
     let found = place (asked s.memory) in

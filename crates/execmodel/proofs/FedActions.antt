@@ -1,7 +1,7 @@
 -- A step, a tick, a request and the start do of a machine whose body grows what they do of the machine without that.
 use Rattle.std.proofs.Common.{◌≡◌, ◌≢◌, ◌∙◌, ℕ, zero, suc, Bool, true, false, List, [], ◌∷◌, Option, None, Some, length, refl, ap, if◌then◌else◌}
 use Rattle.execlist.specs.Disciplines.{by_arrival}
-use Rattle.exectrace.specs.Heard.{text_of_source}
+use Rattle.softint.specs.Sources.{source_text}
 use Rattle.exectrace.specs.Trace.{Serve, Server, Softint, TraceLine}
 use Rattle.script.specs.Commands.{CommandData}
 use Rattle.scheduler.specs.{declared.Switch.Switch as Choice, Schedule.Schedule, Dispatch.switch_of, Dispatch.rescheduled, Dispatch.added}
@@ -76,7 +76,7 @@ module _ (u : ℕ) (command : CommandData) where
   fed_serves asks s =
       let chain = chain_of asks s.bodies.servers in
       let begun = on_schedule (serving_counted asks) (on_pending (with_latch_of asks false) s) in
-      fed_andthen u command (says (Serve (text_of_source asks))) (andthen (finishes_for asks) (runs_chain chain)) begun refl
+      fed_andthen u command (says (Serve (source_text asks))) (andthen (finishes_for asks) (runs_chain chain)) begun refl
       (fed_andthen u command (finishes_for asks) (runs_chain chain) begun (fed_finishing asks begun) (fed_chain chain (finishes_for asks begun).state))
 
   fed_servings : (n : ℕ) (s : State) → Commutes u command (servings n) s

@@ -4,9 +4,9 @@ use Rattle.memlist.proofs.Answered.{nat_eq-same}
 use Rattle.script.specs.declared.event.Event.TheVariants.{Run, Tick, Irq}
 use Rattle.script.specs.{Machines.IsMachine, declared.event.Event.Event, Commands.CommandData, File.MachineData, File.TaskData}
 use Rattle.scheduler.specs.Schedule.{Schedule, unstarted}
-use Rattle.execmodel.specs.State.{Program, State, Outcome, quiet, andthen, unless_stopped, no_program, on_schedule, begun, booted}
+use Rattle.execmodel.specs.State.{Program, State, Outcome, quiet, andthen, unless_stopped, no_program, on_schedule, new_program, booted}
 use Rattle.execmodel.specs.Feeding.{altered, longer, fed_to, fed, at_end, StepsCommuteWithFeeding, OthersCommuteWithFeeding, AFedCommandIsNext, BodiesRunInParts, Input, Comes, Feeds, inputs, fed_task, whole, events_among, is_fed, StaysWithin, ComeInTime, FedMachinesRunAsWhole}
-use Rattle.execmodel.specs.{Pending.source_named, Bodies.body_step, Bodies.runs_body, Step.settle, Step.started, Step.all_added, Pending.next_softint, Step.step, Step.steps, Step.tick, Step.ticks, Step.starts, Step.event, Step.events, Step.run}
+use Rattle.execmodel.specs.{Bodies.body_step, Bodies.runs_body, Step.settle, Step.started, Step.all_added, Pending.next_softint, Step.step, Step.steps, Step.tick, Step.ticks, Step.starts, Step.event, Step.events, Step.run}
 use Rattle.execmodel.proofs.{FedScripts.fed_last, FedScripts.altered_count, FedWords.Commutes, FedWords.fed_andthen, FedActions.fed_step, FedActions.fed_request, FedActions.fed_tick, FedActions.fed_start, FedActions.fed_at_end, Moments.joined, Moments.next_same}
 use Rattle.std.proofs.Common.{length, if◌then◌else◌, None}
 use Rattle.std.proofs.lemmas.List.{length-replicate}
@@ -67,7 +67,7 @@ fed_event : (t : ℕ) (command : CommandData) (e : Event) (s : State) → StaysW
 unfolding event
 fed_event t command (Run n) s within = fed_steps t command n s within
 fed_event t command (Tick n) s within = fed_ticks t command n s
-fed_event t command (Irq name) s within = fed_request t command (source_named name) s
+fed_event t command (Irq asks) s within = fed_request t command asks s
 
 -- ---- a new task
 
@@ -137,7 +137,7 @@ new_ready task s going ready =
       sound = record {
         tidy = record { formed = ready.sound.tidy.formed; order = ready.sound.tidy.order };
         idle = ready.sound.idle;
-        counted = one_longer (begun task) s.scripts.programs ∙ ap suc ready.sound.counted ∙ sym more;
+        counted = one_longer (new_program task) s.scripts.programs ∙ ap suc ready.sound.counted ∙ sym more;
         roomy = ap suc ready.sound.roomy ∙ sym more;
         agrees = λ t. untouched t s.schedule states (λ a. waiters_of a s.memory.heap) (λ a. waiters_of a s.memory.heap)
             (status_same n task.pri task.name t s.schedule) refl refl (λ a. refl) (ready.sound.agrees t);
@@ -150,7 +150,7 @@ new_ready task s going ready =
           signals = one_longer initial_sets s.schedule.signals ∙ ap suc sized.0.signals;
           nestings = one_longer initial_nesting s.schedule.nestings ∙ ap suc sized.0.nestings;
         },
-        one_longer (begun task) s.scripts.programs ∙ ap suc sized.1,
+        one_longer (new_program task) s.scripts.programs ∙ ap suc sized.1,
       );
     }
 
@@ -197,7 +197,7 @@ still_within u command t (Run n) s grows within = λ k less.
     (sym (ap (λ (o : Outcome). at_end o.state) (fed_steps u command k s (λ j fewer. grows j (omega (arith, less, fewer)))) ∙ fed_at_end u command r (grows k less)))
     (within k less)
 still_within u command t (Tick n) s grows within = tt
-still_within u command t (Irq name) s grows within = tt
+still_within u command t (Irq asks) s grows within = tt
 
 -- fewer steps go on too
 fewer_going : (n k : ℕ) (s : State) → k ≤ n → (steps n s).state.stopped ≡ false → (steps k s).state.stopped ≡ false
@@ -243,7 +243,7 @@ within_new task t (Run n) s ready going within = λ k less.
     (sym (ap (λ (o : Outcome). at_end o.state) (new_event task (Run k) s ready on) ∙ new_at_end task r (event_ready (Run k) s ready) on))
     (within k less)
 within_new task t (Tick n) s ready going within = tt
-within_new task t (Irq name) s ready going within = tt
+within_new task t (Irq asks) s ready going within = tt
 
 either_true : (a b : Bool) → b ≡ true → (a || b) ≡ true
 either_true true b e = refl
@@ -320,7 +320,7 @@ not_started : (task : TaskData) (s : State) (r : Schedule) → task.start ≡ fa
     → started (more (count_of_tasks s) task s.scripts) (length s.scripts.programs) r ≡ r
 not_started task s r e =
     ap (λ b. if b then added by_arrival (length s.scripts.programs) r else r)
-    (ap (λ (p : Program). p.starts) (last_one no_program (begun task) s.scripts.programs) ∙ e)
+    (ap (λ (p : Program). p.starts) (last_one no_program (new_program task) s.scripts.programs) ∙ e)
 
 start_with : (task : TaskData) (s : State) → IsReady s → s.stopped ≡ false → task.start ≡ false → (starts s).state.stopped ≡ false
     → Both (count_of_tasks s) task (starts (grown (count_of_tasks s) task s)) (starts s)
@@ -335,7 +335,7 @@ start_with task s ready on e going =
     let both = settle_with n task r (of_adding Waits waits many s (omega arith) ready.sound).0 (moves.fits, count) going in
     record {
       same = ap (λ (schedule : Schedule). settle (record (grown n task s) { schedule = schedule }))
-          (ap (λ k. all_added (more n task s.scripts) k (joined_by task.pri task.name s.schedule)) (one_longer (begun task) s.scripts.programs)
+          (ap (λ k. all_added (more n task s.scripts) k (joined_by task.pri task.name s.schedule)) (one_longer (new_program task) s.scripts.programs)
           ∙ not_started task s (all_added (more n task s.scripts) many (joined_by task.pri task.name s.schedule)) e ∙ moves.same)
           ∙ both.same;
       sized = both.sized;
@@ -377,11 +377,11 @@ map_altered part zero f (x ∷ xs) keeps = ap (λ y. y ∷ map part xs) (keeps x
 map_altered part (suc n) f (x ∷ xs) keeps = ap (λ ys. part x ∷ ys) (map_altered part n f xs keeps)
 
 programs_altered : (n : ℕ) (command : CommandData) (tasks : List TaskData)
-    → map begun (altered n (fed_task command) tasks) ≡ altered n (longer command) (map begun tasks)
+    → map new_program (altered n (fed_task command) tasks) ≡ altered n (longer command) (map new_program tasks)
 unfolding altered
 programs_altered n command [] = refl
 programs_altered zero command (task ∷ tasks) = refl
-programs_altered (suc n) command (task ∷ tasks) = ap (λ ps. begun task ∷ ps) (programs_altered n command tasks)
+programs_altered (suc n) command (task ∷ tasks) = ap (λ ps. new_program task ∷ ps) (programs_altered n command tasks)
 
 booted_fed : (t : ℕ) (command : CommandData) (machine : MachineData)
     → booted (record machine { tasks = altered t (fed_task command) machine.tasks }) ≡ fed t command (booted machine)
@@ -415,7 +415,7 @@ booted_new task machine =
     let nestings = ap (λ n. replicate n initial_nesting) count ∙ replicate_last many initial_nesting in
     let pris = map_last (λ (task : TaskData). task.pri) machine.tasks task in
     let names = map_last (λ (task : TaskData). task.name) machine.tasks task in
-    let programs = map_last begun machine.tasks task in
+    let programs = map_last new_program machine.tasks task in
     λ i. record (booted machine) {
       schedule = record (booted machine).schedule {
         queue = record (booted machine).schedule.queue { states = states i; pris = pris i; names = names i };
@@ -451,7 +451,7 @@ booted_ready machine is =
           signals = length-replicate (length machine.tasks) initial_sets ∙ sym many;
           nestings = length-replicate (length machine.tasks) initial_nesting ∙ sym many;
         },
-        as_many begun Absent machine.tasks,
+        as_many new_program Absent machine.tasks,
       );
     }
 

@@ -230,7 +230,7 @@ expunged_still base p heap is =
     ∙ sym (ap (λ a. messages_of_object (object_at a heap)) same ∙ no_port is_library library_none (object_at base heap) is))
     (λ apart. ap (λ found. messages_of_object found) (object_rid_there p base heap apart))
 
-takes_still : {asks : Bool} (regions : List Region) (old new : Heap) → Takes asks regions old new → IsWellFormed regions (extents old)
+takes_still : {asks may_count : Bool} (regions : List Region) (old new : Heap) → Takes asks may_count regions old new → IsWellFormed regions (extents old)
     → (p : ℕ) → messages_of p new ≡ messages_of p old
 takes_still regions old new nothing formed p = refl
 takes_still regions old new (places size reqs address object is fits) formed p =
@@ -239,7 +239,7 @@ takes_still regions old new (places size reqs address object is fits) formed p =
     ∙ new_none old object is
     ∙ sym (ap (λ found. messages_of_object found) (ap (λ a. object_at a old) same ∙ placed_fresh regions size reqs address old formed fits)))
     (λ apart. ap (λ found. messages_of_object found) (object_placed_there p address _ old apart))
-takes_still regions old new (recounts base count delayed is more rest) formed p =
+takes_still regions old new (recounts base count delayed is more may rest) formed p =
     takes_still regions (with_library base count delayed old) new rest (counted_formed regions base count delayed old formed) p
     ∙ counted_still base count delayed p old (is formed)
 takes_still regions old new (yields base is none may rest) formed p =
@@ -266,7 +266,7 @@ moves_follow regions t call old marks new (queues semaphore is e) formed p = sem
 moves_follow regions t call old marks new (hands semaphore owner release is last e) formed p = semaphore_still semaphore _ _ p old is
 moves_follow regions t call old marks new (opens semaphore release is last e) formed p = semaphore_still semaphore _ _ p old is
 moves_follow regions t call old marks new (releases semaphore is last) formed p = semaphore_still semaphore _ _ p old is
-moves_follow regions t call old marks new (counts base count delayed is) formed p = counted_still base count delayed p old (is formed)
+moves_follow regions t call old marks new (counts base count delayed is may) formed p = counted_still base count delayed p old (is formed)
 moves_follow regions t call old marks new (expunges base is may) formed p = expunged_still base p old is
 moves_follow regions t call old marks new (drops other apart) formed p =
     subst (λ turns. Follows (messages_of p old) turns (messages_of p new)) (sym (left_marks (awaited_by other old) other p))

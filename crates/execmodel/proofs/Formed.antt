@@ -5,7 +5,7 @@ use Rattle.memlist.specs.{declared.region.Region.Region, Blocks.Blocks, Blocks.f
 use Rattle.memlist.proofs.{Fitting.fitted_well_formed, Fitting.fitted_fresh, Keeping.freed_well_formed}
 use Rattle.iorequest.specs.declared.request.Request.{Request as TimerRequest}
 use Rattle.execmodel.specs.Semaphores.{with_semaphore, left_by_task, entered, queued, dropped, handed_on, released_once}
-use Rattle.execmodel.specs.{State.Call, State.Object, State.Library, State.Request, State.Block, State.Heap, State.Waiting as Queued, State.Mark, State.State, Requests.with_request, Objects.object_at, Objects.replaced, Memory.extents, Memory.block_at, Lists.with_nodes, Lists.unlinked, Lists.left_by, Ports.with_action, Ports.with_port, Ports.appended, Ports.taken_off, Libraries.number_of, Libraries.with_library}
+use Rattle.execmodel.specs.{State.Call, State.Object, State.Library, State.Request, State.Block, State.Heap, State.Waiting as Queued, State.Mark, State.State, Requests.with_request, Objects.object_at, Objects.replaced, Memory.extents, Memory.block_at, Lists.with_nodes, Lists.unlinked, Lists.left_by, Ports.with_action, Ports.with_port, Ports.appended, Ports.taken_off, Libraries.library_number_at, Libraries.with_library}
 use Rattle.execmodel.proofs.Moves.{Moves, touches, takes, frees, relists, unlinks, sets, enters, queues, hands, opens, releases, counts, expunges, drops}
 use Rattle.execmodel.proofs.{Heaps.rid, Commands.Touches, Commands.remains, Commands.fills, Commands.puts, Commands.gets, Commands.none_some, Asking.Asks, Asking.writes, Asking.answers, Asking.written, Asking.without_reply, Taking.Takes, Taking.nothing, Taking.places, Taking.recounts, Taking.yields}
 
@@ -70,18 +70,18 @@ pub counted_formed : (regions : List Region) (base count : ℕ) (delayed : Bool)
     → IsWellFormed regions (extents (with_library base count delayed heap))
 unfolding with_library
 counted_formed regions base count delayed heap formed =
-    same_extents regions heap (map (replaced base (Library (number_of base heap) count delayed)) heap) (extents_replaced base _ heap) formed
+    same_extents regions heap (map (replaced base (Library (library_number_at base heap) count delayed)) heap) (extents_replaced base _ heap) formed
 
 pub rid_formed : (regions : List Region) (address : ℕ) (heap : Heap) → IsWellFormed regions (extents heap) → IsWellFormed regions (extents (rid address heap))
 rid_formed regions address heap formed =
     subst (λ bs. IsWellFormed regions bs) (sym (extents_rid address heap)) (freed_well_formed regions (extents heap) address formed)
 
-takes_formed : {asks : Bool} (regions : List Region) (old new : Heap) → Takes asks regions old new → IsWellFormed regions (extents old) → IsWellFormed regions (extents new)
+takes_formed : {asks may_count : Bool} (regions : List Region) (old new : Heap) → Takes asks may_count regions old new → IsWellFormed regions (extents old) → IsWellFormed regions (extents new)
 takes_formed regions old new nothing formed = formed
 takes_formed regions old new (places size reqs address object is fits) formed =
     subst (λ bs. IsWellFormed regions bs) (sym (extents_put address (round size) object old))
     (fitted_well_formed regions (extents old) size reqs 0 address formed fits)
-takes_formed regions old new (recounts base count delayed is more rest) formed =
+takes_formed regions old new (recounts base count delayed is more may rest) formed =
     takes_formed regions (with_library base count delayed old) new rest (counted_formed regions base count delayed old formed)
 takes_formed regions old new (yields base is none may rest) formed = takes_formed regions (rid base old) new rest (rid_formed regions base old formed)
 
@@ -103,7 +103,7 @@ moves_formed regions t call old marks new (opens semaphore release is last e) fo
     same_extents regions old new (extents_replaced semaphore _ old) formed
 moves_formed regions t call old marks new (releases semaphore is last) formed =
     same_extents regions old new (extents_replaced semaphore _ old) formed
-moves_formed regions t call old marks new (counts base count delayed is) formed = counted_formed regions base count delayed old formed
+moves_formed regions t call old marks new (counts base count delayed is may) formed = counted_formed regions base count delayed old formed
 moves_formed regions t call old marks new (expunges base is may) formed = rid_formed regions base old formed
 moves_formed regions t call old marks new (drops other apart) formed =
     same_extents regions old new (extents_remade (left_by_task other) old) formed

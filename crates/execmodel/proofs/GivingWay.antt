@@ -1,7 +1,7 @@
 -- Asking libraries to be expunged under low memory changes the blocks alone.
 use Rattle.std.proofs.Common.{◌≡◌, ℕ, Bool, true, false, List, [], ◌∷◌, Option, None, Some, refl, ◌∙◌, not, ◌&&◌, if◌then◌else◌, nat_eq, is_some, length}
 use Rattle.std.specs.List.{range_with_len}
-use Rattle.execmodel.specs.{Blocks.Object, Blocks.Memory, Places.place_for, Objects.is_allowed, Loaded.base_of, Loaded.count_of, Loaded.removed, GivingWay.gives_way_at, GivingWay.gives_way, GivingWay.asked_one, GivingWay.asked_each, GivingWay.after_asking, GivingWay.after_asking_for_object, Ports.is_port, Ports.port_size, Ports.after_asking_for_port, Libraries.library_at, Libraries.ready_to_load, Libraries.ready_to_open, Keeping.without_blocks}
+use Rattle.execmodel.specs.{Blocks.Object, Blocks.Memory, Places.place_for, Objects.is_allowed, Loaded.base_of, Loaded.count_of, Loaded.after_expunge, GivingWay.gives_way_at, GivingWay.gives_way, GivingWay.asked_one, GivingWay.asked_each, GivingWay.after_asking, GivingWay.after_asking_for_object, Ports.is_port, Ports.port_size, Ports.after_asking_for_port, Libraries.library_at, Libraries.ready_to_load, Libraries.ready_to_open, Keeping.without_blocks}
 use Rattle.execlib.specs.Libraries.{public_memory}
 
 -- the blocks change alone, whichever of two things is done
@@ -10,8 +10,8 @@ pub either_memory : (test : Bool) (m n memory : Memory) → without_blocks m ≡
 either_memory true m n memory first second = first
 either_memory false m n memory first second = second
 
-pub removed_keeps : (base : ℕ) (memory : Memory) → without_blocks (removed base memory) ≡ without_blocks memory
-unfolding removed
+pub removed_keeps : (base : ℕ) (memory : Memory) → without_blocks (after_expunge base memory) ≡ without_blocks memory
+unfolding after_expunge
 removed_keeps base memory = either_memory (nat_eq (count_of base memory.heap) 0) _ _ memory refl refl
 
 given_way_keeps : (found : Option ℕ) (memory : Memory) → without_blocks (gives_way_at found memory) ≡ without_blocks memory

@@ -125,6 +125,13 @@ only_closed_before regions new = record {
       (rest (rid_formed regions base heap formed));
 }
 
+-- a block that is no library's stays
+pub asking_leaves_others : (size reqs : ℕ) (memory : Memory) → IsWellFormed memory.regions (extents memory.heap) → (a : ℕ)
+    → is_library_at a memory.heap ≡ false → block_at a (after_asking size reqs memory).heap ≡ block_at a memory.heap
+asking_leaves_others size reqs memory formed =
+    let asked = (after_asking size reqs memory).heap in
+    (asking_before memory.regions _ size reqs memory (λ asks. only_closed_before memory.regions asked) (λ formed. unchanged asked) formed).others
+
 pub only_closed_libraries_give_way : OnlyClosedLibrariesGiveWay
 only_closed_libraries_give_way size reqs machine list is =
     let memory = (run machine list).state.memory in

@@ -51,6 +51,10 @@ pub mod Taking
 pub mod Tidy
 pub mod TidyLaw
 pub mod Versions
+pub mod VersionOne
+pub mod UnaskedLibraries
+pub mod OtherBlocks
+pub mod OtherLists
 pub mod Waiting
 pub mod WaitingLaw
 pub mod Words

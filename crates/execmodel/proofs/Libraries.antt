@@ -2,16 +2,16 @@
 use Rattle.std.proofs.Common.{◌⊎◌, inl, inr, ◌≡◌, ◌≢◌, ℕ, ◌≤◌, Bool, true, false, List, Option, None, Some, refl, sym, ap, ◌∙◌, subst, arith, not, cond, if◌then◌else◌, nat_eq, map, option_map, nat_cmp}
 use Rattle.std.specs.{Option.option_map_or, Cmp.nat_cmp_total, FinMap.put as put_entry, FinMap.Entries.find-put}
 use Rattle.execlist.specs.Disciplines.{by_arrival}
-use Rattle.memlist.specs.{declared.region.Region.Region, Memory.IsWellFormed}
+use Rattle.memlist.specs.{declared.region.Region.Region, Fit.fit, Memory.IsWellFormed}
 use Rattle.memlist.proofs.Answered.{nat_eq-same, nat_eq-other, cases_eq, key_other}
 use Rattle.iorequest.specs.declared.request.Request.{Request as TimerRequest}
 use Rattle.execmodel.specs.State.{Call, Object, ListHead, Semaphore, Library, Request, Block, Heap, Waiting as Queued, Mark, State, Outcome, quiet, andthen, on_schedule}
 use Rattle.execmodel.specs.Semaphores.{is_semaphore, is_semaphore_at, with_semaphore, left_by_task, entered, queued, dropped, handed_on, released_once}
-use Rattle.execmodel.specs.Libraries.{is_library, is_library_at, library_number, number_of, count_in, count_of, with_library}
-use Rattle.execmodel.specs.{Requests.is_request, Requests.is_request_at, Requests.with_request, Requests.finishes, Calls.next_call, Pending.next_softint, Bodies.body_step, Objects.object_at, Objects.is_kind, Objects.replaced, Memory.extents, Memory.block_at, Lists.is_list, Lists.is_list_at, Lists.with_nodes, Lists.unlinked, Lists.left_by, Ports.is_port, Ports.is_message, Ports.is_port_at, Ports.is_message_at, Ports.with_port, Ports.with_action, Ports.appended, Ports.taken_off, Step.switches, Step.settle, Step.ends, Step.call_step, Step.task_step, Step.softint_or_task_step, Step.acting, Step.acts, Step.step, Step.tick, Step.run, Laws.Action, Laws.OneStep, Laws.OneTick, Laws.OneRequest, Laws.outcome_of, Laws.IsToCall, Laws.IsRemoval, Laws.IsLastClose, Laws.StaysLoaded, Laws.OpenLibrariesStay, Laws.UnaskedLibrariesStay}
+use Rattle.execmodel.specs.Libraries.{is_library, is_library_at, library_number, library_number_at, count_in, count_of, delayed_in, is_delayed, with_library}
+use Rattle.execmodel.specs.{Requests.is_request, Requests.is_request_at, Requests.with_request, Requests.finishes, Calls.next_call, Pending.next_softint, Bodies.body_step, Objects.object_at, Objects.is_kind, Objects.replaced, Memory.extents, Memory.block_at, Lists.is_list, Lists.is_list_at, Lists.with_nodes, Lists.unlinked, Lists.left_by, Ports.is_port, Ports.is_message, Ports.is_port_at, Ports.is_message_at, Ports.with_port, Ports.with_action, Ports.appended, Ports.taken_off, Step.switches, Step.settle, Step.ends, Step.call_step, Step.task_step, Step.softint_or_task_step, Step.acting, Step.acts, Step.step, Step.tick, Step.run, Laws.Action, Laws.OneStep, Laws.OneTick, Laws.OneRequest, Laws.outcome_of, Laws.IsToCall, Laws.IsLastClose, Laws.StaysLoaded, Laws.OpenLibrariesStay}
 use Rattle.scheduler.specs.Dispatch.{rescheduled}
 use Rattle.execmodel.proofs.Stretches.{Relation, HoldsOfInterrupts, of_softint, of_set, of_settle, of_request, ticked}
-use Rattle.execmodel.proofs.Moves.{MayExpunge, MayGo, Moves, touches, takes, frees, relists, unlinks, sets, enters, queues, hands, opens, releases, counts, expunges, drops}
+use Rattle.execmodel.proofs.Moves.{MayExpunge, MayGo, Moves, is_of_libraries, touches, takes, frees, relists, unlinks, sets, enters, queues, hands, opens, releases, counts, expunges, drops}
 use Rattle.execmodel.proofs.{Heaps.block_remade, Heaps.found_rid, Heaps.rid, Heaps.filled, Heaps.true_is_not_false, Itself.does_itself, Itself.ends_followed, Itself.call_works, Formed.placed_fresh, Formed.counted_formed, Formed.rid_formed, Commands.Touches, Commands.remains, Commands.fills, Commands.puts, Commands.gets, Telling.body_alters, Taking.Takes, Taking.nothing, Taking.places, Taking.recounts, Taking.yields, Posts.IsTidy, Asking.Asks, Asking.writes, Asking.answers, Asking.written, Asking.without_reply, Asking.finishing, Works.Works, Works.by_moves, Works.by_asking, Works.by_taking, TidyLaw.quietly, TidyLaw.switches_quiet, TidyLaw.tidy_in_every_state}
 
 -- ---- a library is nothing else
@@ -93,7 +93,7 @@ unfolding is_library_at
 still_library base old new is e = ap (λ found. is_kind is_library (option_map (λ (block : Block). block.object) found)) e ∙ is
 
 pub still : (base : ℕ) (old new : Heap) → is_library_at base old ≡ true → block_at base new ≡ block_at base old → StaysLoaded base old new
-unfolding number_of
+unfolding library_number_at
 still base old new is e = record {
   loaded = still_library base old new is e;
   number = ap (λ found. option_map_or library_number (option_map (λ (block : Block). block.object) found) 0) e;
@@ -101,7 +101,7 @@ still base old new is e = record {
 }
 
 -- it stays further if its block stays
-further : (base : ℕ) (old mid new : Heap) → StaysLoaded base old mid → (is_library_at base mid ≡ true → block_at base new ≡ block_at base mid)
+pub further : (base : ℕ) (old mid new : Heap) → StaysLoaded base old mid → (is_library_at base mid ≡ true → block_at base new ≡ block_at base mid)
     → StaysLoaded base old new
 further base old mid new one keeps =
     let two = still base mid new one.loaded (keeps one.loaded) in
@@ -114,40 +114,41 @@ pub same_count : (base : ℕ) (old new : Heap) → block_at base new ≡ block_a
 unfolding count_of
 same_count base old new e = ap (λ found. option_map_or count_in (option_map (λ (block : Block). block.object) found) 0) e
 
-pub record IsCounted (n c : ℕ) (found new : Option Block) : Type 0 where
+pub same_mark : (base : ℕ) (old new : Heap) → block_at base new ≡ block_at base old → is_delayed base new ≡ is_delayed base old
+unfolding is_delayed
+same_mark base old new e = ap (λ found. option_map_or delayed_in (option_map (λ (block : Block). block.object) found) false) e
+
+pub record IsCounted (n c : ℕ) (d : Bool) (found new : Option Block) : Type 0 where
   pub loaded : is_kind is_library (option_map (λ (block : Block). block.object) new) ≡ true
   pub number : option_map_or library_number (option_map (λ (block : Block). block.object) new) 0 ≡ n
   pub count : option_map_or count_in (option_map (λ (block : Block). block.object) new) 0 ≡ c
+  pub mark : option_map_or delayed_in (option_map (λ (block : Block). block.object) new) false ≡ d
   pub size : option_map (λ (b : Block). b.size) new ≡ option_map (λ (b : Block). b.size) found
 
 counted_found : (number count : ℕ) (delayed : Bool) (found : Option Block)
     → is_kind is_library (option_map (λ (block : Block). block.object) found) ≡ true
-    → IsCounted number count found (option_map (λ (block : Block). record block { object = Library number count delayed }) found)
+    → IsCounted number count delayed found (option_map (λ (block : Block). record block { object = Library number count delayed }) found)
 counted_found number count delayed None is = true_is_not_false (sym is)
-counted_found number count delayed (Some block) is = record { loaded = refl; number = refl; count = refl; size = refl }
+counted_found number count delayed (Some block) is = record { loaded = refl; number = refl; count = refl; mark = refl; size = refl }
 
 counted_there : (base count : ℕ) (delayed : Bool) (old : Heap) → is_library_at base old ≡ true
-    → IsCounted (number_of base old) count (block_at base old) (block_at base (with_library base count delayed old))
-unfolding is_library_at number_of with_library
+    → IsCounted (library_number_at base old) count delayed (block_at base old) (block_at base (with_library base count delayed old))
+unfolding is_library_at library_number_at with_library
 counted_there base count delayed old is =
     let object = Library (option_map_or library_number (object_at base old) 0) count delayed in
     let there =
     block_remade (λ k block. if nat_eq k base then record block { object = object } else block) base old
     ∙ ap (λ test. option_map (λ (block : Block). if test then record block { object = object } else block) (block_at base old)) (nat_eq-same base) in
-    subst (λ new. IsCounted (option_map_or library_number (object_at base old) 0) count (block_at base old) new) (sym there)
+    subst (λ new. IsCounted (option_map_or library_number (object_at base old) 0) count delayed (block_at base old) new) (sym there)
     (counted_found (option_map_or library_number (object_at base old) 0) count delayed (block_at base old) is)
 
--- a library is not expunged because memory is low: it is open, or none is asked
-abbrev IsKept : Bool → ℕ → Heap → Type 0
-IsKept asks base heap = (1 ≤ count_of base heap) ⊎ (asks ≡ false)
-
--- such a library stays loaded, and stays so
-record StaysKept (asks : Bool) (base : ℕ) (old new : Heap) : Type 0 where
+-- a library that is open stays loaded, and open
+record StaysOpen (base : ℕ) (old new : Heap) : Type 0 where
   stays : StaysLoaded base old new
-  kept : IsKept asks base new
+  opened : 1 ≤ count_of base new
 
 pub counted : (base count : ℕ) (delayed : Bool) (old : Heap) → is_library_at base old ≡ true → StaysLoaded base old (with_library base count delayed old)
-unfolding is_library_at number_of
+unfolding is_library_at library_number_at
 counted base count delayed old is =
     let all = counted_there base count delayed old is in record { loaded = all.loaded; number = all.number; block = all.size }
 
@@ -155,38 +156,31 @@ pub counted_open : (base count : ℕ) (delayed : Bool) (old : Heap) → is_libra
 unfolding count_of
 counted_open base count delayed old is = (counted_there base count delayed old is).count
 
-still_kept : (asks : Bool) (base : ℕ) (old new : Heap) → (1 ≤ count_of base old → 1 ≤ count_of base new) → IsKept asks base old → IsKept asks base new
-still_kept asks base old new more (inl opened) = inl (more opened)
-still_kept asks base old new more (inr unasked) = inr unasked
+pub counted_mark : (base count : ℕ) (delayed : Bool) (old : Heap) → is_library_at base old ≡ true → is_delayed base (with_library base count delayed old) ≡ delayed
+unfolding is_delayed
+counted_mark base count delayed old is = (counted_there base count delayed old is).mark
 
-same_kept : (asks : Bool) (base : ℕ) (old new : Heap) → is_library_at base old ≡ true → IsKept asks base old → block_at base new ≡ block_at base old
-    → StaysKept asks base old new
-same_kept asks base old new is kept e = record {
-  stays = still base old new is e;
-  kept = still_kept asks base old new (λ opened. subst (λ n. 1 ≤ n) (sym (same_count base old new e)) opened) kept;
-}
+same_open : (base : ℕ) (old new : Heap) → is_library_at base old ≡ true → 1 ≤ count_of base old → block_at base new ≡ block_at base old
+    → StaysOpen base old new
+same_open base old new is opened e =
+    record { stays = still base old new is e; opened = subst (λ n. 1 ≤ n) (sym (same_count base old new e)) opened }
 
-recounted : (asks : Bool) (base other count : ℕ) (delayed : Bool) (old : Heap) → is_library_at base old ≡ true → IsKept asks base old
-    → is_library_at other old ≡ true → count_of other old ≤ count → StaysKept asks base old (with_library other count delayed old)
-recounted asks base other count delayed old is kept there more =
+recounted : (base other count : ℕ) (delayed : Bool) (old : Heap) → is_library_at base old ≡ true → 1 ≤ count_of base old
+    → is_library_at other old ≡ true → count_of other old ≤ count → StaysOpen base old (with_library other count delayed old)
+recounted base other count delayed old is opened there more =
     cases_eq base other
-    (λ same. subst (λ k. StaysKept asks k old (with_library other count delayed old)) (sym same) (record {
+    (λ same. subst (λ k. StaysOpen k old (with_library other count delayed old)) (sym same) (record {
       stays = counted other count delayed old there;
-      kept = still_kept asks other old (with_library other count delayed old)
-          (λ opened. subst (λ n. 1 ≤ n) (sym (counted_open other count delayed old there)) (most (count_of other old) opened more))
-          (subst (λ k. IsKept asks k old) same kept);
+      opened = subst (λ n. 1 ≤ n) (sym (counted_open other count delayed old there))
+          (most (count_of other old) (subst (λ k. 1 ≤ count_of k old) same opened) more);
     }))
-    (λ apart. same_kept asks base old (with_library other count delayed old) is kept (unfold with_library in block_elsewhere base other _ old apart))
+    (λ apart. same_open base old (with_library other count delayed old) is opened (unfold with_library in block_elsewhere base other _ old apart))
   where
     most : (n : ℕ) → 1 ≤ n → n ≤ count → 1 ≤ count
     most n one more = omega (arith, one, more)
 
 pub never : (n : ℕ) → n ≡ 0 → 1 ≤ n → ⊥
 never n e opened = omega (arith, e, opened)
-
-not_expunged : (asks : Bool) (base : ℕ) (heap : Heap) → count_of base heap ≡ 0 → asks ≡ true → IsKept asks base heap → ⊥
-not_expunged asks base heap none asked (inl opened) = never (count_of base heap) none opened
-not_expunged asks base heap none asked (inr unasked) = true_is_not_false (sym asked ∙ unasked)
 
 -- ---- whatever a call does
 
@@ -220,7 +214,7 @@ asked_keep s marks new later (answers port request content waiting there rewritt
     (apart_from is_port (λ object l. (alone object l).port) base port s.memory.heap is there)
     ∙ written_block request content base s.memory.heap is
 
-taken_keep : (port request : ℕ) (heap : Heap) → is_port_at port heap ≡ true → (base : ℕ) → is_library_at base heap ≡ true
+pub taken_keep : (port request : ℕ) (heap : Heap) → is_port_at port heap ≡ true → (base : ℕ) → is_library_at base heap ≡ true
     → block_at base (without_reply port request heap) ≡ block_at base heap
 unfolding with_port is_port_at
 taken_keep port request heap there base is =
@@ -230,71 +224,95 @@ fresh_apart : (found : Option Object) → is_kind is_library found ≡ true → 
 fresh_apart None is e = true_is_not_false (sym is)
 fresh_apart (Some object) is e = let bad : true ≡ false = sym is ∙ ap (λ x. is_kind is_library x) e in true_is_not_false bad
 
+-- no library is where a block fits
+pub fresh_there : (regions : List Region) (size reqs address base : ℕ) (old : Heap) → IsWellFormed regions (extents old)
+    → fit regions (extents old) size reqs ≡ Some address → is_library_at base old ≡ true → base ≢ address
+unfolding is_library_at
+fresh_there regions size reqs address base old formed fits is = λ same.
+    fresh_apart (object_at base old) is (ap (λ a. object_at a old) same ∙ placed_fresh regions size reqs address old formed fits)
+
 at_semaphore : (base semaphore : ℕ) (heap : Heap) → is_library_at base heap ≡ true → is_semaphore_at semaphore heap ≡ true → base ≢ semaphore
 unfolding is_semaphore_at
 at_semaphore base semaphore heap is there =
     apart_from is_semaphore (λ object l. (alone object l).semaphore) base semaphore heap is there
 
-takes_keep : (asks : Bool) (regions : List Region) (old new : Heap) → Takes asks regions old new → IsWellFormed regions (extents old) → (base : ℕ)
-    → is_library_at base old ≡ true → IsKept asks base old → StaysLoaded base old new
-takes_keep asks regions old new nothing formed base is kept = still base old old is refl
-takes_keep asks regions old new (places size reqs address object fresh fits) formed base is kept =
-    still base old new is (block_placed_there base address _ old
-    (λ same. fresh_apart (object_at base old) (unfold is_library_at in is) (ap (λ a. object_at a old) same ∙ placed_fresh regions size reqs address old formed fits)))
-takes_keep asks regions old new (recounts other count delayed there more rest) formed base is kept =
+takes_keep : {may_count : Bool} (asks : Bool) (regions : List Region) (old new : Heap) → Takes asks may_count regions old new
+    → IsWellFormed regions (extents old) → (base : ℕ) → is_library_at base old ≡ true → 1 ≤ count_of base old → StaysLoaded base old new
+takes_keep asks regions old new nothing formed base is opened = still base old old is refl
+takes_keep asks regions old new (places size reqs address object fresh fits) formed base is opened =
+    still base old new is (block_placed_there base address _ old (fresh_there regions size reqs address base old formed fits is))
+takes_keep asks regions old new (recounts other count delayed there more may rest) formed base is opened =
     let mid = with_library other count delayed old in
-    let one = recounted asks base other count delayed old is kept (there formed) more in
+    let one = recounted base other count delayed old is opened (there formed) more in
     joined base old mid new one.stays
-    (takes_keep asks regions mid new rest (counted_formed regions other count delayed old formed) base one.stays.loaded one.kept)
-takes_keep asks regions old new (yields other there none may rest) formed base is kept =
-    let one = same_kept asks base old (rid other old) is kept (block_rid_there base other old
-    (λ same. not_expunged asks other old none may (subst (λ k. IsKept asks k old) same kept))) in
+    (takes_keep asks regions mid new rest (counted_formed regions other count delayed old formed) base one.stays.loaded one.opened)
+takes_keep asks regions old new (yields other there none may rest) formed base is opened =
+    let one = same_open base old (rid other old) is opened (block_rid_there base other old
+    (λ same. never (count_of other old) none (subst (λ k. 1 ≤ count_of k old) same opened))) in
     joined base old (rid other old) new one.stays
-    (takes_keep asks regions (rid other old) new rest (rid_formed regions other old formed) base one.stays.loaded one.kept)
+    (takes_keep asks regions (rid other old) new rest (rid_formed regions other old formed) base one.stays.loaded one.opened)
 
-moves_keep : (asks : Bool) (regions : List Region) (t : ℕ) (call : Call) (old : Heap) (marks : List Mark) (new : Heap)
-    → Moves asks regions t call old marks new → IsWellFormed regions (extents old) → (base : ℕ) → is_library_at base old ≡ true → IsKept asks base old
-    → StaysLoaded base old new ⊎ MayExpunge call base old
+-- What a call makes of a library: its block stays; or the call takes memory, counts the openings of a library, or expunges one.
+pub data Meets (asks : Bool) (regions : List Region) (call : Call) (base : ℕ) (old new : Heap) : Type 0 where
+  untouched : block_at base new ≡ block_at base old → Meets asks regions call base old new
+  taken : Takes asks (is_of_libraries call.word) regions old new → Meets asks regions call base old new
+  recounted_at : (other count : ℕ) (delayed : Bool) → is_library_at other old ≡ true → is_of_libraries call.word ≡ true
+      → new ≡ with_library other count delayed old → Meets asks regions call base old new
+  expunged_at : (other : ℕ) → MayExpunge call other old → new ≡ rid other old → Meets asks regions call base old new
+
+pub moves_meet : (asks : Bool) (regions : List Region) (t : ℕ) (call : Call) (old : Heap) (marks : List Mark) (new : Heap)
+    → Moves asks regions t call old marks new → IsWellFormed regions (extents old) → (base : ℕ) → is_library_at base old ≡ true
+    → Meets asks regions call base old new
 unfolding with_nodes unlinked with_action with_port with_semaphore entered queued dropped handed_on released_once is_list_at is_port_at
-moves_keep asks regions t call old marks new (touches how) formed base is kept = inl (still base old new is (touched_keep old marks new how base is))
-moves_keep asks regions t call old marks new (takes how) formed base is kept = inl (takes_keep asks regions old new how formed base is kept)
-moves_keep asks regions t call old marks new (frees address may unneeded) formed base is kept =
-    inl (still base old new is (block_rid_there base address old
-    (λ same. not_gone (object_at address old) may (subst (λ a. is_kind is_library (object_at a old) ≡ true) same (unfold is_library_at in is)))))
-moves_keep asks regions t call old marks new (relists list nodes there) formed base is kept =
-    inl (still base old new is (block_elsewhere base list _ old (apart_from is_list (λ object l. (alone object l).list) base list old is there)))
-moves_keep asks regions t call old marks new (unlinks node) formed base is kept =
-    inl (still base old new is (block_remade_alike (left_by node) (left_alone node) base old is))
-moves_keep asks regions t call old marks new (sets act port there) formed base is kept =
-    inl (still base old new is (block_elsewhere base port _ old (apart_from is_port (λ object l. (alone object l).port) base port old is there)))
-moves_keep asks regions t call old marks new (enters semaphore there e) formed base is kept =
-    inl (still base old new is (block_elsewhere base semaphore _ old (at_semaphore base semaphore old is there)))
-moves_keep asks regions t call old marks new (queues semaphore there e) formed base is kept =
-    inl (still base old new is (block_elsewhere base semaphore _ old (at_semaphore base semaphore old is there)))
-moves_keep asks regions t call old marks new (hands semaphore owner release there last e) formed base is kept =
-    inl (still base old new is (block_elsewhere base semaphore _ old (at_semaphore base semaphore old is there)))
-moves_keep asks regions t call old marks new (opens semaphore release there last e) formed base is kept =
-    inl (still base old new is (block_elsewhere base semaphore _ old (at_semaphore base semaphore old is there)))
-moves_keep asks regions t call old marks new (releases semaphore there last) formed base is kept =
-    inl (still base old new is (block_elsewhere base semaphore _ old (at_semaphore base semaphore old is there)))
-moves_keep asks regions t call old marks new (counts other count delayed there) formed base is kept =
-    cases_eq base other
-    (λ same. inl (subst (λ k. StaysLoaded k old new) (sym same) (counted other count delayed old (there formed))))
-    (λ apart. inl (still base old new is (unfold with_library in block_elsewhere base other _ old apart)))
-moves_keep asks regions t call old marks new (expunges other there may) formed base is kept =
+moves_meet asks regions t call old marks new (touches how) formed base is = untouched (touched_keep old marks new how base is)
+moves_meet asks regions t call old marks new (takes how) formed base is = taken how
+moves_meet asks regions t call old marks new (frees address may unneeded) formed base is =
+    untouched (block_rid_there base address old
+    (λ same. not_gone (object_at address old) may (subst (λ a. is_kind is_library (object_at a old) ≡ true) same (unfold is_library_at in is))))
+moves_meet asks regions t call old marks new (relists list nodes there) formed base is =
+    untouched (block_elsewhere base list _ old (apart_from is_list (λ object l. (alone object l).list) base list old is there))
+moves_meet asks regions t call old marks new (unlinks node) formed base is =
+    untouched (block_remade_alike (left_by node) (left_alone node) base old is)
+moves_meet asks regions t call old marks new (sets act port there) formed base is =
+    untouched (block_elsewhere base port _ old (apart_from is_port (λ object l. (alone object l).port) base port old is there))
+moves_meet asks regions t call old marks new (enters semaphore there e) formed base is =
+    untouched (block_elsewhere base semaphore _ old (at_semaphore base semaphore old is there))
+moves_meet asks regions t call old marks new (queues semaphore there e) formed base is =
+    untouched (block_elsewhere base semaphore _ old (at_semaphore base semaphore old is there))
+moves_meet asks regions t call old marks new (hands semaphore owner release there last e) formed base is =
+    untouched (block_elsewhere base semaphore _ old (at_semaphore base semaphore old is there))
+moves_meet asks regions t call old marks new (opens semaphore release there last e) formed base is =
+    untouched (block_elsewhere base semaphore _ old (at_semaphore base semaphore old is there))
+moves_meet asks regions t call old marks new (releases semaphore there last) formed base is =
+    untouched (block_elsewhere base semaphore _ old (at_semaphore base semaphore old is there))
+moves_meet asks regions t call old marks new (counts other count delayed there may) formed base is =
+    recounted_at other count delayed (there formed) may refl
+moves_meet asks regions t call old marks new (expunges other there may) formed base is = expunged_at other may refl
+moves_meet asks regions t call old marks new (drops other apart) formed base is =
+    untouched (block_remade_alike (left_by_task other) (task_left_alone other) base old is)
+
+met_keep : (asks : Bool) (regions : List Region) (call : Call) (base : ℕ) (old new : Heap) → Meets asks regions call base old new
+    → IsWellFormed regions (extents old) → is_library_at base old ≡ true → 1 ≤ count_of base old
+    → StaysLoaded base old new ⊎ MayExpunge call base old
+met_keep asks regions call base old new (untouched e) formed is opened = inl (still base old new is e)
+met_keep asks regions call base old new (taken how) formed is opened = inl (takes_keep asks regions old new how formed base is opened)
+met_keep asks regions call base old new (recounted_at other count delayed there may e) formed is opened =
+    inl (subst (λ heap. StaysLoaded base old heap) (sym e)
+    (cases_eq base other
+    (λ same. subst (λ k. StaysLoaded k old (with_library other count delayed old)) (sym same) (counted other count delayed old there))
+    (λ apart. still base old (with_library other count delayed old) is (unfold with_library in block_elsewhere base other _ old apart))))
+met_keep asks regions call base old new (expunged_at other may e) formed is opened =
     cases_eq base other
     (λ same. inr (subst (λ k. MayExpunge call k old) (sym same) may))
-    (λ apart. inl (still base old new is (block_rid_there base other old apart)))
-moves_keep asks regions t call old marks new (drops other apart) formed base is kept =
-    inl (still base old new is (block_remade_alike (left_by_task other) (task_left_alone other) base old is))
+    (λ apart. inl (subst (λ heap. StaysLoaded base old heap) (sym e) (still base old (rid other old) is (block_rid_there base other old apart))))
 
 -- ---- over every action
 
 -- no interrupt touches a library, and no switch
-abbrev Kept : ℕ → Relation
+abbrev pub Kept : ℕ → Relation
 Kept base old marks new = is_library_at base old.memory.heap ≡ true → block_at base new.memory.heap ≡ block_at base old.memory.heap
 
-kept : (base : ℕ) → HoldsOfInterrupts (Kept base)
+pub kept : (base : ℕ) → HoldsOfInterrupts (Kept base)
 kept base = record {
   nothing = λ s is. refl;
   joined = λ s some r more q first next is. next (still_library base s.memory.heap r.memory.heap is (first is)) ∙ first is;
@@ -319,14 +337,15 @@ record IsToExpunge (base : ℕ) (s : State) : Type 0 where
 abbrev Keeps : ℕ → State → Heap → Type 0
 Keeps base s heap = StaysLoaded base s.memory.heap heap ⊎ IsToExpunge base s
 
-module _ (base : ℕ) (s : State) (tidy : IsTidy s) (is : is_library_at base s.memory.heap ≡ true) (keeps : IsKept s.memory.asks base s.memory.heap) where
+module _ (base : ℕ) (s : State) (tidy : IsTidy s) (is : is_library_at base s.memory.heap ≡ true) (opened : 1 ≤ count_of base s.memory.heap) where
   itself : StaysLoaded base s.memory.heap s.memory.heap
   itself = still base s.memory.heap s.memory.heap is refl
 
   called_keep : (t : ℕ) (call : Call) (o : Outcome) → Works t call s o
       → StaysLoaded base s.memory.heap o.state.memory.heap ⊎ MayExpunge call base s.memory.heap
   called_keep t call o (by_moves makes same) =
-      moves_keep s.memory.asks s.memory.regions t call s.memory.heap o.marks o.state.memory.heap makes.1 tidy.formed base is keeps
+      met_keep s.memory.asks s.memory.regions call base s.memory.heap o.state.memory.heap
+      (moves_meet s.memory.asks s.memory.regions t call s.memory.heap o.marks o.state.memory.heap makes.1 tidy.formed base is) tidy.formed is opened
   called_keep t call o (by_asking regions asks) =
       inl (still base s.memory.heap o.state.memory.heap is (asked_keep s o.marks o.state.memory.heap o.state.memory.timer.waiting asks base is))
   called_keep t call o (by_taking port request regions same marks heap lives) =
@@ -376,20 +395,7 @@ open_stays base s opened e = elim e.may [
 
 pub open_libraries_stay : OpenLibrariesStay
 open_libraries_stay base machine list action is there opened =
-    elim (at_action base (run machine list).state (tidy_in_every_state machine list is) there (inl opened) action) [
+    elim (at_action base (run machine list).state (tidy_in_every_state machine list is) there opened action) [
       | inl stays ↦ inl stays
       | inr gone ↦ inr (gone.0, open_stays base (run machine list).state opened gone.1)
-    ]
-
-expunged_by : (base : ℕ) (s : State) → IsToExpunge base s → IsRemoval base s ⊎ IsLastClose base s
-expunged_by base s e = elim e.may [
-  | inl removing ↦ inl (record { t = e.t; call = e.call; calls = e.calls; word = removing.word; names = removing.names; none = removing.none })
-  | inr last ↦ inr (record { t = e.t; call = e.call; calls = e.calls; word = last.word; names = last.names; once = last.once; delayed = last.delayed })
-]
-
-pub unasked_libraries_stay : UnaskedLibrariesStay
-unasked_libraries_stay base machine list action is unasked there =
-    elim (at_action base (run machine list).state (tidy_in_every_state machine list is) there (inr unasked) action) [
-      | inl stays ↦ inl stays
-      | inr gone ↦ inr (gone.0, expunged_by base (run machine list).state gone.1)
     ]

@@ -4,7 +4,7 @@ use Rattle.std.proofs.lemmas.List.Elements.{All-nil, All-head, All-tail, All-app
 use Rattle.execlist.specs.Disciplines.{by_arrival}
 use Rattle.exectrace.specs.Trace.{Value, Done, Switch, Serve, Server, Softint}
 use Rattle.exectrace.specs.Trace as trace
-use Rattle.scheduler.specs.Schedule.{Schedule, name_of, status_of, is_absent, begins, leaves, renewed, ticked as quantum_ticked, ticked_for}
+use Rattle.scheduler.specs.Schedule.{Schedule, name_of, status_of, is_absent, begins, leaves, renewed, quantum_ticked, ticked_for}
 use Rattle.scheduler.specs.{declared.Switch.Switch as Choice, Dispatch.arrives, Dispatch.added, Dispatch.displaced, Dispatch.after_switch, Dispatch.rescheduled, Dispatch.switch_of}
 use Rattle.scheduler.specs.declared.Switch.TheVariants as switch
 use Rattle.softint.specs.declared.source.Source.{Source}
@@ -12,11 +12,11 @@ use Rattle.softint.specs.declared.source.Source.TheVariants as source
 use Rattle.timerdev.specs.Timing.{due_next, looked_at, until_next, ticked as clock_ticked}
 use Rattle.script.specs.declared.event.Event.TheVariants.{Run, Tick, Irq}
 use Rattle.script.specs.{Commands.CommandData, File.MachineData, File.TaskData, File.SoftintData, File.ServerData, Machines.IsMachine, Machines.IsCode, Machines.IsTask, Machines.IsSoftint, Machines.IsServer, Machines.softint_names, declared.event.Event.Event}
-use Rattle.execmodel.specs.State.{Call, Scripts, State, Timer as Clock, Outcome, quiet, says, andthen, unless_stopped, no_program, on_schedule, on_memory, on_timer, on_pending, begun, booted}
-use Rattle.exectrace.specs.Heard.{text_of_source}
+use Rattle.execmodel.specs.State.{Call, Scripts, State, Timer as Clock, Outcome, quiet, says, andthen, unless_stopped, no_program, on_schedule, on_memory, on_timer, on_pending, new_program, booted}
+use Rattle.softint.specs.Sources.{source_text}
 use Rattle.execmodel.specs.Interrupts.{no_softint, no_server, softint_at, runs_softint, server_at, chain_of, runs_server, runs_chain, serving_counted, finishes_for, serves, servings, interrupts}
 use Rattle.execmodel.specs.Step.{announced, switches, settle, does, ends, task_step, call_step, softint_or_task_step, acting, acts, step, steps, request, tick, ticks, started, all_added, starts, event, events, run}
-use Rattle.execmodel.specs.{Calls.next_call, Calls.call_in_body, Pending.source_named, Pending.caused_no_more, Pending.with_latch_of, Pending.next_softint, Pending.next_source, Bodies.body_step, Bodies.runs_body, Requests.does_requests, Requests.finishes, Requests.finishes_each, Requests.finishes_all_due, Requests.finishes_set, Laws.FitsItsWord, Laws.CallsFitTheirWords, Laws.LinesAreShort}
+use Rattle.execmodel.specs.{Calls.next_call, Calls.call_in_body, Pending.caused_no_more, Pending.with_latch_of, Pending.next_softint, Pending.next_source, Bodies.body_step, Bodies.runs_body, Requests.does_requests, Requests.finishes, Requests.finishes_each, Requests.finishes_all_due, Requests.finishes_set, Laws.FitsItsWord, Laws.CallsFitTheirWords, Laws.LinesAreShort}
 use Rattle.execmodel.proofs.ShortLines.{IsShort, IsShortText, switch_short, idle_short, serve_short, server_short, softint_short, call_short}
 use Rattle.execmodel.proofs.ShortTexts.{IsShortBody, HasShortTexts, Says, all_stays, named_alike, quiet_says, line_says, then_says, either_says, going_says, itself_says, next_has, either_names, command_says, finished_says}
 use Rattle.execmodel.proofs.{Keeping.finishes_found, Itself.followed, ShortCalls.IsBrief, ShortCalls.HasArguments, ShortCalls.name_is_short, ShortCalls.body_call_has, Telling.IsBriefProgram}
@@ -91,7 +91,7 @@ finishing_says source.Exter s = quiet_says s
 
 -- ---- serving
 
-source_short : (asks : Source) → IsShortText (text_of_source asks)
+source_short : (asks : Source) → IsShortText (source_text asks)
 source_short source.Ports = lit≤ tt
 source_short source.Vertb = lit≤ tt
 source_short source.Exter = lit≤ tt
@@ -112,8 +112,8 @@ serves_says asks s has =
     let cleared = on_pending (with_latch_of asks false) s in
     let begun = on_schedule (serving_counted asks) cleared in
     let chain = chain_of asks s.bodies.servers in
-    then_says (says (Serve (text_of_source asks))) (andthen (finishes_for asks) (runs_chain chain)) begun
-    (line_says (Serve (text_of_source asks)) begun (serve_short (text_of_source asks) (source_short asks)))
+    then_says (says (Serve (source_text asks))) (andthen (finishes_for asks) (runs_chain chain)) begun
+    (line_says (Serve (source_text asks)) begun (serve_short (source_text asks) (source_short asks)))
     (λ r. then_says (finishes_for asks) (runs_chain chain) r (finishing_says asks r) (chain_says chain))
     (all_stays s begun (named_alike (serving_counted asks) cleared (counted_names asks s.schedule)) refl has)
 
@@ -233,7 +233,7 @@ event_says : (e : Event) (s : State) → Says s (event e s)
 unfolding event
 event_says (Run n) s = steps_say n s
 event_says (Tick n) s = ticks_say n s
-event_says (Irq name) s = request_says (source_named name) s
+event_says (Irq asks) s = request_says asks s
 
 events_say : (list : List Event) (s : State) → Says s (events list s)
 unfolding events
@@ -287,9 +287,9 @@ booted_has machine is = record {
         (λ server one. record { short = name_is_short server.name one.name; brief = brief_code names server.code one.code })
         machine.servers is.servers) (record { short = lit≤ tt; brief = All-nil IsBrief });
   };
-  programs = at_each IsBriefProgram no_program (map begun machine.tasks)
-      (All-map IsBriefProgram begun machine.tasks
-      (All-weaker (IsTask names) (λ task. IsBriefProgram (begun task))
+  programs = at_each IsBriefProgram no_program (map new_program machine.tasks)
+      (All-map IsBriefProgram new_program machine.tasks
+      (All-weaker (IsTask names) (λ task. IsBriefProgram (new_program task))
       (λ task one. record { code = brief_code names task.code one.code; kept = tt }) machine.tasks is.tasks))
       (record { code = All-nil IsBrief; kept = tt });
 }

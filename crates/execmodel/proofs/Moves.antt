@@ -8,7 +8,8 @@ use Rattle.forbid.specs.Nesting.{Nesting}
 use Rattle.scheduler.specs.Schedule.{Schedule}
 use Rattle.msgport.specs.{Port.new_port, declared.action.PortAction.PortAction}
 use Rattle.sigsem.specs.declared.semaphore.Obtained.TheVariants.{Owner, Waits}
-use Rattle.sigsem.specs.Semaphores.{is_open, is_last, is_owned, is_owner}
+use Rattle.sigsem.specs.Semaphores.{is_free_for, is_last, is_owned, is_owner}
+use Rattle.script.specs.declared.word.Word.{Word}
 use Rattle.script.specs.declared.word.Word.TheVariants as group
 use Rattle.script.specs.declared.word.semaphores.SemaphoreWord.TheVariants as semaphores
 use Rattle.script.specs.declared.word.libraries.LibraryWord.TheVariants as libraries
@@ -17,7 +18,7 @@ use Rattle.execmodel.specs.State.{Call, Object, Plain, ListHead, Node, MsgPort, 
 use Rattle.execmodel.specs.Ports.{is_port, is_message, is_port_at, is_message_at, port_size, port_created, makes_port, after_asking_for_port, messages_of, messages_of_object, with_action, is_queued, is_public, is_awaited_at, delete_alert, loose_alert, looked}
 use Rattle.execmodel.specs.Semaphores.{awaited_by, dropped, entered, queued, handed_on, released_once, is_semaphore_at, waiters_of, free_sem_alert, is_semaphore, leaving_queue, obtain_alert, obtains, passes, release_alert, sem_of, sem_of_object}
 use Rattle.execmodel.specs.Libraries.{is_library_at, count_of, is_delayed, with_library, base_of, library_at, library_opened, ready_to_open, entered_or_loaded}
-use Rattle.execmodel.specs.{Calls.argument, Calls.done, Calls.answered, Calls.waiting, Calls.alerted, Signals.waited, Nesting.gives_nesting, Tasks.is_caller, Tasks.ends_other, Objects.object_at, Objects.is_kind, Objects.is_allowed, Objects.place_for_object, GivingWay.after_asking_for_object, Memory.extents, Memory.allocates, Memory.makes_object, Memory.placed, Memory.freed, Memory.place_for, Memory.is_named, Memory.is_plain, Lists.is_list, Lists.is_node, Lists.is_list_at, Lists.with_nodes, Lists.unlinked, Deeds.concluded}
+use Rattle.execmodel.specs.{Calls.argument, Calls.done, Calls.answered, Calls.waiting, Calls.alerted, Signals.waited, Nesting.gives_nesting, Tasks.is_caller, Tasks.ends_other, Objects.object_at, Objects.is_kind, Objects.is_allowed, Objects.place_for_object, GivingWay.after_asking_for_object, Memory.extents, Memory.allocates_block, Memory.makes_object, Memory.placed, Memory.freed, Memory.place_for, Memory.is_named, Memory.is_plain, Lists.is_list, Lists.is_node, Lists.is_list_at, Lists.with_nodes, Lists.unlinked, Deeds.concluded}
 use Rattle.execmodel.proofs.{Heaps.rid, Heaps.true_is_not_false, Taking.IsNew, Taking.Takes, Taking.nothing, Taking.places, Taking.recounts, Taking.IsTaking, Taking.number_is, Taking.after_asking_for_object_taking, Taking.after_asking_for_port_taking, Taking.ready_to_open_taking, Posts.Other, Posts.post_in, Posts.post_of_object, Posts.post_at, Posts.is_a_port, Posts.is_mail, Posts.port_there, Posts.message_there, Loaded.base_is_loaded, Commands.Touches, Commands.remains, Commands.IsAltered, Commands.none_some, Commands.passed_first, Commands.passed_other, Commands.is_loose_there}
 use Rattle.script.specs.declared.alert.Alert.TheVariants as an_alert
 use Rattle.script.specs.declared.alert.Alert.{Alert}
@@ -63,17 +64,22 @@ pub record IsRemoving (call : Call) (base : ℕ) (heap : Heap) : Type 0 where
 abbrev pub MayExpunge : Call → ℕ → Heap → Type 0
 MayExpunge call base heap = IsRemoving call base heap ⊎ IsLastClosing call base heap
 
+-- the words on libraries alone count how often these are open
+abbrev pub is_of_libraries : Word → Bool
+is_of_libraries (group.Libraries word) = true
+is_of_libraries _ = false
+
 -- what a call of task t may make of the blocks, and the marks that it leaves
 pub data Moves (asks : Bool) (regions : List Region) (t : ℕ) (call : Call) : Heap → List Mark → Heap → Type 0 where
   touches : {old new : Heap} {marks : List Mark} → Touches old marks new → Moves asks regions t call old marks new
-  takes : {old new : Heap} → Takes asks regions old new → Moves asks regions t call old [] new
+  takes : {old new : Heap} → Takes asks (is_of_libraries call.word) regions old new → Moves asks regions t call old [] new
   frees : {heap : Heap} (address : ℕ) → MayGo (object_at address heap) → IsUnneeded address heap → Moves asks regions t call heap [] (rid address heap)
   relists : {heap : Heap} (list : ℕ) (nodes : List ℕ) → is_list_at list heap ≡ true → Moves asks regions t call heap [] (with_nodes list nodes heap)
   unlinks : {heap : Heap} (node : ℕ) → Moves asks regions t call heap [] (unlinked node heap)
   sets : {heap : Heap} (act : PortAction) (port : ℕ) → is_port_at port heap ≡ true → Moves asks regions t call heap [] (with_action act port heap)
-  enters : {heap : Heap} (semaphore : ℕ) → is_semaphore_at semaphore heap ≡ true → is_open t (sem_of semaphore heap) ≡ true
+  enters : {heap : Heap} (semaphore : ℕ) → is_semaphore_at semaphore heap ≡ true → is_free_for t (sem_of semaphore heap) ≡ true
       → Moves asks regions t call heap [] (entered semaphore t heap)
-  queues : {heap : Heap} (semaphore : ℕ) → is_semaphore_at semaphore heap ≡ true → is_open t (sem_of semaphore heap) ≡ false
+  queues : {heap : Heap} (semaphore : ℕ) → is_semaphore_at semaphore heap ≡ true → is_free_for t (sem_of semaphore heap) ≡ false
       → Moves asks regions t call heap (asked semaphore t ∷ []) (queued semaphore t heap)
   hands : {heap : Heap} (semaphore owner : ℕ) → IsRelease t call semaphore heap → is_semaphore_at semaphore heap ≡ true → is_last (sem_of semaphore heap) ≡ true
       → first (waiters_of semaphore heap) ≡ Some owner → Moves asks regions t call heap (passed semaphore owner ∷ []) (handed_on semaphore heap)
@@ -82,7 +88,7 @@ pub data Moves (asks : Bool) (regions : List Region) (t : ℕ) (call : Call) : H
   releases : {heap : Heap} (semaphore : ℕ) → is_semaphore_at semaphore heap ≡ true → is_last (sem_of semaphore heap) ≡ false
       → Moves asks regions t call heap [] (released_once semaphore heap)
   counts : {heap : Heap} (base count : ℕ) (delayed : Bool) → (IsWellFormed regions (extents heap) → is_library_at base heap ≡ true)
-      → Moves asks regions t call heap [] (with_library base count delayed heap)
+      → is_of_libraries call.word ≡ true → Moves asks regions t call heap [] (with_library base count delayed heap)
   expunges : {heap : Heap} (base : ℕ) → is_library_at base heap ≡ true → MayExpunge call base heap → Moves asks regions t call heap [] (rid base heap)
   drops : {heap : Heap} (other : ℕ) → other ≢ t → Moves asks regions t call heap (leaving_marks (awaited_by other heap) other) (dropped other heap)
 
@@ -149,13 +155,13 @@ plain_object _ b c e = true_is_not_false (sym e)
 -- ---- calls that may be refused
 
 -- a call that takes memory
-pub taking_makes : (t : ℕ) (call : Call) (s : State) (o : Outcome) → IsTaking s o → Makes t call s o
+pub taking_makes : (t : ℕ) (call : Call) (s : State) (o : Outcome) → IsTaking (is_of_libraries call.word) s o → Makes t call s o
 taking_makes t call s o taking =
     (taking.regions, subst (λ ms. Moves s.memory.asks s.memory.regions t call s.memory.heap ms o.state.memory.heap) (sym taking.silent) (takes taking.blocks))
 
-pub allocates_taking : (t : ℕ) (call : Call) (s : State) (size reqs : ℕ) (object : Object) (place : Option ℕ) → IsNew s.memory.heap object
+pub allocates_taking : {may_count : Bool} (t : ℕ) (call : Call) (s : State) (size reqs : ℕ) (object : Object) (place : Option ℕ) → IsNew s.memory.heap object
     → ((address : ℕ) → place ≡ Some address → fit s.memory.regions (extents s.memory.heap) size reqs ≡ Some address)
-    → IsTaking s (allocates t call size object place s)
+    → IsTaking may_count s (allocates_block t call size object place s)
 unfolding answered
 allocates_taking t call s size reqs object None new fits = record { regions = refl; silent = refl; blocks = nothing }
 allocates_taking t call s size reqs object (Some address) new fits =
@@ -166,8 +172,8 @@ fits_there : (test : Bool) (place : Option ℕ) (address : ℕ) → (if test the
 fits_there true place address e = e
 fits_there false place address e = none_some (sym e)
 
-object_taking : (t : ℕ) (call : Call) (s : State) (kind : Object → Bool) (size : ℕ) (object : Object) → IsNew s.memory.heap object
-    → IsTaking s (makes_object t call kind size object s)
+object_taking : {may_count : Bool} (t : ℕ) (call : Call) (s : State) (kind : Object → Bool) (size : ℕ) (object : Object) → IsNew s.memory.heap object
+    → IsTaking may_count s (makes_object t call kind size object s)
 unfolding place_for_object
 object_taking t call s kind size object new =
     allocates_taking t call s size 1 object (if is_allowed kind s.memory then place_for size 1 s.memory else None) new
@@ -235,15 +241,15 @@ plain_goes size (Some block) is = plain_object block.object _ _ is
 
 -- ---- ports
 
-created_taking : (t : ℕ) (call : Call) (bit : ℕ) (s : State) (place : Option ℕ)
+created_taking : {may_count : Bool} (t : ℕ) (call : Call) (bit : ℕ) (s : State) (place : Option ℕ)
     → ((address : ℕ) → place ≡ Some address → fit s.memory.regions (extents s.memory.heap) port_size 1 ≡ Some address)
-    → IsTaking s (port_created t call (Some bit) place s)
+    → IsTaking may_count s (port_created t call (Some bit) place s)
 unfolding answered
 created_taking t call bit s None fits = record { regions = refl; silent = refl; blocks = nothing }
 created_taking t call bit s (Some address) fits =
     record { regions = refl; silent = refl; blocks = places port_size 1 address (MsgPort (new_port t bit) []) refl (fits address refl) }
 
-port_taking : (t : ℕ) (call : Call) (bit : Option ℕ) (s : State) → IsTaking s (makes_port t call bit s)
+port_taking : {may_count : Bool} (t : ℕ) (call : Call) (bit : Option ℕ) (s : State) → IsTaking may_count s (makes_port t call bit s)
 unfolding answered place_for_object
 port_taking t call None s = record { regions = refl; silent = refl; blocks = nothing }
 port_taking t call (Some bit) s =
@@ -333,7 +339,7 @@ unfolding release_alert
 is_released_there t semaphore heap none = (passed_first (is_semaphore_at semaphore heap) _ _ none).0
 
 pub obtaining : (test : Bool) (semaphore t : ℕ) (call : Call) (s : State) → is_semaphore_at semaphore s.memory.heap ≡ true
-    → is_open t (sem_of semaphore s.memory.heap) ≡ test
+    → is_free_for t (sem_of semaphore s.memory.heap) ≡ test
     → Makes t call s (obtains (if test then Owner else Waits) semaphore t call
     (on_memory (on_heap (λ heap. if test then entered semaphore t heap else queued semaphore t heap)) s))
 unfolding done waiting
@@ -341,7 +347,7 @@ obtaining true semaphore t call s is e = (refl, enters semaphore is e)
 obtaining false semaphore t call s is e = (refl, queues semaphore is e)
 
 pub attempting : (test : Bool) (semaphore t : ℕ) (call : Call) (value : ℕ) (s : State) → is_semaphore_at semaphore s.memory.heap ≡ true
-    → is_open t (sem_of semaphore s.memory.heap) ≡ test
+    → is_free_for t (sem_of semaphore s.memory.heap) ≡ test
     → Makes t call s (answered t call value (on_memory (on_heap (λ heap. if test then entered semaphore t heap else heap)) s))
 unfolding answered
 attempting true semaphore t call value s is e = (refl, enters semaphore is e)
@@ -369,32 +375,34 @@ is_library_there true code e = refl
 is_library_there false code e = none_some e
 
 entered_or_loaded_taking : (found : Option ℕ) (i value t : ℕ) (call : Call) (s : State) → base_of i s.memory.heap ≡ found
-    → IsTaking s (answered t call value (on_memory (entered_or_loaded found i) s))
+    → IsTaking true s (answered t call value (on_memory (entered_or_loaded found i) s))
 unfolding answered
 entered_or_loaded_taking (Some base) i value t call s e = record {
   regions = refl;
   silent = refl;
-  blocks = recounts base _ false (λ formed. base_is_loaded s.memory.regions i base s.memory.heap formed e) (omega arith) nothing;
+  blocks = recounts base _ false (λ formed. base_is_loaded s.memory.regions i base s.memory.heap formed e) (omega arith) (inr refl) nothing;
 }
 entered_or_loaded_taking None i value t call s absent =
     loads (place_for (library_at i s.memory).size 1 s.memory) refl
   where
     loads : (place : Option ℕ) → place_for (library_at i s.memory).size 1 s.memory ≡ place
-        → IsTaking s (answered t call value (on_memory (placed (library_at i s.memory).size (Library i 1 false) place) s))
+        → IsTaking true s (answered t call value (on_memory (placed (library_at i s.memory).size (Library i 1 false) place) s))
     loads None e = record { regions = refl; silent = refl; blocks = nothing }
     loads (Some address) e =
         record { regions = refl; silent = refl; blocks = places (library_at i s.memory).size 1 address (Library i 1 false) absent e }
 
 opened_taking : (found : Option ℕ) (value t : ℕ) (call : Call) (s : State)
-    → IsTaking s (answered t call value (on_memory (library_opened found) s))
+    → IsTaking true s (answered t call value (on_memory (library_opened found) s))
 unfolding answered
 opened_taking None value t call s = record { regions = refl; silent = refl; blocks = nothing }
 opened_taking (Some i) value t call s = entered_or_loaded_taking (base_of i s.memory.heap) i value t call s refl
 
-pub opened_makes : (found : Option ℕ) (value t : ℕ) (call : Call) (s : State)
+pub opened_makes : (found : Option ℕ) (value t : ℕ) (call : Call) (s : State) → is_of_libraries call.word ≡ true
     → Makes t call s (answered t call value (on_memory (library_opened found) (on_memory (ready_to_open found) s)))
-opened_makes found value t call s =
-    taking_makes t call s _ (ready_to_open_taking found s _ (opened_taking found value t call (on_memory (ready_to_open found) s)))
+opened_makes found value t call s word =
+    taking_makes t call s _ (ready_to_open_taking found s _ (subst (λ b. IsTaking b (on_memory (ready_to_open found) s)
+    (answered t call value (on_memory (library_opened found) (on_memory (ready_to_open found) s)))) (sym word)
+    (opened_taking found value t call (on_memory (ready_to_open found) s))))
 
 pub both_true : {A : Type 0} (b c : Bool) → (b && c) ≡ true → (b ≡ true → c ≡ true → A) → A
 both_true true c e f = f refl e
@@ -412,7 +420,7 @@ closed_makes true base t call s word names is e =
       refl,
       expunges base is (inr (record { word = word; names = names; once = number_is (count_of base s.memory.heap) 1 one; delayed = delayed })),
     ))
-closed_makes false base t call s word names is e = (refl, counts base _ _ (λ formed. is))
+closed_makes false base t call s word names is e = (refl, counts base _ _ (λ formed. is) (ap is_of_libraries word))
 
 pub removed_makes : (test : Bool) (base t : ℕ) (call : Call) (s : State) → call.word ≡ group.Libraries libraries.RemLibrary → argument 0 call ≡ base
     → is_library_at base s.memory.heap ≡ true
@@ -422,4 +430,4 @@ pub removed_makes : (test : Bool) (base t : ℕ) (call : Call) (s : State) → c
 unfolding done
 removed_makes true base t call s word names is e =
     (refl, expunges base is (inl (record { word = word; names = names; none = number_is (count_of base s.memory.heap) 0 e })))
-removed_makes false base t call s word names is e = (refl, counts base _ true (λ formed. is))
+removed_makes false base t call s word names is e = (refl, counts base _ true (λ formed. is) (ap is_of_libraries word))

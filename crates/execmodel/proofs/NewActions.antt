@@ -1,7 +1,7 @@
 -- A step, a tick and a request do of a machine with a new task what they do of the machine without it, if no alert stops it.
 use Rattle.std.proofs.Common.{◌≡◌, ◌≢◌, ◌∙◌, ℕ, zero, suc, ◌≤◌, ◌+◌, Bool, true, false, List, [], ◌∷◌, Option, None, Some, length, map, refl, sym, ap, ap₂, arith, if◌then◌else◌, slice_get, slice_index_or, codes}
 use Rattle.execlist.specs.{Disciplines.by_arrival, Lists.is_at, Lists.times, Order.first}
-use Rattle.exectrace.specs.Heard.{text_of_source}
+use Rattle.softint.specs.Sources.{source_text}
 use Rattle.exectrace.specs.Trace.{Serve, Server, Softint, Value, TraceLine}
 use Rattle.exectrace.specs.Trace as trace
 use Rattle.taskq.specs.declared.TaskState.TheVariants.{Absent}
@@ -9,7 +9,7 @@ use Rattle.script.specs.declared.variable.Variable.TheVariants.{Private, Shared}
 use Rattle.script.specs.declared.event.Event.TheVariants.{Run, Tick, Irq}
 use Rattle.script.specs.{Commands.ArgumentData, Commands.number, Commands.variable, Commands.quoted, Commands.place, Commands.CommandData, File.TaskData, declared.variable.Variable.Variable, declared.event.Event.Event}
 use Rattle.forbid.specs.Nesting.{may_interrupt}
-use Rattle.scheduler.specs.{declared.Switch.Switch as Choice, Schedule.Schedule, Schedule.leaves, Schedule.name_of, Schedule.is_interrupting_allowed, Schedule.ticked as quantum_ticked, Sound.is_running, Dispatch.switch_of, Dispatch.rescheduled, Dispatch.added}
+use Rattle.scheduler.specs.{declared.Switch.Switch as Choice, Schedule.Schedule, Schedule.leaves, Schedule.name_of, Schedule.is_interrupting_allowed, Schedule.quantum_ticked, Sound.is_running, Dispatch.switch_of, Dispatch.rescheduled, Dispatch.added}
 use Rattle.scheduler.specs.declared.Switch.TheVariants as switch
 use Rattle.sigsem.specs.Semaphores.{is_last}
 use Rattle.softint.specs.Sources.{highest}
@@ -23,7 +23,7 @@ use Rattle.execmodel.specs.Feeding.{joined_by}
 use Rattle.execmodel.specs.Calls.{content, evaluated, evaluated_in_body, call_of, call_at, call_after, next_call, call_in_body}
 use Rattle.execmodel.specs.Interrupts.{softint_at, runs_softint, server_at, chain_of, runs_server, runs_chain, serving_counted, finishes_for, serves, servings, interrupts}
 use Rattle.execmodel.specs.Step.{started, all_added, announced, switches, settle, ends, task_step, call_step, softint_or_task_step, acting, acts, step, steps, request, tick, ticks, event}
-use Rattle.execmodel.specs.{Pending.source_named, Pending.caused_no_more, Pending.with_latch_of, Pending.allows_interrupts, Pending.next_softint, Pending.next_source, Bodies.does_in_body, Bodies.body_step, Bodies.runs_body, Pending.softint_pri, Semaphores.heir, Semaphores.sem_of, Semaphores.waiters_of, Agreement.Agrees, Agreement.once_if}
+use Rattle.execmodel.specs.{Pending.caused_no_more, Pending.with_latch_of, Pending.allows_interrupts, Pending.next_softint, Pending.next_source, Bodies.does_in_body, Bodies.body_step, Bodies.runs_body, Pending.softint_pri, Semaphores.heir, Semaphores.sem_of, Semaphores.waiters_of, Agreement.Agrees, Agreement.once_if}
 use Rattle.execmodel.proofs.NewTask.{Fits, Moves, stays_moves, added_moves, IsOut, nesting_same, name_same, absent_last, leaves_moves, ticked_moves, rescheduled_moves, switch_same, switch_to_other}
 use Rattle.execmodel.proofs.NewWords.{more, grown, Sized, IsWith, Both, Carries, NoHeir, program_same, from_with, scheduled, itself, quiet_with, andthen_with, in_body_with, all_due_with, does_with}
 use Rattle.execmodel.proofs.{Agreement.never_away, Agreement.some_same, Agreement.first_stands, Commands.none_some, Heaps.true_is_not_false, Stopped.step_stopped, Stopped.tick_stopped, WaitingLaw.IsSound, WaitingLaw.Waits, WaitingLaw.waits, WaitingLaw.clocked, Stretches.of_interrupts, Stretches.of_acts, Stretches.of_steps, Stretches.of_event, Stretches.clock_gains, Agreement.waits_at}
@@ -144,10 +144,10 @@ module _ (n : ℕ) (task : TaskData) where
   counted_with source.Exter s sized = itself n task s sized
 
   served_with : (asks : Source) (chain : List ℕ) (s : State) → Sized n task s
-      → Carries n task (andthen (says (Serve (text_of_source asks))) (andthen (finishes_for asks) (runs_chain chain))) s
+      → Carries n task (andthen (says (Serve (source_text asks))) (andthen (finishes_for asks) (runs_chain chain))) s
   unfolding andthen
   served_with asks chain s sized going =
-      let line = Serve (text_of_source asks) in
+      let line = Serve (source_text asks) in
       let finished = finishing_with asks s sized in
       andthen_with n task (says line) (andthen (finishes_for asks) (runs_chain chain)) s (says_with line s sized)
       (andthen_with n task (finishes_for asks) (runs_chain chain) s finished (chain_with chain (finishes_for asks s).state finished.sized going))
@@ -158,7 +158,7 @@ module _ (n : ℕ) (task : TaskData) where
       let chain = chain_of asks s.bodies.servers in
       let cleared = on_pending (with_latch_of asks false) s in
       let counted = counted_with asks cleared sized in
-      from_with n task (andthen (says (Serve (text_of_source asks))) (andthen (finishes_for asks) (runs_chain chain))) _
+      from_with n task (andthen (says (Serve (source_text asks))) (andthen (finishes_for asks) (runs_chain chain))) _
       (on_schedule (serving_counted asks) cleared) counted (served_with asks chain (on_schedule (serving_counted asks) cleared) counted.1 going)
 
   allowed_same : (s : Schedule) → allows_interrupts (joined_by task.pri task.name s) ≡ allows_interrupts s
@@ -408,7 +408,7 @@ module _ (n : ℕ) (task : TaskData) where
   unfolding event
   event_with (Run m) s sound sized going = steps_with m s sound sized going
   event_with (Tick m) s sound sized going = ticks_with m s sound sized going
-  event_with (Irq name) s sound sized going = request_with (source_named name) s sound sized going
+  event_with (Irq asks) s sound sized going = request_with asks s sound sized going
 
   -- ---- the start
 

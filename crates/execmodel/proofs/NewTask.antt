@@ -8,7 +8,7 @@ use Rattle.signals.specs.Signals.{SignalSets, initial_sets, grant, after_grant, 
 use Rattle.forbid.specs.Nesting.{Nesting, initial_nesting}
 use Rattle.taskq.specs.declared.TaskState.TheVariants.{Absent, Ready, Running, Waiting, Removed}
 use Rattle.taskq.specs.{Tasks.state_at, Tasks.is_ready, Tasks.is_live, Tasks.is_live_named, declared.TaskState.TaskState, declared.Why.TheVariants.Signals, declared.Why.TheVariants.Sem}
-use Rattle.scheduler.specs.Schedule.{Schedule, name_of, priority_of, status_of, signals_of, nesting_of, with_status, with_signals, with_priority, is_switching_allowed, is_quantum_over, takes_over, switch_for, renewed, begins, ticked, ticked_for, is_absent, leaves, departs, removed, found, awaits, waits_for, takes, after_wait, clears_and_waits, allocates, sets_signals, frees, waits_at_semaphore, nested}
+use Rattle.scheduler.specs.Schedule.{Schedule, name_of, priority_of, status_of, signals_of, nesting_of, with_status, with_signals, with_priority, is_switching_allowed, is_quantum_over, takes_over, switch_for, renewed, begins, quantum_ticked, ticked_for, is_absent, leaves, departs, removed, found, awaits, waits_for, takes, after_wait, clears_and_waits, allocates, sets_signals, frees, waits_at_semaphore, nested}
 use Rattle.scheduler.specs.{declared.Switch.Switch as Choice, Dispatch.arrives, Dispatch.switch_of, Dispatch.displaced, Dispatch.after_switch, Dispatch.rescheduled, Dispatch.added, Dispatch.reprioritized, Dispatch.signalled}
 use Rattle.scheduler.specs.declared.Switch.TheVariants as switch
 use Rattle.execmodel.specs.Feeding.{joined_by}
@@ -233,8 +233,8 @@ module _ (n : ℕ) (pri : ℤ) (name : List ℕ) where
     };
   }
 
-  pub ticked_moves : (s : Schedule) → Fits n s → Moves s (ticked s) (ticked (joined s))
-  unfolding ticked
+  pub ticked_moves : (s : Schedule) → Fits n s → Moves s (quantum_ticked s) (quantum_ticked (joined s))
+  unfolding quantum_ticked
   ticked_moves s fits = by_running s.running
     where
       by_running : (running : Option ℕ) → Moves s (ticked_for running s) (ticked_for running (joined s))

@@ -32,7 +32,7 @@ use Rattle.script.specs.declared.word.requests.RequestWord.TheVariants as reques
 use Rattle.script.specs.declared.word.interrupts.InterruptWord.TheVariants as interrupts
 use Rattle.script.specs.declared.alert.Alert.{Alert}
 use Rattle.execmodel.specs.Feeding.{joined_by}
-use Rattle.execmodel.specs.State.{Call, Scripts, Program, Memory, Mark, State, Outcome, begun, no_program, program_of, leaving, quiet, andthen, on_schedule, on_memory}
+use Rattle.execmodel.specs.State.{Call, Scripts, Program, Memory, Mark, State, Outcome, new_program, no_program, program_of, leaving, quiet, andthen, on_schedule, on_memory}
 use Rattle.execmodel.specs.Calls.{Caller, ByTask, ByBody, argument, name_argument, done, answered, waiting, silent, alerted, done_by, answered_by, silent_by, unless_by}
 use Rattle.execmodel.proofs.NewTask.{Fits, Moves, name_same, pri_same, status_same, signals_same, nesting_same, allocates_moves, sets_moves, frees_moves, leaves_moves, removed_moves, waits_at_semaphore_moves, after_wait_moves, clears_moves, nested_moves, arrives_moves, added_moves, signalled_moves, reprioritized_moves, found_same, set_last, get_last}
 use Rattle.execmodel.proofs.NewMemory.{IsBlind, placed_blind, place_same, removed_blind, asking_for_object_blind, asking_for_port_blind, opening_same, opened_blind, closed_blind, BlindDeed, list_blind, memory_blind}
@@ -41,7 +41,7 @@ use Rattle.std.proofs.lemmas.Bool.Decides.{nat_tests}
 use Rattle.exectrace.specs.Trace.{TraceLine, Done, Answers}
 use Rattle.exectrace.specs.Trace as trace
 use Rattle.std.proofs.Common.{slice_set, length-set, length-append, ◌^◌}
-use Rattle.execmodel.specs.Calls.{goes_on, keeps, line_of, stored, stored_shared}
+use Rattle.execmodel.specs.Calls.{goes_on, keeps, line_of_call, stored, stored_shared}
 use Rattle.execmodel.specs.Pending.{causes}
 use Rattle.execmodel.specs.Plain.{jumps}
 use Rattle.execmodel.specs.Ports.{performed}
@@ -53,14 +53,14 @@ use Rattle.execmodel.specs.Causing.{does_cause_by}
 use Rattle.execmodel.specs.Deeds.{Deed, concluded, performs}
 use Rattle.execmodel.specs.GivingWay.{after_asking_for_object}
 use Rattle.execmodel.specs.Libraries.{close_alert, closed, does_close_library, does_lib_open_cnt, does_libraries, does_open_library, does_rem_library, library_alert, opened}
-use Rattle.execmodel.specs.{Memory.makes_object, Memory.allocates as allocates_memory, Loaded.removed as library_removed}
-use Rattle.msgport.specs.Port.{acting, new_port}
+use Rattle.execmodel.specs.{Memory.makes_object, Memory.allocates_block, Loaded.after_expunge}
+use Rattle.msgport.specs.Port.{arrival_action, new_port}
 use Rattle.execmodel.specs.Nesting.{does_disable, does_enable, does_forbid, does_nesting, does_permit, gives_nesting, nest_alert}
 use Rattle.execmodel.specs.Objects.{place_for_object}
 use Rattle.execmodel.specs.Pending.{softint_named}
 use Rattle.execmodel.specs.Places.{freed, placed}
 use Rattle.execmodel.specs.Plain.{does_add, does_and, does_jump, does_jump_not_zero, does_jump_zero, does_or, does_plain, does_print, does_set, does_sub}
-use Rattle.execmodel.specs.Ports.{add_port_alert, after_asking_for_port, content_of, delete_alert, delivered, does_add_port, does_create_msg_port, does_delete_msg_port, does_find_port, does_free_msg, does_get_msg, does_get_msg_by, does_msg_type, does_msg_word, does_new_msg, does_port_cause, does_port_ignore, does_port_signal, does_ports, does_put_msg, does_put_msg_by, does_rem_port, does_reply_msg, does_reply_msg_by, does_set_msg_word, does_wait_port, found_port, is_message, is_port, looked, loose_alert, loses, made_private, made_public, makes_port, message_alert, message_size, messages_of, port_alert, port_created, port_of, port_size, posted, put_alert, rem_port_alert, reply_alert, reply_port_alert, taken_by, taken_off, typed, wait_alert, with_action, with_word}
+use Rattle.execmodel.specs.Ports.{add_port_alert, after_asking_for_port, content_of, delete_alert, delivered, does_add_port, does_create_msg_port, does_delete_msg_port, does_find_port, does_free_msg, does_get_msg, does_get_msg_by, does_msg_type, does_msg_word, does_new_msg, does_port_cause, does_port_ignore, does_port_signal, does_ports, does_put_msg, does_put_msg_by, does_rem_port, does_reply_msg, does_reply_msg_by, does_set_msg_word, does_wait_port, found_port, is_message, is_port, looked, loose_alert, loses, made_private, made_public, makes_port, message_alert, message_size, messages_of, port_alert, port_created, port_of, port_size, posted, put_alert, rem_port_alert, reply_alert, reply_port_alert, taken_by, taken_off, typed, wait_alert, with_action, with_message_word}
 use Rattle.execmodel.specs.Requests.{aborts, acting_at, answering_port, begins_and_looks, begun_at, closed_device, delete_request_alert, do_alert, does_abort_io, does_check_io, does_close_device, does_create_io_request, does_delete_io_request, does_do_io, does_io_error, does_io_flags, does_io_micros, does_io_secs, does_open_device, does_requests, does_send_io, does_set_io, does_wait_io, ended, ends_with, is_request, looks_for, opened_for, reply_taken, replying_port, request_alert, request_of, request_size, resting_alert, send_alert, set_io_alert, timer_unit, wait_io_alert, with_command, with_reply}
 use Rattle.execmodel.specs.Semaphores.{attempted, awaited_by, does_attempt_semaphore, does_free_sem, does_new_sem, does_obtain_semaphore, does_release_semaphore, does_semaphores, dropped, free_sem_alert, heir, is_semaphore, is_tried_again, leaving_queue, obtain_alert, obtained, obtains, passes, release_alert, released, sem_of, semaphore_size}
 use Rattle.execmodel.specs.Signals.{does_alloc_signal, does_free_signal, does_set_signal, does_signal, does_signal_by, does_signals, does_wait, free_signal_alert, mask_alert, signal_alert, waited}
@@ -77,7 +77,7 @@ module _ (n : ℕ) (task : TaskData) where
   -- ---- the machine with the task
 
   abbrev pub more : Scripts → Scripts
-  more scripts = record scripts { programs = scripts.programs ++ begun task ∷ [] }
+  more scripts = record scripts { programs = scripts.programs ++ new_program task ∷ [] }
 
   abbrev pub grown : State → State
   grown s = record s {
@@ -117,14 +117,14 @@ module _ (n : ℕ) (task : TaskData) where
   far t scripts count apart = λ e. apart (e ∙ count)
 
   pub program_same : (t : ℕ) (scripts : Scripts) → length scripts.programs ≡ n → t ≢ n → program_of (more scripts) t ≡ program_of scripts t
-  program_same t scripts count apart = get_last t no_program (begun task) scripts.programs (far t scripts count apart)
+  program_same t scripts count apart = get_last t no_program (new_program task) scripts.programs (far t scripts count apart)
 
   -- a change of the program of another task
   changed : (t : ℕ) (f : Program → Program) (scripts : Scripts) → length scripts.programs ≡ n → t ≢ n
       → with_program t (f (program_of (more scripts) t)) (more scripts) ≡ more (with_program t (f (program_of scripts t)) scripts)
   changed t f scripts count apart =
       ap (λ (p : Program). with_program t (f p) (more scripts)) (program_same t scripts count apart)
-      ∙ ap (λ programs. record scripts { programs = programs }) (set_last t (f (program_of scripts t)) (begun task) scripts.programs (far t scripts count apart))
+      ∙ ap (λ programs. record scripts { programs = programs }) (set_last t (f (program_of scripts t)) (new_program task) scripts.programs (far t scripts count apart))
 
   goes_more : (t next : ℕ) (scripts : Scripts) → length scripts.programs ≡ n → t ≢ n → goes_on t next (more scripts) ≡ more (goes_on t next scripts)
   goes_more t next scripts count apart = changed t (λ p. record p { place = next; kept = None }) scripts count apart
@@ -151,7 +151,7 @@ module _ (n : ℕ) (task : TaskData) where
 
   -- ---- how a call ends
 
-  line_same : (t : ℕ) (call : Call) (outcome : trace.Outcome) (s : State) → Sized s → t ≢ n → line_of t call outcome (grown s) ≡ line_of t call outcome s
+  line_same : (t : ℕ) (call : Call) (outcome : trace.CallEnd) (s : State) → Sized s → t ≢ n → line_of_call t call outcome (grown s) ≡ line_of_call t call outcome s
   line_same t call outcome s sized apart = rw (name_same n task.pri task.name t s.schedule sized.0 apart) refl
 
   -- one line is said, and the scripts change
@@ -289,7 +289,7 @@ module _ (n : ℕ) (task : TaskData) where
   more_tasks some number m is = grind (arith, nat_tests)
 
   number_count : (scripts : Scripts) → length (more scripts).programs ≡ length scripts.programs + 1
-  number_count scripts = length-append scripts.programs (begun task ∷ [])
+  number_count scripts = length-append scripts.programs (new_program task ∷ [])
 
   pub task_still : (number : ℕ) (scripts : Scripts) → is_task number scripts ≡ true → is_task number (more scripts) ≡ true
   task_still number scripts is =
@@ -322,8 +322,8 @@ module _ (n : ℕ) (task : TaskData) where
   unfolding delivered
   delivered_with kind port message r q alike =
       let posting = remembered (on_heap (posted kind port message)) r q alike (λ m. refl) in
-      let acts = performed_with (acting (port_of port q.memory.heap)) _ _ posting in
-      (ap (λ (s : State). performed (acting (port_of port s.memory.heap)) (on_memory (on_heap (posted kind port message)) r)) alike.0 ∙ acts.0, acts.1)
+      let acts = performed_with (arrival_action (port_of port q.memory.heap)) _ _ posting in
+      (ap (λ (s : State). performed (arrival_action (port_of port s.memory.heap)) (on_memory (on_heap (posted kind port message)) r)) alike.0 ∙ acts.0, acts.1)
 
   delivers_with : (kind port message : ℕ) (c : Caller) (call : Call) (s : State) → Sized s → IsOther c
       → Both (leaving (put port message) (done_by c call (delivered kind port message (grown s))))
@@ -551,7 +551,7 @@ module _ (n : ℕ) (task : TaskData) where
   libraries_with libraries.RemLibrary t call s sized apart going =
       let base = argument 0 call in
       refused_by (library_alert base s.memory.heap) _ (ByTask t) call _ (grown s) s (λ none. none)
-      (λ none on. done_with t call _ _ (remembered (library_removed base) (grown s) s (itself s sized) (removed_blind (suc n) base)) apart) going
+      (λ none on. done_with t call _ _ (remembered (after_expunge base) (grown s) s (itself s sized) (removed_blind (suc n) base)) apart) going
   libraries_with libraries.LibOpenCnt t call s sized apart going =
       refused_by (library_alert (argument 0 call) s.memory.heap) _ (ByTask t) call _ (grown s) s (λ none. none)
       (λ none on. answered_here t call _ s sized apart) going
@@ -568,11 +568,11 @@ module _ (n : ℕ) (task : TaskData) where
       (placed_with t call size object _ _ asked (place_same (suc n) kind size asked.memory) sized apart)
     where
       placed_with : (t : ℕ) (call : Call) (size : ℕ) (object : Object) (one place : Option ℕ) (r : State) → one ≡ place → Sized r → t ≢ n
-          → Both (allocates_memory t call size object one (grown r)) (allocates_memory t call size object place r)
+          → Both (allocates_block t call size object one (grown r)) (allocates_block t call size object place r)
       placed_with t call size object one place r e sized apart =
           let both = answered_with t call (unwrap_or place 0) (unwrap_or place 0) _ _ refl
           (remembered (placed size object place) (grown r) r (itself r sized) (placed_blind (suc n) size object place)) apart in
-          record { same = ap (λ found. allocates_memory t call size object found (grown r)) e ∙ both.same; sized = both.sized }
+          record { same = ap (λ found. allocates_block t call size object found (grown r)) e ∙ both.same; sized = both.sized }
 
   created_with : (t : ℕ) (call : Call) (bit place : Option ℕ) (s : State) → Sized s → t ≢ n
       → Both (port_created t call bit place (grown s)) (port_created t call bit place s)
@@ -640,7 +640,7 @@ module _ (n : ℕ) (task : TaskData) where
   ports_with ports.SetMsgWord t call s sized apart going =
       refused_by (message_alert (argument 0 call) s.memory.heap) _ (ByTask t) call _ (grown s) s (λ none. none)
       (λ none on. done_with t call _ _
-      (remembered (on_heap (with_word (argument 0 call) (argument 1 call))) (grown s) s (itself s sized) (λ m. refl)) apart) going
+      (remembered (on_heap (with_message_word (argument 0 call) (argument 1 call))) (grown s) s (itself s sized) (λ m. refl)) apart) going
   ports_with ports.MsgType t call s sized apart going =
       refused_by (message_alert (argument 0 call) s.memory.heap) _ (ByTask t) call _ (grown s) s (λ none. none)
       (λ none on. answered_here t call _ s sized apart) going

@@ -9,7 +9,7 @@ use Rattle.iorequest.specs.declared.request.Request.{Request as TimerRequest}
 use Rattle.script.specs.{File.MachineData, Machines.IsMachine, declared.event.Event.Event}
 use Rattle.execmodel.specs.State.{Call, Object, ListHead, Message, Library, Request, Block, Heap, Memory, Waiting as Queued, Mark, State, Outcome, andthen, on_schedule, booted}
 use Rattle.execmodel.specs.Semaphores.{with_semaphore, left_by_task, entered, queued, dropped, handed_on, released_once}
-use Rattle.execmodel.specs.Libraries.{is_library, is_library_at, is_numbered, library_number, number_of, with_library, base_of}
+use Rattle.execmodel.specs.Libraries.{is_library, is_library_at, is_numbered, library_number, library_number_at, with_library, base_of}
 use Rattle.execmodel.specs.{Objects.object_at, Objects.is_kind, Objects.replaced, Memory.extents, Memory.block_at, Bodies.body_step, Requests.finishes, Requests.with_request, Lists.with_nodes, Lists.unlinked, Lists.left_by, Ports.with_port, Ports.with_action, Ports.appended, Ports.taken_off, Step.switches, Step.ends, Step.run, Step.starts, Laws.LibrariesHaveOneBase}
 use Rattle.execmodel.proofs.Moves.{Moves, touches, takes, frees, relists, unlinks, sets, enters, queues, hands, opens, releases, counts, expunges, drops}
 use Rattle.execmodel.proofs.{Heaps.block_remade, Heaps.found_rid, Heaps.rid, Heaps.filled, Heaps.true_is_not_false, Heaps.object_remade, Heaps.object_placed_here, Heaps.object_placed_there, Itself.does_itself, Itself.call_works, Formed.counted_formed, Formed.rid_formed, Stretches.Relation, Stretches.HoldsOfEach, Stretches.of_events, Stretches.of_starts, Stretches.clock_gains, Commands.Touches, Commands.remains, Commands.fills, Commands.puts, Commands.gets, Commands.none_some, Telling.body_alters, Taking.IsNew, Taking.Takes, Taking.nothing, Taking.places, Taking.recounts, Taking.yields, Taking.number_is, Posts.IsTidy, Asking.Asks, Asking.writes, Asking.answers, Asking.written, Asking.without_reply, Asking.finishing, Works.Works, Works.by_moves, Works.by_asking, Works.by_taking, TidyLaw.quietly, TidyLaw.switches_quiet, TidyLaw.tidies, TidyLaw.rescheduled_tidy, TidyLaw.booted_tidy}
@@ -95,15 +95,15 @@ counted_found true i number count delayed (Some block) there is =
 counted_found false i number count delayed (Some block) there is = is
 
 counted_less : (base count : ℕ) (delayed : Bool) (heap : Heap) → is_library_at base heap ≡ true → NoMore heap (with_library base count delayed heap)
-unfolding is_library_at number_of with_library
+unfolding is_library_at library_number_at with_library
 counted_less base count delayed heap there i a is =
-    counted_found (nat_eq a base) i (number_of base heap) count delayed (block_at a heap)
+    counted_found (nat_eq a base) i (library_number_at base heap) count delayed (block_at a heap)
     (λ same. let here : a ≡ base = number_is a base same in (
       subst (λ k. is_kind is_library (object_at k heap) ≡ true) (sym here) there,
-      subst (λ k. number_of base heap ≡ option_map_or library_number (object_at k heap) 0) (sym here) refl,
+      subst (λ k. library_number_at base heap ≡ option_map_or library_number (object_at k heap) 0) (sym here) refl,
     ))
     (subst (λ found. Numbered i (option_map (λ (block : Block). block.object) found))
-    (block_remade (λ k block. if nat_eq k base then record block { object = Library (number_of base heap) count delayed } else block) a heap) is)
+    (block_remade (λ k block. if nat_eq k base then record block { object = Library (library_number_at base heap) count delayed } else block) a heap) is)
 
 -- ---- a library that is placed was nowhere
 
@@ -149,10 +149,10 @@ module _ (address size : ℕ) (object : Object) (heap : Heap) (new : IsNew heap 
 
 -- ---- whatever a call does
 
-takes_once : {asks : Bool} (regions : List Region) (old new : Heap) → Takes asks regions old new → IsWellFormed regions (extents old) → Once old → Once new
+takes_once : {asks may_count : Bool} (regions : List Region) (old new : Heap) → Takes asks may_count regions old new → IsWellFormed regions (extents old) → Once old → Once new
 takes_once regions old new nothing formed once = once
 takes_once regions old new (places size reqs address object is fits) formed once = placed_once address (round size) object old is once
-takes_once regions old new (recounts base count delayed there more rest) formed once =
+takes_once regions old new (recounts base count delayed there more may rest) formed once =
     let mid = with_library base count delayed old in
     takes_once regions mid new rest (counted_formed regions base count delayed old formed)
     (still_once old mid (counted_less base count delayed old (there formed)) once)
@@ -199,7 +199,7 @@ moves_once regions t call old marks new (hands semaphore owner release there las
 moves_once regions t call old marks new (opens semaphore release there last e) formed once =
     still_once old new (replaced_less semaphore _ old (λ i. refl)) once
 moves_once regions t call old marks new (releases semaphore there last) formed once = still_once old new (replaced_less semaphore _ old (λ i. refl)) once
-moves_once regions t call old marks new (counts base count delayed there) formed once =
+moves_once regions t call old marks new (counts base count delayed there may) formed once =
     still_once old new (counted_less base count delayed old (there formed)) once
 moves_once regions t call old marks new (expunges base there may) formed once = still_once old new (rid_less base old) once
 moves_once regions t call old marks new (drops other apart) formed once =
@@ -272,8 +272,8 @@ numbered_there i None is e = true_is_not_false (sym is)
 numbered_there i (Some object) is e = number_found i object is (ap (λ n. nat_eq n i) e ∙ nat_eq-same i)
 
 pub libraries_have_one_base : LibrariesHaveOneBase
-unfolding is_library_at number_of
+unfolding is_library_at library_number_at
 libraries_have_one_base a b machine list is one other same =
     let heap = (run machine list).state.memory.heap in
-    run_once machine list is (number_of a heap) a b (numbered_there (number_of a heap) (object_at a heap) one refl)
-    (numbered_there (number_of a heap) (object_at b heap) other (sym same))
+    run_once machine list is (library_number_at a heap) a b (numbered_there (library_number_at a heap) (object_at a heap) one refl)
+    (numbered_there (library_number_at a heap) (object_at b heap) other (sym same))

@@ -3,7 +3,7 @@ use Rattle.std.proofs.Common.{◌⊎◌, inl, inr, ◌≡◌, ◌≢◌, ℕ, Bo
 use Rattle.memlist.specs.{declared.region.Region.Region, Memory.IsWellFormed, Fit.round}
 use Rattle.memlist.proofs.Answered.{nat_eq-same, nat_eq-other, cases_eq}
 use Rattle.execlist.specs.{Order.first, Order.without, Lists.is_at}
-use Rattle.sigsem.specs.{declared.semaphore.Sem.Sem, Semaphores.is_open, Semaphores.is_owned, Semaphores.owned_next}
+use Rattle.sigsem.specs.{declared.semaphore.Sem.Sem, Semaphores.is_free_for, Semaphores.is_owned, Semaphores.owned_next}
 use Rattle.iorequest.specs.declared.request.Request.{Request as TimerRequest}
 use Rattle.execmodel.specs.Semaphores.{sem_in, sem_of, sem_of_object, waiters_of, waiters_of_object, with_semaphore, left_by_task, entered, queued, dropped, handed_on, released_once}
 use Rattle.execmodel.specs.{State.Call, State.Object, State.Plain, State.ListHead, State.Semaphore, State.Library, State.Request, State.Block, State.Heap, State.Waiting as Queued, State.Mark, State.State, Requests.is_request, Requests.is_request_at, Requests.with_request, Objects.object_at, Objects.is_kind, Objects.replaced, Memory.extents, Lists.is_list, Lists.is_list_at, Lists.with_nodes, Lists.unlinked, Lists.left_by, Ports.is_port, Ports.is_message, Ports.is_port_at, Ports.is_message_at, Ports.with_port, Ports.with_action, Ports.appended, Ports.taken_off, Libraries.is_library, Libraries.is_library_at, Libraries.with_library}
@@ -51,7 +51,7 @@ new_idle heap (Semaphore sem waiters) is = λ e. is.1
 new_idle heap _ is = λ e. refl
 
 -- a semaphore that a task does not get at once has an owner
-closed_owned : (t : ℕ) (sem : Sem) → is_open t sem ≡ false → sem.owner ≡ None → ⊥
+closed_owned : (t : ℕ) (sem : Sem) → is_free_for t sem ≡ false → sem.owner ≡ None → ⊥
 closed_owned t sem closed none =
     true_is_not_false (sym (ap (λ owner. not (is_some owner) || is_at owner t) none) ∙ closed)
 
@@ -78,13 +78,13 @@ counted_idle : (base count : ℕ) (delayed : Bool) (heap : Heap) → AllIdle hea
 unfolding with_library
 counted_idle base count delayed heap idle = idle_replaced base _ heap (λ e. refl) idle
 
-takes_idle : {asks : Bool} (regions : List Region) (old new : Heap) → Takes asks regions old new → AllIdle old → AllIdle new
+takes_idle : {asks may_count : Bool} (regions : List Region) (old new : Heap) → Takes asks may_count regions old new → AllIdle old → AllIdle new
 takes_idle regions old new nothing idle = idle
 takes_idle regions old new (places size reqs address object is fits) idle = λ a.
     cases_eq a address
     (λ same. subst (λ found. Idle found) (sym (ap (λ k. object_at k new) same ∙ object_placed_here address (round size) object old)) (new_idle old object is))
     (λ apart. subst (λ found. Idle found) (sym (object_placed_there a address _ old apart)) (idle a))
-takes_idle regions old new (recounts base count delayed is more rest) idle =
+takes_idle regions old new (recounts base count delayed is more may rest) idle =
     takes_idle regions (with_library base count delayed old) new rest (counted_idle base count delayed old idle)
 takes_idle regions old new (yields base is none may rest) idle = takes_idle regions (rid base old) new rest (rid_idle base old idle)
 
@@ -105,7 +105,7 @@ moves_idle regions t call old marks new (hands semaphore owner release is last e
 moves_idle regions t call old marks new (opens semaphore release is last e) idle =
     idle_replaced semaphore _ old (next_idle (waiters_of semaphore old)) idle
 moves_idle regions t call old marks new (releases semaphore is last) idle = idle_replaced semaphore _ old (idle semaphore) idle
-moves_idle regions t call old marks new (counts base count delayed is) idle = counted_idle base count delayed old idle
+moves_idle regions t call old marks new (counts base count delayed is may) idle = counted_idle base count delayed old idle
 moves_idle regions t call old marks new (expunges base is may) idle = rid_idle base old idle
 moves_idle regions t call old marks new (drops other apart) idle = idle_remade (left_by_task other) (task_left_idle other) old idle
 
@@ -251,7 +251,7 @@ expunged_unowned base a heap is =
     ∙ sym (ap (λ k. owner_in (object_at k heap)) same ∙ no_owner is_library library_free (object_at base heap) is))
     (λ apart. ap (λ found. owner_in found) (object_rid_there a base heap apart))
 
-takes_own : {asks : Bool} (regions : List Region) (old new : Heap) → Takes asks regions old new → IsWellFormed regions (extents old)
+takes_own : {asks may_count : Bool} (regions : List Region) (old new : Heap) → Takes asks may_count regions old new → IsWellFormed regions (extents old)
     → (a : ℕ) → owner_in (object_at a new) ≡ owner_in (object_at a old)
 takes_own regions old new nothing formed a = refl
 takes_own regions old new (places size reqs address object is fits) formed a =
@@ -260,7 +260,7 @@ takes_own regions old new (places size reqs address object is fits) formed a =
     ∙ new_free old object is
     ∙ sym (ap (λ found. owner_in found) (ap (λ k. object_at k old) same ∙ placed_fresh regions size reqs address old formed fits)))
     (λ apart. ap (λ found. owner_in found) (object_placed_there a address _ old apart))
-takes_own regions old new (recounts base count delayed is more rest) formed a =
+takes_own regions old new (recounts base count delayed is more may rest) formed a =
     takes_own regions (with_library base count delayed old) new rest (counted_formed regions base count delayed old formed) a
     ∙ counted_unowned base count delayed a old (is formed)
 takes_own regions old new (yields base is none may rest) formed a =
@@ -296,7 +296,7 @@ moves_own regions t call old marks new (opens semaphore release is last e) forme
 moves_own regions t call old marks new (releases semaphore is last) formed a =
     by_address t call a semaphore _ old
     (λ same. inl (subst (λ k. owner_in (object_at k new) ≡ owner_in (object_at k old)) (sym same) (same_owner semaphore _ old refl)))
-moves_own regions t call old marks new (counts base count delayed is) formed a = inl (counted_unowned base count delayed a old (is formed))
+moves_own regions t call old marks new (counts base count delayed is may) formed a = inl (counted_unowned base count delayed a old (is formed))
 moves_own regions t call old marks new (expunges base is may) formed a = inl (expunged_unowned base a old is)
 moves_own regions t call old marks new (drops other apart) formed a = inl (remade_owner (left_by_task other) (task_left_owner other) a old)
 

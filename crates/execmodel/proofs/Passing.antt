@@ -177,7 +177,7 @@ expunged_still base p heap is =
     ∙ sym (ap (λ a. waiters_of_object (object_at a heap)) same ∙ no_port is_library library_none (object_at base heap) is))
     (λ apart. ap (λ found. waiters_of_object found) (object_rid_there p base heap apart))
 
-takes_still : {asks : Bool} (regions : List Region) (old new : Heap) → Takes asks regions old new → IsWellFormed regions (extents old)
+takes_still : {asks may_count : Bool} (regions : List Region) (old new : Heap) → Takes asks may_count regions old new → IsWellFormed regions (extents old)
     → (p : ℕ) → waiters_of p new ≡ waiters_of p old
 takes_still regions old new nothing formed p = refl
 takes_still regions old new (places size reqs address object is fits) formed p =
@@ -186,7 +186,7 @@ takes_still regions old new (places size reqs address object is fits) formed p =
     ∙ new_none old object is
     ∙ sym (ap (λ found. waiters_of_object found) (ap (λ a. object_at a old) same ∙ placed_fresh regions size reqs address old formed fits)))
     (λ apart. ap (λ found. waiters_of_object found) (object_placed_there p address _ old apart))
-takes_still regions old new (recounts base count delayed is more rest) formed p =
+takes_still regions old new (recounts base count delayed is more may rest) formed p =
     takes_still regions (with_library base count delayed old) new rest (counted_formed regions base count delayed old formed) p
     ∙ counted_still base count delayed p old (is formed)
 takes_still regions old new (yields base is none may rest) formed p =
@@ -230,7 +230,7 @@ moves_pass regions t call old marks new (opens semaphore release is last e) form
     ∙ ap (λ q. drop 1 q) (first_none (waiters_of semaphore old) e)
     ∙ sym (ap (λ a. waiters_of a old) same ∙ first_none (waiters_of semaphore old) e))
     (λ apart. semaphore_elsewhere p semaphore _ (drop 1 (waiters_of semaphore old)) old apart)
-moves_pass regions t call old marks new (counts base count delayed is) formed idle nowhere one p = counted_still base count delayed p old (is formed)
+moves_pass regions t call old marks new (counts base count delayed is may) formed idle nowhere one p = counted_still base count delayed p old (is formed)
 moves_pass regions t call old marks new (expunges base is may) formed idle nowhere one p = expunged_still base p old is
 moves_pass regions t call old marks new (releases semaphore is last) formed idle nowhere one p =
     cases_eq p semaphore

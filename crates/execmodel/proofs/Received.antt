@@ -5,7 +5,7 @@ use Rattle.memlist.proofs.Answered.{nat_eq-other, cases_eq}
 use Rattle.signals.specs.Signals.{SignalSets, initial_sets, after_post, has_signal}
 use Rattle.taskq.specs.declared.TaskState.TheVariants.{Ready, Running, Waiting, Removed}
 use Rattle.taskq.specs.{Tasks.state_at, Tasks.is_live, declared.TaskState.TaskState, declared.Why.TheVariants.Signals, declared.Why.TheVariants.Sem}
-use Rattle.scheduler.specs.Schedule.{Schedule, status_of, signals_of, is_absent, awaits, begins, renewed, is_switching_allowed, is_quantum_over, leaves as leaves_for_good, removed, ticked, ticked_for, waits_for, waits_at_semaphore, with_signals}
+use Rattle.scheduler.specs.Schedule.{Schedule, status_of, signals_of, is_absent, awaits, begins, renewed, is_switching_allowed, is_quantum_over, leaves as leaves_for_good, removed, quantum_ticked, ticked_for, waits_for, waits_at_semaphore, with_signals}
 use Rattle.scheduler.specs.{declared.Switch.Switch, declared.Switch.TheVariants.To, declared.Switch.TheVariants.Idle, Dispatch.arrives, Dispatch.added, Dispatch.displaced, Dispatch.after_switch, Dispatch.rescheduled, Dispatch.switch_of, Dispatch.signalled}
 use Rattle.script.specs.File.{MachineData}
 use Rattle.execmodel.specs.{State.Call, State.Mark, State.State, State.Outcome, State.quiet, State.booted, State.andthen, State.on_schedule, Calls.next_call, Pending.next_softint, Bodies.body_step, Step.switches, Step.ends, Step.call_step, Step.task_step, Step.softint_or_task_step, Step.acting, Step.acts, Step.step, Step.tick, Step.starts, Step.run, Laws.OneStep, Laws.OneTick, Laws.OneRequest, Laws.IsToCall, Laws.is_own_taking, Laws.WaitersHaveReceivedNone, Laws.ReceivedSignalsStay, Requests.finishes}
@@ -181,8 +181,8 @@ rescheduled_none : (s : Schedule) → AllHaveNone s → AllHaveNone (rescheduled
 unfolding rescheduled
 rescheduled_none s old = switched_none (switch_of by_arrival s) s old
 
-ticked_none : (s : Schedule) → AllHaveNone s → AllHaveNone (ticked s)
-unfolding ticked
+ticked_none : (s : Schedule) → AllHaveNone s → AllHaveNone (quantum_ticked s)
+unfolding quantum_ticked
 ticked_none s old = by_running s.running
   where
     by_running : (o : Option ℕ) → AllHaveNone (ticked_for o s)
@@ -285,8 +285,8 @@ rescheduled_keeps : (t n : ℕ) (s : Schedule) → Keeps t n s (rescheduled by_a
 unfolding rescheduled
 rescheduled_keeps t n s = switched_keeps t n (switch_of by_arrival s) s
 
-ticked_keeps : (t n : ℕ) (s : Schedule) → Keeps t n s (ticked s)
-unfolding ticked
+ticked_keeps : (t n : ℕ) (s : Schedule) → Keeps t n s (quantum_ticked s)
+unfolding quantum_ticked
 ticked_keeps t n s = by_running s.running
   where
     by_running : (o : Option ℕ) → Keeps t n s (ticked_for o s)

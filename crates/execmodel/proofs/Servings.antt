@@ -6,9 +6,9 @@ use Rattle.exectrace.specs.Trace.{TraceLine, Switch, Serve}
 use Rattle.forbid.specs.Nesting.{Nesting, initial_nesting, may_interrupt}
 use Rattle.softint.specs.{declared.source.Source.Source, declared.latches.Latches.Latches, Sources.is_latched, Sources.no_latches, Sources.with_latch, Sources.highest}
 use Rattle.softint.specs.declared.source.Source.TheVariants as source
-use Rattle.scheduler.specs.{Schedule.Schedule, Schedule.ticked, Schedule.ticked_for, Schedule.is_interrupting_allowed, declared.Switch.Switch as Choice, Dispatch.switch_of, Dispatch.rescheduled}
+use Rattle.scheduler.specs.{Schedule.Schedule, Schedule.quantum_ticked, Schedule.ticked_for, Schedule.is_interrupting_allowed, declared.Switch.Switch as Choice, Dispatch.switch_of, Dispatch.rescheduled}
 use Rattle.scheduler.specs.declared.Switch.TheVariants as switch
-use Rattle.exectrace.specs.Heard.{text_of_source}
+use Rattle.softint.specs.Sources.{source_text}
 use Rattle.execmodel.specs.Interrupts.{serving_counted, finishes_for, chain_of, runs_chain, serves, servings, interrupts}
 use Rattle.execmodel.specs.{State.State, State.Outcome, State.quiet, State.andthen, State.unless_stopped, State.on_schedule, State.on_pending, Pending.allows_interrupts, Pending.with_latch_of, Pending.next_source, Step.announced, Step.switches, Step.settle, Laws.says_switch, Laws.is_serving, Laws.InterruptsKeepNestings, Laws.ThreeServingsAtMost}
 use Rattle.execmodel.proofs.BodyActions.{standing, steady, IsOfBody, AreOfBodies, softint_bodily, served_bodily}
@@ -53,7 +53,7 @@ ticked_stands None s = refl
 ticked_stands (Some r) s = refl
 
 counted_stands : (asks : Source) (s : Schedule) → standing (serving_counted asks s) ≡ standing s
-unfolding ticked
+unfolding quantum_ticked
 counted_stands source.Ports s = refl
 counted_stands source.Vertb s = ticked_stands s.running s
 counted_stands source.Exter s = refl
@@ -73,7 +73,7 @@ served_once : (asks : Source) (s : State) → count_by is_serving (serves asks s
 unfolding serves andthen
 served_once asks s =
     let o = andthen (finishes_for asks) (runs_chain (chain_of asks s.bodies.servers)) (on_schedule (serving_counted asks) (on_pending (with_latch_of asks false) s)) in
-    served_first (text_of_source asks) o.lines
+    served_first (source_text asks) o.lines
     (served_bodily asks (chain_of asks s.bodies.servers) (on_schedule (serving_counted asks) (on_pending (with_latch_of asks false) s))).told
 
 served_silent : (asks : Source) (s : State) → says_switch (serves asks s).lines ≡ false

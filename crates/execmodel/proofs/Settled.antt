@@ -8,7 +8,7 @@ use Rattle.scheduler.specs.Schedule.{Schedule, priority_of, nesting_of, switch_f
 use Rattle.scheduler.specs.{declared.Switch.Switch, declared.Switch.TheVariants.To, declared.Switch.TheVariants.Idle, Dispatch.arrives, Dispatch.displaced, Dispatch.after_switch, Dispatch.switch_of, Dispatch.rescheduled}
 use Rattle.script.specs.declared.event.Event.TheVariants.{Run, Tick, Irq}
 use Rattle.script.specs.declared.event.Event.{Event}
-use Rattle.execmodel.specs.{State.State, State.Outcome, State.quiet, State.on_schedule, State.on_memory, State.on_timer, State.on_pending, State.andthen, State.unless_stopped, State.booted, Pending.source_named, Pending.with_latch_of, Pending.allows_interrupts, Interrupts.interrupts, Step.announced, Step.switches, Step.settle, Step.acts, Step.step, Step.steps, Step.request, Step.tick, Step.ticks, Step.starts, Step.all_added, Step.event, Step.events, Step.run, Laws.IsSettled, Laws.EachStateIsSettled}
+use Rattle.execmodel.specs.{State.State, State.Outcome, State.quiet, State.on_schedule, State.on_memory, State.on_timer, State.on_pending, State.andthen, State.unless_stopped, State.booted, Pending.with_latch_of, Pending.allows_interrupts, Interrupts.interrupts, Step.announced, Step.switches, Step.settle, Step.acts, Step.step, Step.steps, Step.request, Step.tick, Step.ticks, Step.starts, Step.all_added, Step.event, Step.events, Step.run, Laws.IsSettled, Laws.EachStateIsSettled}
 use Rattle.timerdev.specs.Timing.{ticked}
 use Rattle.softint.specs.{declared.source.Source.Source, declared.source.Source.TheVariants.Vertb, Sources.is_latched}
 use Rattle.execmodel.proofs.{Heaps.true_is_not_false, TidyLaw.switches_quiet, Servings.interrupts_blocked}
@@ -283,7 +283,7 @@ event_rests : (e : Event) (s : State) → Rests s → Rests (event e s).state
 unfolding event
 event_rests (Run n) s rests = steps_rest n s rests
 event_rests (Tick n) s rests = ticks_rest n s rests
-event_rests (Irq name) s rests = request_rests (source_named name) s
+event_rests (Irq asks) s rests = request_rests asks s
 
 events_rest : (list : List Event) (s : State) → Rests s → Rests (events list s).state
 unfolding events andthen

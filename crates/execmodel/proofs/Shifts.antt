@@ -4,7 +4,7 @@ use Rattle.std.proofs.Common.{[], ◌≡◌, ◌≢◌, ℕ, zero, suc, ◌<◌,
 use Rattle.std.proofs.lemmas.Bool.Decides.{nat_tests}
 use Rattle.memlist.proofs.Answered.{nat_eq-other, cases_eq}
 use Rattle.execlist.specs.Disciplines.{by_arrival}
-use Rattle.signals.specs.Signals.{SignalSets, initial_sets, without, taken_signals, after_free}
+use Rattle.signals.specs.Signals.{SignalSets, initial_sets, without_bits, taken_signals, after_free}
 use Rattle.forbid.specs.Nesting.{Nesting}
 use Rattle.taskq.specs.Tasks.{is_live, is_ready}
 use Rattle.scheduler.specs.Schedule.{Schedule, status_of, signals_of, allocates as allocates_signal, frees as frees_signal, sets_signals, takes as takes_signals, waits_for, waits_at_semaphore, departs, is_absent, leaves as leaves_for_good, removed, with_priority, with_signals}
@@ -186,7 +186,7 @@ created_shifts t call (Some bit) (Some address) s memory taking =
     (answered_count t call.next call.target address s.scripts, takes (λ p. refl) taking (own_signals t _ s.schedule))
 
 -- of the signals that a task takes it has received none any more
-none_received : (t mask : ℕ) (all : List SignalSets) (sets : SignalSets) → sets.received ≡ without (slice_index_or all t initial_sets).received mask
+none_received : (t mask : ℕ) (all : List SignalSets) (sets : SignalSets) → sets.received ≡ without_bits (slice_index_or all t initial_sets).received mask
     → bit_and (slice_index_or (slice_set all t sets) t initial_sets).received mask ≡ 0
 none_received t mask [] sets e = nothing_in_none mask
   where

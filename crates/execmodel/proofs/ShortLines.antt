@@ -1,6 +1,6 @@
 -- How many bytes a line has at most, if names and words have at most 31, and the arguments of a call take at most 64.
 use Rattle.std.proofs.Common.{ℕ, ◌+◌, ◌≤◌, lit≤, List, ◌++◌, length, length-append, arith, codes, flat_map}
-use Rattle.exectrace.specs.Trace.{Argument, Outcome, Done, Answers, Waits, TraceLine, Switch, Idle, Call, Serve, Timer, Server, Softint, Alert, argument_text, outcome_text, printed_line}
+use Rattle.exectrace.specs.Trace.{Argument, CallEnd, Done, Answers, Waits, TraceLine, Switch, Idle, Call, Serve, Timer, Server, Softint, Alert, argument_text, outcome_text, printed_line}
 
 -- a printed line has at most 160 bytes, its line feed included
 abbrev pub IsShort : TraceLine → Type 0
@@ -60,12 +60,12 @@ softint_short name short =
 pub timer_short : (value : ℕ) → IsShort (Timer value)
 timer_short value = lit≤ tt
 
-outcome_has : (outcome : Outcome) → HasAtMost (outcome_text outcome) 13
+outcome_has : (outcome : CallEnd) → HasAtMost (outcome_text outcome) 13
 outcome_has Done = record { bytes = lit≤ tt }
 outcome_has (Answers n) = record { bytes = lit≤ tt }
 outcome_has Waits = record { bytes = lit≤ tt }
 
-pub call_short : (name word : List ℕ) (arguments : List Argument) (outcome : Outcome) → IsShortText name → IsShortText word
+pub call_short : (name word : List ℕ) (arguments : List Argument) (outcome : CallEnd) → IsShortText name → IsShortText word
     → AreShort arguments → IsShort (Call name word arguments outcome)
 call_short name word arguments outcome short also few =
     let called = before (before (has name 31 short) space) (has word 31 also) in

@@ -2,7 +2,7 @@
 use Rattle.std.proofs.Common.{◌≡◌, ℕ, zero, suc, Bool, true, false, List, [], ◌∷◌, ◌++◌, refl, ap, sym, ◌∙◌, if◌then◌else◌, append-nil}
 use Rattle.script.specs.declared.event.Event.TheVariants.{Run, Tick, Irq}
 use Rattle.script.specs.declared.event.Event.{Event}
-use Rattle.execmodel.specs.{State.State, State.Outcome, State.quiet, State.andthen, State.unless_stopped, Pending.source_named, Step.acts, Step.settle, Step.step, Step.steps, Step.request, Step.tick, Step.ticks, Step.event, Step.events}
+use Rattle.execmodel.specs.{State.State, State.Outcome, State.quiet, State.andthen, State.unless_stopped, Step.acts, Step.settle, Step.step, Step.steps, Step.request, Step.tick, Step.ticks, Step.event, Step.events}
 use Rattle.softint.specs.declared.source.Source.{Source}
 
 -- an outcome, and then another action
@@ -49,7 +49,7 @@ pub event_stopped : (e : Event) (s : State) → s.stopped ≡ true → event e s
 unfolding event
 event_stopped (Run n) s h = steps_stopped n s h
 event_stopped (Tick n) s h = ticks_stopped n s h
-event_stopped (Irq name) s h = request_stopped (source_named name) s h
+event_stopped (Irq asks) s h = request_stopped asks s h
 
 pub events_stopped : (list : List Event) (s : State) → s.stopped ≡ true → events list s ≡ quiet s
 unfolding events

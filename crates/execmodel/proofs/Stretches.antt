@@ -4,14 +4,14 @@ use Rattle.execlist.specs.Disciplines.{by_arrival}
 use Rattle.exectrace.specs.Trace.{Serve, Server, Softint, TraceLine}
 use Rattle.script.specs.declared.event.Event.TheVariants.{Run, Tick, Irq}
 use Rattle.script.specs.{Commands.CommandData, declared.event.Event.Event}
-use Rattle.scheduler.specs.{Schedule.ticked as quantum_ticked, Dispatch.added}
+use Rattle.scheduler.specs.{Schedule.quantum_ticked, Dispatch.added}
 use Rattle.softint.specs.declared.source.Source.{Source}
 use Rattle.softint.specs.declared.source.Source.TheVariants as source
 use Rattle.execmodel.specs.State.{Call, Pending, Timer as Clock, State, Mark, Outcome, quiet, says, andthen, unless_stopped, on_schedule, on_memory, on_timer, on_pending}
-use Rattle.exectrace.specs.Heard.{text_of_source}
+use Rattle.softint.specs.Sources.{source_text}
 use Rattle.execmodel.specs.Interrupts.{softint_at, runs_softint, server_at, chain_of, runs_server, runs_chain, serving_counted, finishes_for, serves, servings, interrupts}
 use Rattle.execmodel.specs.Step.{switches, settle, does, ends, task_step, call_step, softint_or_task_step, acting, acts, step, steps, request, tick, ticks, all_added, starts, event, events}
-use Rattle.execmodel.specs.{Calls.next_call, Pending.source_named, Pending.caused_no_more, Pending.with_latch_of, Pending.next_softint, Pending.next_source, Bodies.body_step, Bodies.runs_body, Requests.does_requests, Requests.finishes, Requests.finishes_each, Requests.finishes_all_due, Requests.finishes_set, Laws.times_waiting}
+use Rattle.execmodel.specs.{Calls.next_call, Pending.caused_no_more, Pending.with_latch_of, Pending.next_softint, Pending.next_source, Bodies.body_step, Bodies.runs_body, Requests.does_requests, Requests.finishes, Requests.finishes_each, Requests.finishes_all_due, Requests.finishes_set, Laws.times_waiting}
 use Rattle.timerdev.specs.Timing.{ticked as clock_ticked, due_next, looked_at, until_next}
 use Rattle.execmodel.proofs.{Asking.due_stands, Asking.until_stands, Keeping.finishes_found, Itself.does_itself, Itself.followed}
 
@@ -152,7 +152,7 @@ module _ (R : Relation) (each : HoldsOfInterrupts R) where
       let chain = chain_of asks s.bodies.servers in
       each.joined s [] begun _ _
       (each.joined s [] cleared [] begun (each.pending (with_latch_of asks false) s) (of_counting asks cleared))
-      (both (says (Serve (text_of_source asks))) (andthen (finishes_for asks) (runs_chain chain)) (of_saying (Serve (text_of_source asks)))
+      (both (says (Serve (source_text asks))) (andthen (finishes_for asks) (runs_chain chain)) (of_saying (Serve (source_text asks)))
       (both (finishes_for asks) (runs_chain chain) (of_finishing asks) (of_chain chain)) begun)
 
   serving : (next : State → Outcome) → HoldsOf R next → (found : Option Source) → HoldsOf R (serves_found next found)
@@ -273,7 +273,7 @@ module _ (R : Relation) (each : HoldsOfEach R) (clocked : (s : State) → R s []
   unfolding event
   of_event (Run n) s = of_steps R each n s
   of_event (Tick n) s = of_ticks n s
-  of_event (Irq name) s = of_request R each.interrupting (source_named name) s
+  of_event (Irq asks) s = of_request R each.interrupting asks s
 
   -- what holds of each thing that is done holds over every stretch
   pub of_events : (list : List Event) → HoldsOf R (events list)

@@ -79,7 +79,7 @@ speaker (ByBody name) s = name
 
 -- what a caller of that name may print at a call: the call's own line, or its alert
 pub data IsOwn (name : List ℕ) (call : Call) : TraceLine → Type 0 where
-  own : (outcome : trace.Outcome) → IsOwn name call (trace.Call name (word_text call.word) call.arguments outcome)
+  own : (outcome : trace.CallEnd) → IsOwn name call (trace.Call name (word_text call.word) call.arguments outcome)
   refusing : (code : Alert) → IsOwn name call (trace.Alert (alert_text code) name (word_text call.word))
 
 -- the scripts but for what a caller may change of them: the shared variables, and the progress of a task

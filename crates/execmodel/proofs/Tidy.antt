@@ -181,7 +181,7 @@ module _ (waiting : List Queued) where
       (ap messages_at other) (ap (λ x. is_under_way (asked_at x)) other) refl refl
       (λ a. order.stands base a (ap (may_stand a) other)) (other_needless old base other order)
 
-  takes_order : {asks : Bool} (regions : List Region) (old new : Heap) → Takes asks regions old new → IsWellFormed regions (extents old) → AreInOrder (post_at old) waiting
+  takes_order : {asks may_count : Bool} (regions : List Region) (old new : Heap) → Takes asks may_count regions old new → IsWellFormed regions (extents old) → AreInOrder (post_at old) waiting
       → AreInOrder (post_at new) waiting
   takes_order regions old new nothing formed order = order
   takes_order regions old new (places size reqs address object is fits) formed order =
@@ -191,7 +191,7 @@ module _ (waiting : List Queued) where
       (λ a apart. ap post_of_object (object_placed_there a address _ old apart))
       (ap messages_at fresh) (ap (λ x. is_under_way (asked_at x)) fresh) (new_messages old object is) (new_rests old object is)
       (λ a. order.stands address a (ap (may_stand a) fresh)) (other_needless old address fresh order)
-  takes_order regions old new (recounts base count delayed is more rest) formed order =
+  takes_order regions old new (recounts base count delayed is more may rest) formed order =
       takes_order regions (with_library base count delayed old) new rest (counted_formed regions base count delayed old formed)
       (counted_order base count delayed old (is formed) order)
   takes_order regions old new (yields base is none may rest) formed order =
@@ -220,7 +220,7 @@ module _ (waiting : List Queued) where
   moves_order regions t call old marks new (hands semaphore owner release is last e) formed order = semaphore_order semaphore _ old is refl order
   moves_order regions t call old marks new (opens semaphore release is last e) formed order = semaphore_order semaphore _ old is refl order
   moves_order regions t call old marks new (releases semaphore is last) formed order = semaphore_order semaphore _ old is refl order
-  moves_order regions t call old marks new (counts base count delayed is) formed order = counted_order base count delayed old (is formed) order
+  moves_order regions t call old marks new (counts base count delayed is may) formed order = counted_order base count delayed old (is formed) order
   moves_order regions t call old marks new (expunges base is may) formed order = expunged_order base old is order
   moves_order regions t call old marks new (drops other apart) formed order = remade_order (left_by_task other) (task_left_post other) old order
 

@@ -19,16 +19,16 @@ same_if : (test : Bool) (m memory : Memory) → m ≡ memory → (if test then m
 same_if true m memory e = e
 same_if false m memory e = refl
 
-not_asked : (size reqs : ℕ) (memory : Memory) → memory.asks ≡ false → after_asking size reqs memory ≡ memory
+pub not_asked : (size reqs : ℕ) (memory : Memory) → memory.asks ≡ false → after_asking size reqs memory ≡ memory
 unfolding after_asking
 not_asked size reqs memory e = unasked_if memory.asks (not (nat_eq size 0)) _ memory e
 
-not_asked_for_object : (kind : Object → Bool) (size : ℕ) (memory : Memory) → memory.asks ≡ false
+pub not_asked_for_object : (kind : Object → Bool) (size : ℕ) (memory : Memory) → memory.asks ≡ false
     → after_asking_for_object kind size memory ≡ memory
 unfolding after_asking_for_object
 not_asked_for_object kind size memory e = same_if (is_allowed kind memory) _ memory (not_asked size public_memory memory e)
 
-not_asked_for_port : (bit : Option ℕ) (memory : Memory) → memory.asks ≡ false → after_asking_for_port bit memory ≡ memory
+pub not_asked_for_port : (bit : Option ℕ) (memory : Memory) → memory.asks ≡ false → after_asking_for_port bit memory ≡ memory
 not_asked_for_port None memory e = refl
 not_asked_for_port (Some bit) memory e = not_asked_for_object is_port port_size memory e
 
@@ -36,7 +36,7 @@ not_asked_to_load : (found : Option ℕ) (i : ℕ) (memory : Memory) → memory.
 not_asked_to_load None i memory e = not_asked (library_at i memory).size public_memory memory e
 not_asked_to_load (Some base) i memory e = refl
 
-not_asked_to_open : (found : Option ℕ) (memory : Memory) → memory.asks ≡ false → ready_to_open found memory ≡ memory
+pub not_asked_to_open : (found : Option ℕ) (memory : Memory) → memory.asks ≡ false → ready_to_open found memory ≡ memory
 unfolding ready_to_open
 not_asked_to_open None memory e = refl
 not_asked_to_open (Some i) memory e = not_asked_to_load (base_of i memory.heap) i memory e

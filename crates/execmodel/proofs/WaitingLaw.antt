@@ -4,10 +4,10 @@ use Rattle.std.proofs.lemmas.{List.length-replicate, Grind.flat_map-append}
 use Rattle.signals.specs.Signals.{after_post}
 use Rattle.taskq.specs.declared.TaskState.TheVariants.{Absent, Running, Removed, Waiting}
 use Rattle.taskq.specs.{Tasks.Tasks, Tasks.is_live, declared.TaskState.TaskState, declared.Why.TheVariants.Signals}
-use Rattle.scheduler.specs.Schedule.{Schedule, status_of, signals_of, is_absent, awaits, begins, renewed, is_switching_allowed, is_quantum_over, leaves as leaves_for_good, removed, departs, ticked, ticked_for, waits_for, waits_at_semaphore, with_signals}
+use Rattle.scheduler.specs.Schedule.{Schedule, status_of, signals_of, is_absent, awaits, begins, renewed, is_switching_allowed, is_quantum_over, leaves as leaves_for_good, removed, departs, quantum_ticked, ticked_for, waits_for, waits_at_semaphore, with_signals}
 use Rattle.scheduler.specs.{declared.Switch.Switch, declared.Switch.TheVariants.To, declared.Switch.TheVariants.Idle, Dispatch.arrives, Dispatch.added, Dispatch.displaced, Dispatch.after_switch, Dispatch.rescheduled, Dispatch.switch_of, Dispatch.signalled}
 use Rattle.script.specs.{File.MachineData, Machines.IsMachine, declared.event.Event.Event, Commands.CommandData}
-use Rattle.execmodel.specs.{State.Call, State.Mark, State.State, State.Outcome, State.on_schedule, State.begun, State.booted, State.andthen, Calls.next_call, Bodies.body_step, Semaphores.waiters_of, Step.switches, Step.ends, Step.starts, Step.events, Step.run, Marks.semaphore_turn, Marks.turns_at_semaphore, Laws.QueuesAgreeWithTheSchedule, Laws.SemaphoresPassInOrder, Laws.times_waiting, Requests.finishes}
+use Rattle.execmodel.specs.{State.Call, State.Mark, State.State, State.Outcome, State.on_schedule, State.new_program, State.booted, State.andthen, Calls.next_call, Bodies.body_step, Semaphores.waiters_of, Step.switches, Step.ends, Step.starts, Step.events, Step.run, Marks.semaphore_turn, Marks.turns_at_semaphore, Laws.QueuesAgreeWithTheSchedule, Laws.SemaphoresPassInOrder, Laws.times_waiting, Requests.finishes}
 use Rattle.execlist.specs.{Lists.times, Disciplines.by_arrival}
 use Rattle.execmodel.proofs.Agreement.{AllAgree, all_absent, absent_agrees, alike_agrees, rearrives_agrees, added_agrees, signalled_agrees, stops_agrees, asks_agrees, wakes_agrees, removed_agrees, rescheduled_agrees, waits_at, running_state}
 use Rattle.execmodel.proofs.{Queues.Follows, Queues.IsOnce, Queues.follows_more, Queues.follows_once, Queues.in_order, Itself.does_itself, Itself.call_works, Itself.call_shifts, Stretches.Relation, Stretches.HoldsOfEach, Stretches.clock_gains, Stretches.of_starts, Stretches.of_events, Commands.IsCalm, Commands.Reaches, Commands.rests, Commands.posts, Telling.body_alters, Posts.IsTidy, Asking.finishing, Asking.without_reply, Works.Works, Works.by_moves, Works.by_asking, Works.by_taking, TidyLaw.tidies, TidyLaw.rescheduled_tidy, TidyLaw.booted_tidy, TidyLaw.quietly, TidyLaw.switches_quiet, OwnersLaw.called_idle, Owners.AllIdle, Owners.touched_idle, Owners.asked_idle, Passing.dropped_left, Passing.touched_pass, Passing.moves_pass, Passing.asked_pass, Passing.taken_pass, Shifts.Shifts, Shifts.reaches, Shifts.rearrives, Shifts.adds, Shifts.takes, Shifts.sleeps, Shifts.asks, Shifts.wakes, Shifts.leaves, Shifts.removes, Waiting.waits_at_one, Waiting.runs_nowhere, Versions.word_settings}
@@ -274,16 +274,16 @@ ended_count : (t : ℕ) (s : Schedule) → length (leaves_for_good t s).queue.st
 unfolding leaves_for_good
 ended_count t s = length-set s.queue.states t _
 
-ticked_agrees : (s : Schedule) (q : ℕ → List ℕ) → AllAgree s q → AllAgree (ticked s) q
-unfolding ticked
+ticked_agrees : (s : Schedule) (q : ℕ → List ℕ) → AllAgree s q → AllAgree (quantum_ticked s) q
+unfolding quantum_ticked
 ticked_agrees s q old = by_running s.running
   where
     by_running : (o : Option ℕ) → AllAgree (ticked_for o s) q
     by_running None = old
     by_running (Some r) = alike_agrees s (ticked_for (Some r) s) q q refl refl refl (λ a. refl) old
 
-ticked_count : (s : Schedule) → length (ticked s).queue.states ≡ length s.queue.states
-unfolding ticked
+ticked_count : (s : Schedule) → length (quantum_ticked s).queue.states ≡ length s.queue.states
+unfolding quantum_ticked
 ticked_count s = ap (λ (queue : Tasks). length queue.states) (ticked_running s.running s)
 
 pub waits : HoldsOfEach Waits
@@ -302,7 +302,7 @@ waits = record {
       record { tidy = tidies.interrupting.looking s sound.tidy; idle = sound.idle; counted = sound.counted; roomy = sound.roomy; agrees = sound.agrees },
       λ a. refl,
     );
-    ticking = λ s. rescheduling s ticked (ticked_count s.schedule) (λ sound. ticked_agrees s.schedule (queues_of s) sound.agrees);
+    ticking = λ s. rescheduling s quantum_ticked (ticked_count s.schedule) (λ sound. ticked_agrees s.schedule (queues_of s) sound.agrees);
     switching = λ s. quietly Waits s (switches s) (on_schedule (rescheduled by_arrival) s) (switches_quiet s)
         (rescheduling s (rescheduled by_arrival) (rescheduled_count s.schedule) (λ sound. rescheduled_agrees s.schedule (queues_of s) sound.agrees));
   };
@@ -335,7 +335,7 @@ unfolding booted waiters_of
 booted_sound machine is = record {
   tidy = booted_tidy machine is;
   idle = λ a e. refl;
-  counted = as_many begun Absent machine.tasks;
+  counted = as_many new_program Absent machine.tasks;
   roomy = sym (length-replicate (length machine.tasks) Absent);
   agrees = λ t.
       absent_agrees t (booted machine).schedule (λ a. []) (all_absent (length machine.tasks) t) refl refl (λ a. refl);

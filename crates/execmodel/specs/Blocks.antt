@@ -2,7 +2,7 @@
 -- Nothing in it is linked and nothing is sorted: each queue is a sequence in order of arrival.
 use Rattle.std.specs.Prelude.{ℕ, Bool, List}
 use Rattle.memlist.specs.declared.region.Region.{Region}
-use Rattle.execlist.specs.Lists.{Key}
+use Rattle.execlist.specs.Lists.{KeyData}
 use Rattle.msgport.specs.{Port.Port, declared.message.Message.Message as Content}
 use Rattle.sigsem.specs.declared.semaphore.Sem.{Sem}
 use Rattle.iorequest.specs.declared.request.Request.{Request as TimerRequest}
@@ -17,7 +17,7 @@ pub data Object : Type 0 where
   -- the header of a list, with the addresses of its nodes from the first to the last (RKM Libraries, Exec Lists and Queues)
   ListHead : (nodes : List ℕ) → Object
   -- a node, with its priority and its name or none
-  Node : (key : Key) → Object
+  Node : (key : KeyData) → Object
   -- a message port, with the addresses of its messages in order of arrival (RKM Libraries, Exec Messages and Ports)
   MsgPort : (port : Port) (messages : List ℕ) → Object
   -- a message, with its type, its word, and the address of its reply port or 0
@@ -45,7 +45,7 @@ Heap = List (ℕ × Block)
 -- a public port: its address, and its priority and its name (RKM Libraries, Exec Messages and Ports)
 pub record PublicPort : Type 0 where
   pub port : ℕ
-  pub key : Key
+  pub key : KeyData
 
 -- the regions of memory and the libraries, both in the order of the file, whether libraries are expunged under low memory if memory is refused,
 -- how many objects of each kind may live, how many tasks there are, each of which may wait for a semaphore, the blocks that are allocated,
@@ -54,6 +54,7 @@ pub record PublicPort : Type 0 where
 pub record Memory : Type 0 where
   pub regions : List Region
   pub libraries : List LibraryData
+  -- libraries that are not open are expunged if memory is refused: in version 2 of the rules
   pub asks : Bool
   pub pool : ℕ
   pub tasks : ℕ

@@ -58,14 +58,14 @@ unfoldable pub next_call : ℕ → Scripts → Option Call
 next_call t scripts = call_after t (program_of scripts t).kept scripts
 
 -- the number that an argument is, or 0 for a name and for none
-abbrev pub number_in : Option Argument → ℕ
-number_in None = 0
-number_in (Some (Value n)) = n
-number_in (Some (Quoted name)) = 0
+abbrev pub argument_number : Option Argument → ℕ
+argument_number None = 0
+argument_number (Some (Value n)) = n
+argument_number (Some (Quoted name)) = 0
 
 -- the number that is at an argument, counted from 0
 abbrev pub argument : ℕ → Call → ℕ
-argument k call = number_in (slice_get call.arguments k)
+argument k call = argument_number (slice_get call.arguments k)
 
 -- the name that an argument is, if it is one
 abbrev pub name_in : Option Argument → Option (List ℕ)
@@ -88,21 +88,21 @@ abbrev pub keeps : ℕ → Call → Scripts → Scripts
 keeps t call scripts = with_program t (record (program_of scripts t) { kept = Some call }) scripts
 
 -- the line of a call of task t
-abbrev pub line_of : ℕ → Call → trace.Outcome → State → trace.TraceLine
-line_of t call outcome s = trace.Call (name_of s.schedule t) (word_text call.word) call.arguments outcome
+abbrev pub line_of_call : ℕ → Call → trace.CallEnd → State → trace.TraceLine
+line_of_call t call outcome s = trace.Call (name_of s.schedule t) (word_text call.word) call.arguments outcome
 
 -- the call has had its effect, and answers nothing
 unfoldable pub done : ℕ → Call → State → Outcome
-done t call s = says (line_of t call Done s) (on_scripts (goes_on t call.next) s)
+done t call s = says (line_of_call t call Done s) (on_scripts (goes_on t call.next) s)
 
 -- the call has had its effect, and answers, into its target if it has one
 unfoldable pub answered : ℕ → Call → ℕ → State → Outcome
 answered t call value s =
-    says (line_of t call (Answers value) s) (on_scripts (λ scripts. goes_on t call.next (stored t call.target value scripts)) s)
+    says (line_of_call t call (Answers value) s) (on_scripts (λ scripts. goes_on t call.next (stored t call.target value scripts)) s)
 
 -- the call has had the effect that its task waits; it is kept, to be tried again
 unfoldable pub waiting : ℕ → Call → State → Outcome
-waiting t call s = says (line_of t call Waits s) (on_scripts (keeps t call) s)
+waiting t call s = says (line_of_call t call Waits s) (on_scripts (keeps t call) s)
 
 -- a word that is no call of Exec: it answers, and prints nothing
 unfoldable pub silent : ℕ → Call → ℕ → State → Outcome

@@ -15,7 +15,7 @@ abbrev pub concluded : Option ℕ → ℕ → Call → State → Outcome
 concluded None t call s = done t call s
 concluded (Some value) t call s = answered t call value s
 
--- what a call does that is such a value
+-- a call of task t that is a deed: its alert, if it has one, or else what it makes of the heap, and its answer, both from the memory as it was
 unfoldable pub performs : Deed → ℕ → Call → State → Outcome
 performs deed t call s =
     unless (deed.alert s.memory) t call
@@ -28,17 +28,17 @@ abbrev pub changes : (Heap → Option Alert) → (Heap → Heap) → Deed
 changes alert next = record { alert = λ memory. alert memory.heap; heap = λ memory. next memory.heap; answer = λ memory. None }
 
 -- a value of the blocks is answered, and they change
-abbrev pub takes : (Heap → Option Alert) → (Heap → ℕ) → (Heap → Heap) → Deed
-takes alert value next =
+abbrev pub answers_and_changes : (Heap → Option Alert) → (Heap → ℕ) → (Heap → Heap) → Deed
+answers_and_changes alert value next =
     record { alert = λ memory. alert memory.heap; heap = λ memory. next memory.heap; answer = λ memory. Some (value memory.heap) }
 
 -- a value of the blocks is answered, and they stay as they are
 abbrev pub reads : (Heap → Option Alert) → (Heap → ℕ) → Deed
-reads alert value = takes alert value (λ heap. heap)
+reads alert value = answers_and_changes alert value (λ heap. heap)
 
 -- the block at an address is freed
-abbrev pub frees : (Heap → Option Alert) → ℕ → Deed
-frees alert address =
+abbrev pub frees_block : (Heap → Option Alert) → ℕ → Deed
+frees_block alert address =
     record { alert = λ memory. alert memory.heap; heap = λ memory. (freed address memory).heap; answer = λ memory. None }
 
 -- An object takes that many bytes if it has a place after libraries were asked, and its address is answered, or 0 if it has none.

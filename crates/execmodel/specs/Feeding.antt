@@ -8,7 +8,7 @@ use Rattle.signals.specs.Signals.{initial_sets}
 use Rattle.forbid.specs.Nesting.{initial_nesting}
 use Rattle.scheduler.specs.Schedule.{Schedule}
 use Rattle.softint.specs.declared.source.Source.{Source}
-use Rattle.execmodel.specs.State.{Call, Program, Scripts, State, Outcome, quiet, andthen, program_of, on_scripts, begun, booted}
+use Rattle.execmodel.specs.State.{Call, Program, Scripts, State, Outcome, quiet, andthen, program_of, on_scripts, new_program, booted}
 use Rattle.execmodel.specs.{Pending.next_softint, Calls.next_call, Calls.call_of, Bodies.runs_body, Step.step, Step.steps, Step.tick, Step.request, Step.starts, Step.event, Step.run}
 
 -- ---- a command is fed
@@ -53,7 +53,7 @@ joined_by pri name s = record s {
 abbrev pub with_new : TaskData → State → State
 with_new task s = record s {
   schedule = joined_by task.pri task.name s.schedule;
-  scripts = record s.scripts { programs = s.scripts.programs ++ begun task ∷ [] };
+  scripts = record s.scripts { programs = s.scripts.programs ++ new_program task ∷ [] };
   memory = record s.memory { tasks = suc s.memory.tasks };
 }
 

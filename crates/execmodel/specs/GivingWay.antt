@@ -2,14 +2,14 @@
 -- project rule). In version 1 of the rules they do not.
 use Rattle.std.specs.Prelude.{ℕ, Bool, not, ◌&&◌, if◌then◌else◌, nat_eq, is_some, length, List, [], ◌∷◌, Option, None, Some}
 use Rattle.std.specs.List.{range_with_len}
-use Rattle.execmodel.specs.{Blocks.Object, Blocks.Memory, Places.place_for, Objects.is_allowed, Loaded.base_of, Loaded.removed}
+use Rattle.execmodel.specs.{Blocks.Object, Blocks.Memory, Places.place_for, Objects.is_allowed, Loaded.base_of, Loaded.after_expunge}
 use Rattle.execlib.specs.Libraries.{public_memory}
 
 -- a library, if it is loaded, is expunged under low memory as if it were removed: it is freed if it is not open, and else is to be expunged when it is
 -- closed for the last time
 abbrev pub gives_way_at : Option ℕ → Memory → Memory
 gives_way_at None memory = memory
-gives_way_at (Some base) memory = removed base memory
+gives_way_at (Some base) memory = after_expunge base memory
 
 -- library i is expunged under low memory (autodocs AllocMem, RemLibrary)
 unfoldable pub gives_way : ℕ → Memory → Memory

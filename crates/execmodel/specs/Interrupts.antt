@@ -1,15 +1,14 @@
 -- How interrupts run (RKM Libraries, Exec Interrupts): software interrupts one a step, the servers of a source if it is served.
 use Rattle.std.specs.Prelude.{ℕ, ℤ, zero, suc, pos, false, if◌then◌else◌, List, [], ◌∷◌, Option, None, Some, length, map, filter, slice_index_or}
 use Rattle.std.specs.List.{range_with_len}
-use Rattle.exectrace.specs.Heard.{text_of_source}
+use Rattle.softint.specs.Sources.{source_text}
 use Rattle.exectrace.specs.Trace.{Serve, Server, Softint}
 use Rattle.execlist.specs.{Order.chosen, Order.without, Disciplines.pri_at}
 use Rattle.softint.specs.{Sources.is_source, declared.source.Source.Source}
 use Rattle.softint.specs.declared.source.Source.TheVariants as source
 use Rattle.script.specs.{File.SoftintData, File.ServerData}
-use Rattle.script.specs.declared.source.Source.TheVariants as named
-use Rattle.scheduler.specs.Schedule.{Schedule, ticked}
-use Rattle.execmodel.specs.{State.Bodies, State.State, State.Outcome, State.quiet, State.says, State.andthen, State.unless_stopped, State.on_schedule, State.on_pending, Pending.source_named, Pending.caused_no_more, Pending.with_latch_of, Pending.next_source, Bodies.runs_body, Requests.finishes_all_due}
+use Rattle.scheduler.specs.Schedule.{Schedule, quantum_ticked}
+use Rattle.execmodel.specs.{State.Bodies, State.State, State.Outcome, State.quiet, State.says, State.andthen, State.unless_stopped, State.on_schedule, State.on_pending, Pending.caused_no_more, Pending.with_latch_of, Pending.next_source, Bodies.runs_body, Requests.finishes_all_due}
 
 -- ---- software interrupts
 
@@ -32,7 +31,7 @@ runs_softint i s =
 
 -- the server that is read at a number that the file does not have
 abbrev pub no_server : ServerData
-no_server = record { name = []; source = named.Ports; pri = pos 0; claim = false; code = [] }
+no_server = record { name = []; source = source.Ports; pri = pos 0; claim = false; code = [] }
 
 -- a server of the file by its number from 0
 abbrev pub server_at : ℕ → Bodies → ServerData
@@ -43,9 +42,9 @@ abbrev pub server_pri : List ServerData → ℕ → ℤ
 server_pri servers k = pri_at (map (λ (s : ServerData). s.pri) servers) k
 
 -- the servers of a source, in the order of the file
-abbrev pub servers_of : Source → List ServerData → List ℕ
-servers_of asks servers =
-    filter (λ k. is_source (source_named (slice_index_or servers k no_server).source) asks) (range_with_len 0 (length servers))
+abbrev pub servers_for : Source → List ServerData → List ℕ
+servers_for asks servers =
+    filter (λ k. is_source (slice_index_or servers k no_server).source asks) (range_with_len 0 (length servers))
 
 -- the items as they are chosen one after another, each from those that are left: that many of them
 unfoldable pub by_choice : ℕ → (ℕ → ℤ) → List ℕ → List ℕ
@@ -55,7 +54,7 @@ by_choice (suc n) key left =
 
 -- the servers of a source as they run: by priority, and those of one priority in the order of the file (autodoc exec.library/AddIntServer)
 unfoldable pub chain_of : Source → List ServerData → List ℕ
-chain_of asks servers = by_choice (length servers) (server_pri servers) (servers_of asks servers)
+chain_of asks servers = by_choice (length servers) (server_pri servers) (servers_for asks servers)
 
 -- server k runs its whole body (RKM Libraries, Exec Interrupts: server chains)
 unfoldable pub runs_server : ℕ → State → Outcome
@@ -74,7 +73,7 @@ runs_chain (k ∷ others) s =
 -- for VERTB the quantum of the running task loses one serving (project rule)
 abbrev pub serving_counted : Source → Schedule → Schedule
 serving_counted source.Ports schedule = schedule
-serving_counted source.Vertb schedule = ticked schedule
+serving_counted source.Vertb schedule = quantum_ticked schedule
 serving_counted source.Exter schedule = schedule
 
 -- for VERTB all requests finish that are due (project rule)
@@ -87,7 +86,7 @@ finishes_for source.Exter s = quiet s
 -- servers run. (RKM Libraries, Exec Interrupts)
 unfoldable pub serves : Source → State → Outcome
 serves asks s =
-    andthen (says (Serve (text_of_source asks))) (andthen (finishes_for asks) (runs_chain (chain_of asks s.bodies.servers)))
+    andthen (says (Serve (source_text asks))) (andthen (finishes_for asks) (runs_chain (chain_of asks s.bodies.servers)))
     (on_schedule (serving_counted asks) (on_pending (with_latch_of asks false) s))
 
 -- that many servings: while interrupts are allowed and a source asks for it, the one of highest level is served (RKM Libraries, Exec

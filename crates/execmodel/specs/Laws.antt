@@ -2,7 +2,7 @@
 use Rattle.std.specs.Prelude.{◌≡◌, ◌≢◌, ◌⊎◌, ℕ, zero, suc, ◌*◌, ◌≤◌, ◌<◌, ◌≤ℤ◌, map, sum_by, length, Bool, true, false, nat_eq, bit_and, count_by, All, List, [], ◌∷◌, ◌++◌, Option, None, Some, is_some, slice_get, codes, option_map}
 use Rattle.exectrace.specs.Trace.{Argument, Value, Quoted, Switch, Serve, TraceLine, printed_line}
 use Rattle.script.specs.declared.word.libraries.LibraryWord.TheVariants.{CloseLibrary, RemLibrary}
-use Rattle.script.specs.{declared.word.row.Kind.Kind, Words.kinds, File.MachineData, Machines.IsMachine, declared.event.Event.Event, declared.word.Word.Word, declared.word.semaphores.SemaphoreWord.TheVariants.ReleaseSemaphore, declared.word.memory.MemoryWord.TheVariants.FreeMem, Events.ticks as event_ticks}
+use Rattle.script.specs.{declared.word.row.Kind.Kind, Words.kinds, File.MachineData, Machines.IsMachine, declared.event.Event.Event, declared.word.Word.Word, declared.word.semaphores.SemaphoreWord.TheVariants.ReleaseSemaphore, declared.word.memory.MemoryWord.TheVariants.FreeMem, Events.event_ticks}
 use Rattle.script.specs.declared.word.row.Kind.TheVariants as kind
 use Rattle.memlist.specs.{declared.region.Region.Region, Pieces.AreDisjoint, Pieces.IsTiled}
 use Rattle.execlist.specs.{Order.chosen, Disciplines.pri_at, Lists.times}
@@ -15,7 +15,7 @@ use Rattle.script.specs.declared.word.task_signals.SignalWord.TheVariants as sig
 use Rattle.script.specs.declared.word.ports.PortWord.TheVariants as ports
 use Rattle.script.specs.declared.word.requests.RequestWord.TheVariants as requests
 use Rattle.execmodel.specs.State.{Call, Scripts, Object, Plain, Block, Heap, Memory, Waiting as Queued, Mark, State, Outcome, on_schedule, on_memory, on_pending, on_timer, booted}
-use Rattle.execmodel.specs.{Calls.argument, Calls.alerted, Calls.next_call, Calls.call_in_body, Keeping.without_blocks, GivingWay.gives_way, GivingWay.after_asking, GivingWay.after_asking_for_object, Libraries.is_library_at, Libraries.number_of, Libraries.count_of, Libraries.is_delayed, Libraries.ready_to_open, Memory.block_at, Memory.extents, Memory.place_for, Memory.does_memory, Objects.object_at, Ports.is_port_at, Ports.messages_of, Ports.after_asking_for_port, Requests.request_of, Semaphores.sem_of, Semaphores.waiters_of, Pending.allows_interrupts, Pending.next_softint, Pending.with_latch_of, Interrupts.interrupts, Interrupts.runs_softint, Interrupts.softint_at, Interrupts.server_at, Step.does, Step.ends, Step.acts, Step.step, Step.tick, Step.request, Step.settle, Step.switches, Step.all_added, Step.starts, Step.events, Step.run, Agreement.Agrees, Agreement.once_if, Queues.IsInOrder, Marks.turns_at_port, Marks.turns_at_semaphore}
+use Rattle.execmodel.specs.{Calls.argument, Calls.alerted, Calls.next_call, Calls.call_in_body, Keeping.without_blocks, GivingWay.gives_way, GivingWay.after_asking, GivingWay.after_asking_for_object, Libraries.is_library_at, Libraries.library_number_at, Libraries.count_of, Libraries.is_delayed, Libraries.ready_to_open, Memory.block_at, Memory.extents, Memory.place_for, Memory.does_memory, Objects.object_at, Ports.is_port_at, Ports.messages_of, Ports.after_asking_for_port, Requests.request_of, Semaphores.sem_of, Semaphores.waiters_of, Pending.allows_interrupts, Pending.next_softint, Pending.with_latch_of, Interrupts.interrupts, Interrupts.runs_softint, Interrupts.softint_at, Interrupts.server_at, Step.does, Step.ends, Step.acts, Step.step, Step.tick, Step.request, Step.settle, Step.switches, Step.all_added, Step.starts, Step.events, Step.run, Agreement.Agrees, Agreement.once_if, Queues.IsInOrder, Marks.turns_at_port, Marks.turns_at_semaphore}
 use Rattle.iorequest.specs.Request.{is_under_way, sets_time, time_of}
 use Rattle.timerdev.specs.Timing.{offset, ticked}
 use Rattle.script.specs.declared.alert.Alert.TheVariants as an_alert
@@ -289,7 +289,7 @@ pub record IsRemoval (base : ℕ) (s : State) : Type 0 where
 -- the same library lies at a base in both heaps, in a block of the same size
 pub record StaysLoaded (base : ℕ) (old new : Heap) : Type 0 where
   pub loaded : is_library_at base new ≡ true
-  pub number : number_of base new ≡ number_of base old
+  pub number : library_number_at base new ≡ library_number_at base old
   pub block : option_map (λ (b : Block). b.size) (block_at base new) ≡ option_map (λ (b : Block). b.size) (block_at base old)
 
 -- A library that is open keeps its base and its block, unless this step closes it for the last time and it is to be expunged then.
@@ -303,7 +303,7 @@ OpenLibrariesStay =
 abbrev pub LibrariesHaveOneBase : Type 0
 LibrariesHaveOneBase =
     (a b : ℕ) → InEveryState (λ s.
-    is_library_at a s.memory.heap ≡ true → is_library_at b s.memory.heap ≡ true → number_of a s.memory.heap ≡ number_of b s.memory.heap → a ≡ b)
+    is_library_at a s.memory.heap ≡ true → is_library_at b s.memory.heap ≡ true → library_number_at a s.memory.heap ≡ library_number_at b s.memory.heap → a ≡ b)
 
 -- ---- versions of the rules
 
@@ -311,14 +311,6 @@ LibrariesHaveOneBase =
 abbrev pub LibrariesAreAskedInVersionTwo : Type 0
 LibrariesAreAskedInVersionTwo =
     (machine : MachineData) (list : List Event) → IsMachine machine → (run machine list).state.memory.asks ≡ nat_eq machine.version 2
-
--- Where libraries are not asked, a loaded library keeps its base and its block, open or not, whatever word takes memory: only the running task
--- expunges it, by removing it while it is not open, or by closing it for the last time.
-abbrev pub UnaskedLibrariesStay : Type 0
-UnaskedLibrariesStay =
-    (base : ℕ) → OfEveryAction (λ action s o.
-    s.memory.asks ≡ false → is_library_at base s.memory.heap ≡ true
-    → StaysLoaded base s.memory.heap o.state.memory.heap ⊎ ((action ≡ OneStep) × (IsRemoval base s ⊎ IsLastClose base s)))
 
 -- Memory is taken as it is where libraries are not asked: what asks them before a block, an object, a port or a library is taken changes nothing.
 pub record UnaskedMemoryStays : Type 0 where

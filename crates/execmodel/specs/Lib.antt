@@ -27,4 +27,6 @@ pub mod Queues
 pub mod Marks
 pub mod Agreement
 pub mod Laws
+pub mod VersionOne
+pub mod OtherBlocks
 pub mod Feeding

@@ -8,7 +8,7 @@ use Rattle.execmodel.specs.{State.Call, State.Library, State.Heap, State.Memory,
 use Rattle.execlib.specs.Libraries.{public_memory, most_openings, only_if}
 use Rattle.script.specs.declared.alert.Alert.TheVariants as an_alert
 use Rattle.script.specs.declared.alert.Alert.{Alert}
-unfoldable pub use Rattle.execmodel.specs.Loaded.{is_library, is_library_at, library_number, count_in, delayed_in, number_of, count_of, is_delayed, with_library, is_numbered, base_of, removed}
+unfoldable pub use Rattle.execmodel.specs.Loaded.{is_library, is_library_at, library_number, count_in, delayed_in, library_number_at, count_of, is_delayed, with_library, is_numbered, base_of, after_expunge}
 
 -- ---- refusals
 
@@ -121,7 +121,7 @@ does_close_library t call s =
 unfoldable pub does_rem_library : ℕ → Call → State → Outcome
 does_rem_library t call s =
     let base = argument 0 call in
-    unless (library_alert base s.memory.heap) t call (λ s. done t call (on_memory (removed base) s)) s
+    unless (library_alert base s.memory.heap) t call (λ s. done t call (on_memory (after_expunge base) s)) s
 
 -- LibOpenCnt base: answers how often the library is open (RKM Libraries, Exec Libraries: lib_OpenCnt; that there is a call for it: project rule)
 unfoldable pub does_lib_open_cnt : ℕ → Call → State → Outcome
@@ -140,5 +140,5 @@ does_libraries word.LibOpenCnt t call s = does_lib_open_cnt t call s
 
 -- the rules of this group, where all of them are to unfold
 unfoldable pub library_rules : ⊤
-unfolding base_of close_alert closed count_of does_close_library does_lib_open_cnt does_open_library does_rem_library is_delayed is_library_at library_alert number_of opened opening ready_to_open removed with_library
+unfolding base_of close_alert closed count_of does_close_library does_lib_open_cnt does_open_library does_rem_library is_delayed is_library_at library_alert library_number_at opened opening ready_to_open after_expunge with_library
 library_rules = tt

@@ -3,10 +3,10 @@
 -- be, or the other way, is the alert LINK (project rule).
 use Rattle.std.specs.Prelude.{ℕ, zero, suc, ℤ, Bool, true, false, not, ◌-◌, ◌==◌, if◌then◌else◌, nat_eq, is_some, length, map, take, drop, find, unwrap_or, codes, List, [], ◌∷◌, ◌++◌, Option, None, Some, ⊤}
 use Rattle.std.specs.{List.list_any, Int.cast_signed, Int.w32}
-use Rattle.execlist.specs.{Order.enqueue, Order.first, Order.without, Lists.Key, Lists.blank, Lists.last, Lists.name_is, Lists.part_after, Lists.part_before, Lists.put_after}
+use Rattle.execlist.specs.{Order.enqueue, Order.first, Order.without, Lists.KeyData, Lists.blank, Lists.last, Lists.name_is, Lists.part_after, Lists.part_before, Lists.put_after}
 use Rattle.script.specs.declared.word.lists.ListWord.{ListWord}
 use Rattle.script.specs.declared.word.lists.ListWord.TheVariants as word
-use Rattle.execmodel.specs.{State.Call, State.Object, State.ListHead, State.Node, State.Block, State.Heap, State.State, State.Outcome, Calls.argument, Calls.name_argument, Deeds.Deed, Deeds.performs, Deeds.changes, Deeds.takes, Deeds.reads, Deeds.frees, Deeds.makes, Objects.object_at, Objects.is_kind, Tasks.is_priority}
+use Rattle.execmodel.specs.{State.Call, State.Object, State.ListHead, State.Node, State.Block, State.Heap, State.State, State.Outcome, Calls.argument, Calls.name_argument, Deeds.Deed, Deeds.performs, Deeds.changes, Deeds.answers_and_changes, Deeds.reads, Deeds.frees_block, Deeds.makes, Objects.object_at, Objects.is_kind, Tasks.is_priority}
 use Rattle.script.specs.declared.alert.Alert.TheVariants as an_alert
 use Rattle.script.specs.declared.alert.Alert.{Alert}
 
@@ -45,17 +45,17 @@ unfoldable pub nodes_of : ℕ → Heap → List ℕ
 nodes_of list heap = nodes_of_object (object_at list heap)
 
 -- the priority and the name of a node, those of a blank one for another object
-abbrev pub key_in : Object → Key
+abbrev pub key_in : Object → KeyData
 key_in (Node key) = key
 key_in _ = blank
 
 -- the priority and the name of what begins at an address
-abbrev pub key_of_object : Option Object → Key
+abbrev pub key_of_object : Option Object → KeyData
 key_of_object None = blank
 key_of_object (Some object) = key_in object
 
 -- the priority and the name of the node that begins at an address
-unfoldable pub key_of : ℕ → Heap → Key
+unfoldable pub key_of : ℕ → Heap → KeyData
 key_of node heap = key_of_object (object_at node heap)
 
 -- a node is in a sequence
@@ -233,13 +233,13 @@ unfoldable pub list_deed : ListWord → Call → Deed
 -- NewList: answers the address of a new empty list, or 0 (autodoc amiga.lib/NewList; that it takes the memory: project rule)
 list_deed word.NewList call = makes None is_list list_size (ListHead [])
 -- FreeList list: an empty list is freed (project rule)
-list_deed word.FreeList call = frees (free_list_alert (argument 0 call)) (argument 0 call)
+list_deed word.FreeList call = frees_block (free_list_alert (argument 0 call)) (argument 0 call)
 -- NewNode pri name: answers the address of a new node that is not linked, or 0; the priority is read as a signed word (project rule)
 list_deed word.NewNode call =
     let pri = cast_signed w32 (argument 0 call) in
     makes (new_node_alert pri) is_node node_size (Node (record { pri = pri; name = name_argument 1 call }))
 -- FreeNode node: a node that is not linked is freed (project rule)
-list_deed word.FreeNode call = frees (free_node_alert (argument 0 call)) (argument 0 call)
+list_deed word.FreeNode call = frees_block (free_node_alert (argument 0 call)) (argument 0 call)
 -- AddHead list node: the node is put first (autodoc exec.library/AddHead)
 list_deed word.AddHead call = changes (link_alert (argument 0 call) (argument 1 call)) (added_head (argument 0 call) (argument 1 call))
 -- AddTail list node: the node is put last (autodoc exec.library/AddTail)
@@ -252,9 +252,9 @@ list_deed word.Insert call =
 -- Remove node: the node leaves the list that has it (autodoc exec.library/Remove)
 list_deed word.Remove call = changes (linked_alert (argument 0 call)) (unlinked (argument 0 call))
 -- RemHead list: answers the first node, which leaves the list, or 0 for an empty one (autodoc exec.library/RemHead)
-list_deed word.RemHead call = takes (list_alert (argument 0 call)) (first_of (argument 0 call)) (removed_head (argument 0 call))
+list_deed word.RemHead call = answers_and_changes (list_alert (argument 0 call)) (first_of (argument 0 call)) (removed_head (argument 0 call))
 -- RemTail list: answers the last node, which leaves the list, or 0 for an empty one (autodoc exec.library/RemTail)
-list_deed word.RemTail call = takes (list_alert (argument 0 call)) (last_of (argument 0 call)) (removed_tail (argument 0 call))
+list_deed word.RemTail call = answers_and_changes (list_alert (argument 0 call)) (last_of (argument 0 call)) (removed_tail (argument 0 call))
 -- First list: answers the first node, or 0 for an empty list (RKM Libraries, Exec Lists and Queues: scanning a list)
 list_deed word.First call = reads (list_alert (argument 0 call)) (first_of (argument 0 call))
 -- Last list: answers the last node, or 0 for an empty list (RKM Libraries, Exec Lists and Queues: scanning a list)

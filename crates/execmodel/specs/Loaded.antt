@@ -28,8 +28,8 @@ delayed_in (Library number count delayed) = delayed
 delayed_in _ = false
 
 -- the number of the library that begins at an address
-unfoldable pub number_of : ℕ → Heap → ℕ
-number_of base heap = option_map_or library_number (object_at base heap) 0
+unfoldable pub library_number_at : ℕ → Heap → ℕ
+library_number_at base heap = option_map_or library_number (object_at base heap) 0
 
 -- how often the library that begins at an address is open (RKM Libraries, Exec Libraries: lib_OpenCnt)
 unfoldable pub count_of : ℕ → Heap → ℕ
@@ -41,7 +41,7 @@ is_delayed base heap = option_map_or delayed_in (object_at base heap) false
 
 -- the library at a base is open so often, and is to be expunged or not
 unfoldable pub with_library : ℕ → ℕ → Bool → Heap → Heap
-with_library base count delayed heap = map (replaced base (Library (number_of base heap) count delayed)) heap
+with_library base count delayed heap = map (replaced base (Library (library_number_at base heap) count delayed)) heap
 
 -- an object is library i
 abbrev pub is_numbered : ℕ → Object → Bool
@@ -54,7 +54,7 @@ base_of i heap =
     option_map (λ (entry : ℕ × Block). entry.0) (find (λ (entry : ℕ × Block). is_numbered i entry.1.object) heap)
 
 -- a library that is not open is freed; an open one is to be expunged when it is closed for the last time
-unfoldable pub removed : ℕ → Memory → Memory
-removed base memory =
+unfoldable pub after_expunge : ℕ → Memory → Memory
+after_expunge base memory =
     if nat_eq (count_of base memory.heap) 0 then freed base memory
     else on_heap (with_library base (count_of base memory.heap) true) memory

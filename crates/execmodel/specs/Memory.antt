@@ -3,7 +3,7 @@ use Rattle.std.specs.Prelude.{ℕ, Bool, true, false, not, ◌&&◌, if◌then�
 use Rattle.memlist.specs.Fit.{avail, asks, round}
 use Rattle.script.specs.declared.word.memory.MemoryWord.{MemoryWord}
 use Rattle.script.specs.declared.word.memory.MemoryWord.TheVariants as word
-use Rattle.execmodel.specs.{State.Call, State.Object, State.Plain, State.Block, State.Heap, State.State, State.Outcome, State.on_memory, Calls.argument, Calls.answered, Deeds.Deed, Deeds.performs, Deeds.allots, Deeds.frees, Objects.place_for_object, GivingWay.after_asking}
+use Rattle.execmodel.specs.{State.Call, State.Object, State.Plain, State.Block, State.Heap, State.State, State.Outcome, State.on_memory, Calls.argument, Calls.answered, Deeds.Deed, Deeds.performs, Deeds.allots, Deeds.frees_block, Objects.place_for_object, GivingWay.after_asking}
 pub use Rattle.execmodel.specs.Places.{block_at, extents, place_for, placed, freed}
 use Rattle.script.specs.declared.alert.Alert.TheVariants as an_alert
 use Rattle.script.specs.declared.alert.Alert.{Alert}
@@ -19,12 +19,12 @@ abbrev pub alloc_bits : ℕ
 alloc_bits = 0x10007
 
 -- a call that takes memory answers the address that it got, or 0
-abbrev pub allocates : ℕ → Call → ℕ → Object → Option ℕ → State → Outcome
-allocates t call size object place s = answered t call (unwrap_or place 0) (on_memory (placed size object place) s)
+abbrev pub allocates_block : ℕ → Call → ℕ → Object → Option ℕ → State → Outcome
+allocates_block t call size object place s = answered t call (unwrap_or place 0) (on_memory (placed size object place) s)
 
 -- a call makes an object of a kind, which takes that many bytes, if the pool allows one more and it fits
 abbrev pub makes_object : ℕ → Call → (Object → Bool) → ℕ → Object → State → Outcome
-makes_object t call kind size object s = allocates t call size object (place_for_object kind size s.memory) s
+makes_object t call kind size object s = allocates_block t call size object (place_for_object kind size s.memory) s
 
 -- the alert of AllocMem: it knows no other requirements
 abbrev pub alloc_alert : ℕ → Option Alert
@@ -73,7 +73,7 @@ memory_deed word.AllocMem call =
     allots (alloc_alert reqs) (after_asking size reqs) (place_for size reqs) size Plain
 -- FreeMem addr size: a plain block that begins at the address, and is of that size rounded up, is freed (autodoc exec.library/FreeMem;
 -- the alert: project rule)
-memory_deed word.FreeMem call = frees (free_alert (argument 0 call) (argument 1 call)) (argument 0 call)
+memory_deed word.FreeMem call = frees_block (free_alert (argument 0 call) (argument 1 call)) (argument 0 call)
 -- AvailMem reqs: answers the bytes that are free in the suitable regions, or with MEMF_LARGEST their greatest gap, or with MEMF_TOTAL
 -- their installed size (autodoc exec.library/AvailMem; the alert: project rule)
 memory_deed word.AvailMem call = record {

@@ -5,9 +5,7 @@ use Rattle.std.specs.Prelude.{ℕ, ℤ, Bool, not, ◌&&◌, ◌==◌, if◌then
 use Rattle.std.specs.List.{list_any, position_or_len}
 use Rattle.execlist.specs.{Order.without, Disciplines.Discipline, Disciplines.by_arrival, Disciplines.pri_at}
 use Rattle.softint.specs.{Sources.with_latch, Sources.highest, declared.source.Source.Source}
-use Rattle.softint.specs.declared.source.Source.TheVariants as source
-use Rattle.script.specs.{declared.source.Source.Source as Named, File.SoftintData}
-use Rattle.script.specs.declared.source.Source.TheVariants as named
+use Rattle.script.specs.File.{SoftintData}
 use Rattle.scheduler.specs.Schedule.{Schedule, is_interrupting_allowed}
 use Rattle.execmodel.specs.State.{Pending, State, on_pending}
 
@@ -56,12 +54,6 @@ unfoldable pub next_softint : State → Option ℕ
 next_softint s = softint_next by_arrival s.bodies.softints s.schedule s.pending
 
 -- ---- sources
-
--- the source of a name of the texts (RKM Libraries, Exec Interrupts)
-abbrev pub source_named : Named → Source
-source_named named.Ports = source.Ports
-source_named named.Vertb = source.Vertb
-source_named named.Exter = source.Exter
 
 -- a source asks to be served, or does so no more
 abbrev pub with_latch_of : Source → Bool → Pending → Pending

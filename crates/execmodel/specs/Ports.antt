@@ -8,7 +8,7 @@ use Rattle.execlist.specs.{Order.chosen, Order.first, Lists.name_is, Disciplines
 use Rattle.signals.specs.Signals.{grant}
 use Rattle.scheduler.specs.{Schedule.Schedule, Schedule.signals_of, Schedule.allocates, Schedule.clears_and_waits, Schedule.frees, Schedule.sets_signals, Dispatch.signalled}
 use Rattle.msgport.specs.declared.action.PortAction.TheVariants.{Signal, Cause, Ignore}
-use Rattle.msgport.specs.{declared.action.Action.Action, declared.action.PortAction.PortAction, declared.message.Message.Message as Content, Port.Port, Port.acting, Port.new_port, Port.wait_bit, Ports.new_message, Ports.nt_freemsg, Ports.nt_message, Ports.nt_replymsg}
+use Rattle.msgport.specs.{declared.action.Action.Action, declared.action.PortAction.PortAction, declared.message.Message.Message as Content, Port.Port, Port.arrival_action, Port.new_port, Port.wait_bit, Ports.new_message, Ports.nt_freemsg, Ports.nt_message, Ports.nt_replymsg}
 use Rattle.msgport.specs.declared.action.Action.TheVariants as action
 use Rattle.iorequest.specs.Request.{is_under_way}
 use Rattle.script.specs.declared.word.ports.PortWord.{PortWord}
@@ -301,15 +301,15 @@ does_msg_word t call s =
     unless (message_alert message s.memory.heap) t call (λ s. answered t call (content_of message s.memory.heap).word s) s
 
 -- a message has that word
-unfoldable pub with_word : ℕ → ℕ → Heap → Heap
-with_word message value heap = with_content message (record (content_of message heap) { word = value }) heap
+unfoldable pub with_message_word : ℕ → ℕ → Heap → Heap
+with_message_word message value heap = with_content message (record (content_of message heap) { word = value }) heap
 
 -- SetMsgWord message word: the message gets another word (project rule)
 unfoldable pub does_set_msg_word : ℕ → Call → State → Outcome
 does_set_msg_word t call s =
     let message = argument 0 call in
     unless (message_alert message s.memory.heap) t call
-    (λ s. done t call (on_memory (on_heap (with_word message (argument 1 call))) s)) s
+    (λ s. done t call (on_memory (on_heap (with_message_word message (argument 1 call))) s)) s
 
 -- MsgType message: answers its type, 0 for a new one (RKM Libraries, Exec Messages and Ports: ln_Type; that a new one has type 0, and that
 -- there is a call for it: project rule)
@@ -341,7 +341,7 @@ performed action.Nothing s = s
 -- a message is put at a port as one of that type, and the port acts (autodocs PutMsg and ReplyMsg)
 unfoldable pub delivered : ℕ → ℕ → ℕ → State → State
 delivered kind port message s =
-    performed (acting (port_of port s.memory.heap)) (on_memory (on_heap (posted kind port message)) s)
+    performed (arrival_action (port_of port s.memory.heap)) (on_memory (on_heap (posted kind port message)) s)
 
 -- the alert of PutMsg: the message must be in no port
 unfoldable pub put_alert : ℕ → ℕ → Heap → Option Alert
@@ -461,5 +461,5 @@ does_ports word.ReplyMsg t call s = does_reply_msg t call s
 
 -- the rules of this group, where all of them are to unfold
 unfoldable pub port_rules : ⊤
-unfolding add_port_alert appended content_of delete_alert delivered does_add_port does_create_msg_port does_delete_msg_port does_find_port does_free_msg does_get_msg does_msg_type does_msg_word does_new_msg does_port_cause does_port_ignore does_port_signal does_put_msg does_rem_port does_reply_msg does_set_msg_word does_wait_port found_port is_awaited_at is_message_at is_port_at is_queued loose_alert made_private made_public message_alert messages_of port_alert port_of posted put_alert rem_port_alert reply_alert reply_port_alert taken_off typed wait_alert with_action with_content with_port with_word
+unfolding add_port_alert appended content_of delete_alert delivered does_add_port does_create_msg_port does_delete_msg_port does_find_port does_free_msg does_get_msg does_msg_type does_msg_word does_new_msg does_port_cause does_port_ignore does_port_signal does_put_msg does_rem_port does_reply_msg does_set_msg_word does_wait_port found_port is_awaited_at is_message_at is_port_at is_queued loose_alert made_private made_public message_alert messages_of port_alert port_of posted put_alert rem_port_alert reply_alert reply_port_alert taken_off typed wait_alert with_action with_content with_port with_message_word
 port_rules = tt

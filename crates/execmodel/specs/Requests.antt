@@ -6,7 +6,7 @@ use Rattle.std.specs.Prelude.{ℕ, zero, suc, ℤ, pos, negsuc, ◌^◌, Bool, t
 use Rattle.std.specs.Int.{cast_unsigned, w32}
 use Rattle.exectrace.specs.Trace.{Timer}
 use Rattle.execlist.specs.Order.{without}
-use Rattle.msgport.specs.{declared.action.Action.Action, Port.acting}
+use Rattle.msgport.specs.{declared.action.Action.Action, Port.arrival_action}
 use Rattle.msgport.specs.declared.action.Action.TheVariants as action
 use Rattle.scheduler.specs.Schedule.{clears_and_waits}
 use Rattle.iorequest.specs.declared.request.ReqState.TheVariants.{Idle, UnderWay, Quick, Replied}
@@ -128,7 +128,7 @@ finished_at error request heap =
 -- what is to be done if a reply arrives at a port, if there is one
 abbrev pub acting_at : Option ℕ → Heap → Action
 acting_at None heap = action.Nothing
-acting_at (Some port) heap = acting (port_of port heap)
+acting_at (Some port) heap = arrival_action (port_of port heap)
 
 -- the mark of a reply that is put at a port, if there is one
 abbrev pub with_reply : Option ℕ → ℕ → Outcome → Outcome

@@ -1,6 +1,7 @@
 -- Small machines and their whole traces, as the definitions compute them: a few, one for the chief rule of each group of words.
 use Rattle.std.specs.Prelude.{◌≡◌, ℕ, ℤ, true, false, pos, negsuc, List, [], ◌∷◌, None, Some, codes}
 use Rattle.exectrace.specs.Trace.{printed}
+use Rattle.softint.specs.declared.source.Source.{Source}
 use Rattle.script.specs.declared.word.Word.TheVariants.{Plain, Signals, Nesting, Tasks, Memory, Lists, Ports, Semaphores, Interrupts, Libraries, Requests}
 use Rattle.script.specs.declared.word.plain.PlainWord.TheVariants.{Set, Add, Sub, And, JumpZ, Print}
 use Rattle.script.specs.declared.word.task_signals.SignalWord.TheVariants.{Signal, Wait, SetSignal}
@@ -14,8 +15,8 @@ use Rattle.script.specs.declared.word.memory.MemoryWord.TheVariants.{AllocMem, A
 use Rattle.script.specs.declared.word.lists.ListWord.TheVariants.{NewList, FreeList, NewNode, AddHead, Enqueue, First, Last, Succ}
 use Rattle.script.specs.declared.word.ports.PortWord.TheVariants.{CreateMsgPort, DeleteMsgPort, AddPort, RemPort, FindPort, PortCause, NewMsg, MsgType, PutMsg, GetMsg, WaitPort, ReplyMsg, FreeMsg}
 use Rattle.script.specs.declared.word.semaphores.SemaphoreWord.TheVariants.{NewSem, FreeSem, ObtainSemaphore, AttemptSemaphore, ReleaseSemaphore}
-use Rattle.script.specs.{declared.word.Word.Word, declared.event.Event.Event, Commands.ArgumentData, Commands.number, Commands.variable, Commands.place, Commands.CommandData, Commands.quoted, File.MachineData, File.SoftintData, File.ServerData, File.TaskData, declared.source.Source.Source, declared.word.interrupts.InterruptWord.TheVariants.Cause, declared.word.requests.RequestWord.RequestWord, declared.word.libraries.LibraryWord.LibraryWord, declared.word.semaphores.SemaphoreWord.SemaphoreWord}
-use Rattle.script.specs.declared.source.Source.TheVariants as source
+use Rattle.script.specs.{declared.word.Word.Word, declared.event.Event.Event, Commands.ArgumentData, Commands.number, Commands.variable, Commands.place, Commands.CommandData, Commands.quoted, File.MachineData, File.SoftintData, File.ServerData, File.TaskData, declared.word.interrupts.InterruptWord.TheVariants.Cause, declared.word.requests.RequestWord.RequestWord, declared.word.libraries.LibraryWord.LibraryWord, declared.word.semaphores.SemaphoreWord.SemaphoreWord}
+use Rattle.softint.specs.declared.source.Source.TheVariants as source
 use Rattle.memlist.specs.declared.region.Region.{Region}
 use Rattle.execmodel.specs.{Step.run, State.Mark, State.put, State.got, State.out, State.asked, State.passed, State.left}
 
@@ -74,8 +75,8 @@ abbrev pub marks : MachineData → List Event → List Mark
 marks machine list = (run machine list).marks
 
 -- a new semaphore, whose address goes into the first shared variable
-abbrev pub makes : CommandData
-makes = into_shared 0 (Semaphores NewSem) []
+abbrev pub makes_semaphore : CommandData
+makes_semaphore = into_shared 0 (Semaphores NewSem) []
 
 -- a word with the semaphore whose address is in the first shared variable
 abbrev pub its : SemaphoreWord → CommandData
@@ -276,7 +277,7 @@ replies_to_a_public_port =
 -- the first task has to release the semaphore twice, and the others wait for it
 abbrev pub hands_on : List TaskData
 hands_on = three_equals
-    (makes
+    (makes_semaphore
     ∷ its ObtainSemaphore
     ∷ its ObtainSemaphore
     ∷ steps_back
@@ -289,13 +290,13 @@ hands_on = three_equals
 -- the first of those that wait is removed
 abbrev pub removes_a_waiter : List TaskData
 removes_a_waiter = three_equals
-    (makes ∷ its AttemptSemaphore ∷ steps_back ∷ command (Tasks RemTask) (number 2 ∷ []) ∷ its ReleaseSemaphore ∷ [])
+    (makes_semaphore ∷ its AttemptSemaphore ∷ steps_back ∷ command (Tasks RemTask) (number 2 ∷ []) ∷ its ReleaseSemaphore ∷ [])
     (its ObtainSemaphore ∷ [])
     (its AttemptSemaphore ∷ its ObtainSemaphore ∷ its FreeSem ∷ [])
 
 -- no task waits for the semaphore that is released
 abbrev pub releases_to_nobody : List CommandData
-releases_to_nobody = makes ∷ its ObtainSemaphore ∷ its ReleaseSemaphore ∷ its FreeSem ∷ []
+releases_to_nobody = makes_semaphore ∷ its ObtainSemaphore ∷ its ReleaseSemaphore ∷ its FreeSem ∷ []
 
 -- a software interrupt is caused under Forbid, and again under Disable
 abbrev pub holds_interrupts_back : List CommandData
@@ -505,14 +506,14 @@ abbrev pub MarksTellWhatASoftintTook : Type 0
 MarksTellWhatASoftintTook = marks takes_messages (Run 6 ∷ []) ≡ put 4096 4136 ∷ got 4096 4136 ∷ []
 
 -- one library, and as much memory as it takes
-abbrev pub with_library : List CommandData → MachineData
-with_library code =
+abbrev pub with_one_library : List CommandData → MachineData
+with_one_library code =
     record bare { regions = room 104; libraries = record { name = codes "x.library"; version = 37; size = 100 } ∷ []; tasks = alone code }
 
 abbrev pub ARemovedLibraryGoesAtItsLastClose : Type 0
 ARemovedLibraryGoesAtItsLastClose =
     trace
-    (with_library
+    (with_one_library
     (opens 38 ∷ opens 37 ∷ its_library RemLibrary ∷ asks_for_room ∷ its_library CloseLibrary ∷ asks_for_room ∷ its_library CloseLibrary ∷ []))
     (Run 7 ∷ [])
     ≡ codes "switch a\na OpenLibrary \"x.library\" $00000026 -> $00000000\na OpenLibrary \"x.library\" $00000025 -> $00001000\na RemLibrary $00001000\na AvailMem $00000001 -> $00000000\na CloseLibrary $00001000\na AvailMem $00000001 -> $00000068\nalert HANDLE a CloseLibrary\n"
@@ -520,7 +521,7 @@ ARemovedLibraryGoesAtItsLastClose =
 abbrev pub AnOpeningTakesARemovalBack : Type 0
 AnOpeningTakesARemovalBack =
     trace
-    (with_library
+    (with_one_library
     (opens 0 ∷ its_library RemLibrary ∷ opens 0 ∷ its_library CloseLibrary ∷ its_library CloseLibrary ∷ its_library LibOpenCnt
     ∷ its_library CloseLibrary ∷ []))
     (Run 7 ∷ [])
@@ -548,13 +549,13 @@ abbrev pub of_library : ℕ → LibraryWord → CommandData
 of_library k word = command (Libraries word) (variable (Private k) ∷ [])
 
 -- that many bytes of public memory
-abbrev pub takes : ℕ → CommandData
-takes size = command (Memory AllocMem) (number size ∷ number 1 ∷ [])
+abbrev pub takes_memory : ℕ → CommandData
+takes_memory size = command (Memory AllocMem) (number size ∷ number 1 ∷ [])
 
 -- x is open and y is not, when there is not enough memory
 abbrev pub lacks_memory_once : List CommandData
 lacks_memory_once =
-    opens_into 0 (codes "x") ∷ opens_into 1 (codes "y") ∷ of_library 1 CloseLibrary ∷ takes 48 ∷ of_library 0 LibOpenCnt
+    opens_into 0 (codes "x") ∷ opens_into 1 (codes "y") ∷ of_library 1 CloseLibrary ∷ takes_memory 48 ∷ of_library 0 LibOpenCnt
     ∷ of_library 0 CloseLibrary ∷ asks_for_room ∷ of_library 0 LibOpenCnt ∷ []
 
 abbrev pub LibrariesGiveWay : Type 0
@@ -567,7 +568,7 @@ NoLibraryGivesWayInVersionOne = trace (with_two_libraries 64 lacks_memory_once) 
 
 -- more is asked for than there can be while x is open
 abbrev pub lacks_memory_in_vain : List CommandData
-lacks_memory_in_vain = opens_into 0 (codes "x") ∷ takes 64 ∷ of_library 0 CloseLibrary ∷ asks_for_room ∷ []
+lacks_memory_in_vain = opens_into 0 (codes "x") ∷ takes_memory 64 ∷ of_library 0 CloseLibrary ∷ asks_for_room ∷ []
 
 abbrev pub WhatWasMarkedInVainStaysSo : Type 0
 WhatWasMarkedInVainStaysSo = trace (in_version_two (with_two_libraries 64 lacks_memory_in_vain)) (Run 4 ∷ [])
@@ -582,7 +583,7 @@ abbrev pub TheFirstFitEndsTheAsking : Type 0
 TheFirstFitEndsTheAsking =
     trace
     (in_version_two (with_two_libraries 32
-    (opens_into 0 (codes "y") ∷ opens_into 1 (codes "x") ∷ of_library 0 CloseLibrary ∷ of_library 1 CloseLibrary ∷ takes 16 ∷ asks_for_room ∷ [])))
+    (opens_into 0 (codes "y") ∷ opens_into 1 (codes "x") ∷ of_library 0 CloseLibrary ∷ of_library 1 CloseLibrary ∷ takes_memory 16 ∷ asks_for_room ∷ [])))
     (Run 6 ∷ [])
     ≡ codes "switch a\na OpenLibrary \"y\" $00000000 -> $00001000\na OpenLibrary \"x\" $00000000 -> $00001010\na CloseLibrary $00001000\na CloseLibrary $00001010\na AllocMem $00000010 $00000001 -> $00001010\na AvailMem $00000001 -> $00000000\n"
 
@@ -591,7 +592,7 @@ abbrev pub NothingIsAskedForWhatIsNeverTaken : Type 0
 NothingIsAskedForWhatIsNeverTaken =
     trace
     (record (in_version_two (with_two_libraries 32
-    (opens_into 0 (codes "x") ∷ of_library 0 CloseLibrary ∷ command (Lists NewList) [] ∷ command (Lists NewList) [] ∷ takes 0 ∷ asks_for_room
+    (opens_into 0 (codes "x") ∷ of_library 0 CloseLibrary ∷ command (Lists NewList) [] ∷ command (Lists NewList) [] ∷ takes_memory 0 ∷ asks_for_room
     ∷ command (Lists NewNode) (number 0 ∷ number 0 ∷ []) ∷ []))) { pool = 1 })
     (Run 7 ∷ [])
     ≡ codes "switch a\na OpenLibrary \"x\" $00000000 -> $00001000\na CloseLibrary $00001000\na NewList -> $00001010\na NewList -> $00000000\na AllocMem $00000000 $00000001 -> $00000000\na AvailMem $00000001 -> $00000000\na NewNode $00000000 $00000000 -> $00001000\n"
@@ -621,8 +622,8 @@ its_request word k = command (Requests word) (variable (Private k) ∷ [])
 abbrev pub opens_timer : ℕ → ℕ → CommandData
 opens_timer unit k = command (Requests OpenDevice) (quoted (codes "timer.device") ∷ number unit ∷ variable (Private k) ∷ [])
 
-abbrev pub asks : ℕ → ℕ → ℕ → CommandData
-asks word micros k = command (Requests SetIO) (variable (Private k) ∷ number word ∷ number 0 ∷ number micros ∷ [])
+abbrev pub sets_request : ℕ → ℕ → ℕ → CommandData
+sets_request word micros k = command (Requests SetIO) (variable (Private k) ∷ number word ∷ number 0 ∷ number micros ∷ [])
 
 abbrev pub with_timer : List CommandData → MachineData
 with_timer code = record bare { regions = room 4096; tasks = alone code }
@@ -631,20 +632,20 @@ abbrev pub TheClockCountsUnderDisable : Type 0
 TheClockCountsUnderDisable =
     trace
     (with_timer
-    (makes_reply_port ∷ makes_request 1 ∷ opens_timer 0 1 ∷ asks 10 0 1 ∷ command (Nesting Disable) [] ∷ command (Nesting Enable) []
+    (makes_reply_port ∷ makes_request 1 ∷ opens_timer 0 1 ∷ sets_request 10 0 1 ∷ command (Nesting Disable) [] ∷ command (Nesting Enable) []
     ∷ its_request DoIO 1 ∷ its_request IOMicros 1 ∷ [])) (Run 5 ∷ Tick 3 ∷ Run 3 ∷ [])
     ≡ codes "switch a\na CreateMsgPort -> $00001000\na CreateIORequest $00001000 -> $00001028\na OpenDevice \"timer.device\" $00000000 $00001028 -> $00000000\na SetIO $00001028 $0000000A $00000000 $00000000\na Disable\na Enable\nserve VERTB\na DoIO $00001028 -> $00000000\na IOMicros $00001028 -> $0000EA60\n"
 
 abbrev pub ATaskSleepsByDoIO : Type 0
 ATaskSleepsByDoIO =
-    trace (with_timer (makes_reply_port ∷ makes_request 1 ∷ opens_timer 0 1 ∷ asks 9 20000 1 ∷ its_request DoIO 1 ∷ [])) (Run 5 ∷ Tick 1 ∷ Run 1 ∷ [])
+    trace (with_timer (makes_reply_port ∷ makes_request 1 ∷ opens_timer 0 1 ∷ sets_request 9 20000 1 ∷ its_request DoIO 1 ∷ [])) (Run 5 ∷ Tick 1 ∷ Run 1 ∷ [])
     ≡ codes "switch a\na CreateMsgPort -> $00001000\na CreateIORequest $00001000 -> $00001028\na OpenDevice \"timer.device\" $00000000 $00001028 -> $00000000\na SetIO $00001028 $00000009 $00000000 $00004E20\na DoIO $00001028 waits\nidle\nserve VERTB\ntimer $00001028\nswitch a\na DoIO $00001028 -> $00000000\n"
 
 abbrev pub RequestsFinishByTheTimeWhenTheyAreDue : Type 0
 RequestsFinishByTheTimeWhenTheyAreDue =
     trace
     (with_timer
-    (makes_reply_port ∷ makes_request 1 ∷ makes_request 2 ∷ opens_timer 1 1 ∷ opens_timer 0 2 ∷ asks 9 20000 1 ∷ asks 9 10000 2
+    (makes_reply_port ∷ makes_request 1 ∷ makes_request 2 ∷ opens_timer 1 1 ∷ opens_timer 0 2 ∷ sets_request 9 20000 1 ∷ sets_request 9 10000 2
     ∷ its_request SendIO 1 ∷ its_request SendIO 2 ∷ command (Ports GetMsg) (variable (Private 0) ∷ []) ∷ command (Ports GetMsg) (variable (Private 0) ∷ [])
     ∷ its_request WaitIO 1 ∷ [])) (Run 9 ∷ Tick 1 ∷ Run 3 ∷ [])
     ≡ codes "switch a\na CreateMsgPort -> $00001000\na CreateIORequest $00001000 -> $00001028\na CreateIORequest $00001000 -> $00001050\na OpenDevice \"timer.device\" $00000001 $00001028 -> $00000000\na OpenDevice \"timer.device\" $00000000 $00001050 -> $00000000\na SetIO $00001028 $00000009 $00000000 $00004E20\na SetIO $00001050 $00000009 $00000000 $00002710\na SendIO $00001028\na SendIO $00001050\nserve VERTB\ntimer $00001050\ntimer $00001028\na GetMsg $00001000 -> $00001050\na GetMsg $00001000 -> $00001028\nalert LINK a WaitIO\n"
@@ -654,7 +655,7 @@ AStraySignalMakesDoIOLookAgain =
     trace
     (record bare {
       regions = room 4096;
-      tasks = beside (makes_reply_port ∷ makes_request 1 ∷ opens_timer 0 1 ∷ asks 9 20000 1 ∷ its_request DoIO 1 ∷ [])
+      tasks = beside (makes_reply_port ∷ makes_request 1 ∷ opens_timer 0 1 ∷ sets_request 9 20000 1 ∷ its_request DoIO 1 ∷ [])
           (command (Signals Signal) (number 1 ∷ number 0x80000000 ∷ []) ∷ []);
     })
     (Run 7 ∷ Tick 1 ∷ Run 1 ∷ [])
@@ -664,7 +665,7 @@ abbrev pub AnAbortedRequestIsRepliedAtOnce : Type 0
 AnAbortedRequestIsRepliedAtOnce =
     trace
     (with_timer
-    (makes_reply_port ∷ makes_request 1 ∷ opens_timer 0 1 ∷ asks 9 20000 1 ∷ its_request SendIO 1 ∷ its_request AbortIO 1 ∷ its_request AbortIO 1
+    (makes_reply_port ∷ makes_request 1 ∷ opens_timer 0 1 ∷ sets_request 9 20000 1 ∷ its_request SendIO 1 ∷ its_request AbortIO 1 ∷ its_request AbortIO 1
     ∷ its_request WaitIO 1 ∷ its_request IOError 1 ∷ []))
     (Run 7 ∷ Tick 1 ∷ Run 2 ∷ [])
     ≡ codes "switch a\na CreateMsgPort -> $00001000\na CreateIORequest $00001000 -> $00001028\na OpenDevice \"timer.device\" $00000000 $00001028 -> $00000000\na SetIO $00001028 $00000009 $00000000 $00004E20\na SendIO $00001028\na AbortIO $00001028 -> $00000000\na AbortIO $00001028 -> $FFFFFFFF\nserve VERTB\na WaitIO $00001028 -> $FFFFFFFE\na IOError $00001028 -> $FFFFFFFE\n"
@@ -673,7 +674,7 @@ AnAbortedRequestIsRepliedAtOnce =
 abbrev pub takes_its_reply : MachineData
 takes_its_reply =
     with_timer
-    (makes_reply_port ∷ makes_request 1 ∷ opens_timer 0 1 ∷ asks 9 20000 1 ∷ its_request SendIO 1 ∷ its_request CheckIO 1 ∷ its_request CheckIO 1 ∷ its_request WaitIO 1
+    (makes_reply_port ∷ makes_request 1 ∷ opens_timer 0 1 ∷ sets_request 9 20000 1 ∷ its_request SendIO 1 ∷ its_request CheckIO 1 ∷ its_request CheckIO 1 ∷ its_request WaitIO 1
     ∷ command (Ports GetMsg) (variable (Private 0) ∷ []) ∷ its_request WaitIO 1 ∷ [])
 
 abbrev pub WaitIOTakesTheReply : Type 0
@@ -689,7 +690,7 @@ MarksTellWhichReplyWasTaken = marks takes_its_reply (Run 6 ∷ Tick 1 ∷ Run 4 
 abbrev pub ARequestThatIsDueNowFinishes : Type 0
 ARequestThatIsDueNowFinishes =
     trace
-    (with_timer (makes_reply_port ∷ makes_request 1 ∷ makes_request 2 ∷ opens_timer 0 1 ∷ opens_timer 0 2 ∷ asks 9 20000 1 ∷ asks 9 20001 2 ∷ its_request SendIO 1 ∷ its_request SendIO 2 ∷ []))
+    (with_timer (makes_reply_port ∷ makes_request 1 ∷ makes_request 2 ∷ opens_timer 0 1 ∷ opens_timer 0 2 ∷ sets_request 9 20000 1 ∷ sets_request 9 20001 2 ∷ its_request SendIO 1 ∷ its_request SendIO 2 ∷ []))
     (Run 9 ∷ Tick 2 ∷ [])
     ≡ codes "switch a\na CreateMsgPort -> $00001000\na CreateIORequest $00001000 -> $00001028\na CreateIORequest $00001000 -> $00001050\na OpenDevice \"timer.device\" $00000000 $00001028 -> $00000000\na OpenDevice \"timer.device\" $00000000 $00001050 -> $00000000\na SetIO $00001028 $00000009 $00000000 $00004E20\na SetIO $00001050 $00000009 $00000000 $00004E21\na SendIO $00001028\na SendIO $00001050\nserve VERTB\ntimer $00001028\nserve VERTB\ntimer $00001050\n"
 
@@ -697,7 +698,7 @@ abbrev pub RequestsOfOneTimeFinishInTheOrderOfBeginning : Type 0
 RequestsOfOneTimeFinishInTheOrderOfBeginning =
     trace
     (with_timer
-    (makes_reply_port ∷ makes_request 1 ∷ makes_request 2 ∷ opens_timer 0 1 ∷ opens_timer 0 2 ∷ asks 9 20000 1 ∷ asks 9 20000 2 ∷ its_request SendIO 2 ∷ its_request SendIO 1
+    (makes_reply_port ∷ makes_request 1 ∷ makes_request 2 ∷ opens_timer 0 1 ∷ opens_timer 0 2 ∷ sets_request 9 20000 1 ∷ sets_request 9 20000 2 ∷ its_request SendIO 2 ∷ its_request SendIO 1
     ∷ command (Ports GetMsg) (variable (Private 0) ∷ []) ∷ command (Ports GetMsg) (variable (Private 0) ∷ []) ∷ []))
     (Run 9 ∷ Tick 1 ∷ Run 2 ∷ [])
     ≡ codes "switch a\na CreateMsgPort -> $00001000\na CreateIORequest $00001000 -> $00001028\na CreateIORequest $00001000 -> $00001050\na OpenDevice \"timer.device\" $00000000 $00001028 -> $00000000\na OpenDevice \"timer.device\" $00000000 $00001050 -> $00000000\na SetIO $00001028 $00000009 $00000000 $00004E20\na SetIO $00001050 $00000009 $00000000 $00004E20\na SendIO $00001050\na SendIO $00001028\nserve VERTB\ntimer $00001050\ntimer $00001028\na GetMsg $00001000 -> $00001050\na GetMsg $00001000 -> $00001028\n"
@@ -705,14 +706,14 @@ RequestsOfOneTimeFinishInTheOrderOfBeginning =
 abbrev pub MicrosecondsCountBeyondASecond : Type 0
 MicrosecondsCountBeyondASecond =
     trace
-    (record (with_timer (makes_reply_port ∷ makes_request 1 ∷ opens_timer 0 1 ∷ asks 9 1400000 1 ∷ its_request SendIO 1 ∷ [])) { tick_micros = 500000 })
+    (record (with_timer (makes_reply_port ∷ makes_request 1 ∷ opens_timer 0 1 ∷ sets_request 9 1400000 1 ∷ its_request SendIO 1 ∷ [])) { tick_micros = 500000 })
     (Run 5 ∷ Tick 3 ∷ [])
     ≡ codes "switch a\na CreateMsgPort -> $00001000\na CreateIORequest $00001000 -> $00001028\na OpenDevice \"timer.device\" $00000000 $00001028 -> $00000000\na SetIO $00001028 $00000009 $00000000 $00155CC0\na SendIO $00001028\nserve VERTB\nserve VERTB\nserve VERTB\ntimer $00001028\n"
 
 abbrev pub AnAwaitedPortIsNotDeleted : Type 0
 AnAwaitedPortIsNotDeleted =
     trace
-    (with_timer (makes_reply_port ∷ makes_request 1 ∷ opens_timer 0 1 ∷ asks 9 20000 1 ∷ its_request SendIO 1 ∷ command (Ports DeleteMsgPort) (variable (Private 0) ∷ []) ∷ []))
+    (with_timer (makes_reply_port ∷ makes_request 1 ∷ opens_timer 0 1 ∷ sets_request 9 20000 1 ∷ its_request SendIO 1 ∷ command (Ports DeleteMsgPort) (variable (Private 0) ∷ []) ∷ []))
     (Run 6 ∷ [])
     ≡ codes "switch a\na CreateMsgPort -> $00001000\na CreateIORequest $00001000 -> $00001028\na OpenDevice \"timer.device\" $00000000 $00001028 -> $00000000\na SetIO $00001028 $00000009 $00000000 $00004E20\na SendIO $00001028\nalert PORT a DeleteMsgPort\n"
 
@@ -728,8 +729,8 @@ abbrev pub SendIOClearsTheQuickBitAndTheError : Type 0
 SendIOClearsTheQuickBitAndTheError =
     trace
     (with_timer
-    (makes_reply_port ∷ makes_request 1 ∷ opens_timer 0 1 ∷ asks 2 0 1 ∷ its_request DoIO 1 ∷ its_request IOFlags 1 ∷ its_request SendIO 1 ∷ its_request IOFlags 1
-    ∷ command (Ports GetMsg) (variable (Private 0) ∷ []) ∷ asks 9 20000 1 ∷ its_request SendIO 1 ∷ its_request IOError 1 ∷ []))
+    (makes_reply_port ∷ makes_request 1 ∷ opens_timer 0 1 ∷ sets_request 2 0 1 ∷ its_request DoIO 1 ∷ its_request IOFlags 1 ∷ its_request SendIO 1 ∷ its_request IOFlags 1
+    ∷ command (Ports GetMsg) (variable (Private 0) ∷ []) ∷ sets_request 9 20000 1 ∷ its_request SendIO 1 ∷ its_request IOError 1 ∷ []))
     (Run 12 ∷ [])
     ≡ codes "switch a\na CreateMsgPort -> $00001000\na CreateIORequest $00001000 -> $00001028\na OpenDevice \"timer.device\" $00000000 $00001028 -> $00000000\na SetIO $00001028 $00000002 $00000000 $00000000\na DoIO $00001028 -> $FFFFFFFD\na IOFlags $00001028 -> $00000001\na SendIO $00001028\na IOFlags $00001028 -> $00000000\na GetMsg $00001000 -> $00001028\na SetIO $00001028 $00000009 $00000000 $00004E20\na SendIO $00001028\na IOError $00001028 -> $00000000\n"
 
@@ -741,7 +742,7 @@ takes_message = command (Ports GetMsg) (variable (Private 0) ∷ [])
 
 abbrev pub ATaskWaitsUntilASystemTime : Type 0
 ATaskWaitsUntilASystemTime =
-    trace (with_timer (makes_reply_port ∷ makes_request 1 ∷ opens_timer 3 1 ∷ asks 9 30000 1 ∷ its_request DoIO 1 ∷ []))
+    trace (with_timer (makes_reply_port ∷ makes_request 1 ∷ opens_timer 3 1 ∷ sets_request 9 30000 1 ∷ its_request DoIO 1 ∷ []))
     (Run 5 ∷ Tick 2 ∷ Run 1 ∷ [])
     ≡ codes "switch a\na CreateMsgPort -> $00001000\na CreateIORequest $00001000 -> $00001028\na OpenDevice \"timer.device\" $00000003 $00001028 -> $00000000\na SetIO $00001028 $00000009 $00000000 $00007530\na DoIO $00001028 waits\nidle\nserve VERTB\nserve VERTB\ntimer $00001028\nswitch a\na DoIO $00001028 -> $00000000\n"
 
@@ -750,7 +751,7 @@ abbrev pub ATimeThatHasComeIsDoneAtOnce : Type 0
 ATimeThatHasComeIsDoneAtOnce =
     trace
     (with_timer
-    (makes_reply_port ∷ makes_request 1 ∷ opens_timer 3 1 ∷ asks 9 20000 1 ∷ its_request DoIO 1 ∷ its_request IOFlags 1 ∷ asks 9 20001 1
+    (makes_reply_port ∷ makes_request 1 ∷ opens_timer 3 1 ∷ sets_request 9 20000 1 ∷ its_request DoIO 1 ∷ its_request IOFlags 1 ∷ sets_request 9 20001 1
     ∷ its_request SendIO 1 ∷ its_request CheckIO 1 ∷ []))
     (Run 4 ∷ Tick 1 ∷ Run 5 ∷ [])
     ≡ codes "switch a\na CreateMsgPort -> $00001000\na CreateIORequest $00001000 -> $00001028\na OpenDevice \"timer.device\" $00000003 $00001028 -> $00000000\na SetIO $00001028 $00000009 $00000000 $00004E20\nserve VERTB\na DoIO $00001028 -> $00000000\na IOFlags $00001028 -> $00000001\na SetIO $00001028 $00000009 $00000000 $00004E21\na SendIO $00001028\na CheckIO $00001028 -> $00000000\n"
@@ -760,8 +761,8 @@ ASettingWakesATask =
     trace
     (record bare {
       regions = room 4096;
-      tasks = beside (makes_reply_port ∷ makes_request 1 ∷ opens_timer 3 1 ∷ asks 9 990000 1 ∷ its_request DoIO 1 ∷ [])
-          (makes_reply_port ∷ makes_request 1 ∷ opens_timer 0 1 ∷ asks 11 990000 1 ∷ its_request DoIO 1 ∷ []);
+      tasks = beside (makes_reply_port ∷ makes_request 1 ∷ opens_timer 3 1 ∷ sets_request 9 990000 1 ∷ its_request DoIO 1 ∷ [])
+          (makes_reply_port ∷ makes_request 1 ∷ opens_timer 0 1 ∷ sets_request 11 990000 1 ∷ its_request DoIO 1 ∷ []);
     })
     (Run 11 ∷ [])
     ≡ codes "switch a\na CreateMsgPort -> $00001000\na CreateIORequest $00001000 -> $00001028\na OpenDevice \"timer.device\" $00000003 $00001028 -> $00000000\na SetIO $00001028 $00000009 $00000000 $000F1B30\na DoIO $00001028 waits\nswitch b\nb CreateMsgPort -> $00001050\nb CreateIORequest $00001050 -> $00001078\nb OpenDevice \"timer.device\" $00000000 $00001078 -> $00000000\nb SetIO $00001078 $0000000B $00000000 $000F1B30\nb DoIO $00001078 -> $00000000\ntimer $00001028\nswitch a\na DoIO $00001028 -> $00000000\n"
@@ -771,7 +772,7 @@ abbrev pub sets_past_both : MachineData
 sets_past_both =
     with_timer
     (makes_reply_port ∷ makes_request 1 ∷ makes_request 2 ∷ makes_request 3 ∷ opens_timer 3 1 ∷ opens_timer 3 2 ∷ opens_timer 0 3
-    ∷ asks 9 60000 1 ∷ asks 9 50000 2 ∷ asks 11 60000 3 ∷ its_request SendIO 1 ∷ its_request SendIO 2 ∷ its_request SendIO 3
+    ∷ sets_request 9 60000 1 ∷ sets_request 9 50000 2 ∷ sets_request 11 60000 3 ∷ its_request SendIO 1 ∷ its_request SendIO 2 ∷ its_request SendIO 3
     ∷ takes_message ∷ takes_message ∷ takes_message ∷ [])
 
 abbrev pub TheSetterIsRepliedFirst : Type 0
@@ -787,7 +788,7 @@ abbrev pub ASettingLeavesTheOtherUnitsAlone : Type 0
 ASettingLeavesTheOtherUnitsAlone =
     trace
     (with_timer
-    (makes_reply_port ∷ makes_request 1 ∷ makes_request 2 ∷ opens_timer 0 1 ∷ opens_timer 3 2 ∷ asks 9 30000 1 ∷ asks 11 990000 2
+    (makes_reply_port ∷ makes_request 1 ∷ makes_request 2 ∷ opens_timer 0 1 ∷ opens_timer 3 2 ∷ sets_request 9 30000 1 ∷ sets_request 11 990000 2
     ∷ its_request SendIO 1 ∷ its_request DoIO 2 ∷ its_request CheckIO 1 ∷ []))
     (Run 10 ∷ Tick 2 ∷ [])
     ≡ codes "switch a\na CreateMsgPort -> $00001000\na CreateIORequest $00001000 -> $00001028\na CreateIORequest $00001000 -> $00001050\na OpenDevice \"timer.device\" $00000000 $00001028 -> $00000000\na OpenDevice \"timer.device\" $00000003 $00001050 -> $00000000\na SetIO $00001028 $00000009 $00000000 $00007530\na SetIO $00001050 $0000000B $00000000 $000F1B30\na SendIO $00001028\na DoIO $00001050 -> $00000000\na CheckIO $00001028 -> $00000000\nserve VERTB\nserve VERTB\ntimer $00001028\n"
@@ -797,8 +798,8 @@ abbrev pub ASettingBackFinishesNothing : Type 0
 ASettingBackFinishesNothing =
     trace
     (with_timer
-    (makes_reply_port ∷ makes_request 1 ∷ makes_request 2 ∷ opens_timer 3 1 ∷ opens_timer 1 2 ∷ asks 9 50000 1 ∷ asks 11 10000 2
-    ∷ its_request SendIO 1 ∷ its_request DoIO 2 ∷ asks 10 0 2 ∷ its_request DoIO 2 ∷ its_request IOMicros 2 ∷ []))
+    (makes_reply_port ∷ makes_request 1 ∷ makes_request 2 ∷ opens_timer 3 1 ∷ opens_timer 1 2 ∷ sets_request 9 50000 1 ∷ sets_request 11 10000 2
+    ∷ its_request SendIO 1 ∷ its_request DoIO 2 ∷ sets_request 10 0 2 ∷ its_request DoIO 2 ∷ its_request IOMicros 2 ∷ []))
     (Run 7 ∷ Tick 2 ∷ Run 5 ∷ Tick 2 ∷ [])
     ≡ codes "switch a\na CreateMsgPort -> $00001000\na CreateIORequest $00001000 -> $00001028\na CreateIORequest $00001000 -> $00001050\na OpenDevice \"timer.device\" $00000003 $00001028 -> $00000000\na OpenDevice \"timer.device\" $00000001 $00001050 -> $00000000\na SetIO $00001028 $00000009 $00000000 $0000C350\na SetIO $00001050 $0000000B $00000000 $00002710\nserve VERTB\nserve VERTB\na SendIO $00001028\na DoIO $00001050 -> $00000000\na SetIO $00001050 $0000000A $00000000 $00000000\na DoIO $00001050 -> $00000000\na IOMicros $00001050 -> $00002710\nserve VERTB\nserve VERTB\ntimer $00001028\n"
 
@@ -808,8 +809,8 @@ RequestsOfOneMomentFinishInTheOrderOfBeginning =
     trace
     (with_timer
     (makes_reply_port ∷ makes_request 1 ∷ makes_request 2 ∷ makes_request 3 ∷ makes_request 4
-    ∷ opens_timer 3 1 ∷ opens_timer 0 2 ∷ opens_timer 1 3 ∷ opens_timer 3 4 ∷ asks 11 100000 4 ∷ its_request DoIO 4
-    ∷ asks 9 120000 1 ∷ asks 9 20000 2 ∷ asks 9 20000 3 ∷ asks 9 115000 4
+    ∷ opens_timer 3 1 ∷ opens_timer 0 2 ∷ opens_timer 1 3 ∷ opens_timer 3 4 ∷ sets_request 11 100000 4 ∷ its_request DoIO 4
+    ∷ sets_request 9 120000 1 ∷ sets_request 9 20000 2 ∷ sets_request 9 20000 3 ∷ sets_request 9 115000 4
     ∷ its_request SendIO 2 ∷ its_request SendIO 1 ∷ its_request SendIO 3 ∷ its_request SendIO 4 ∷ []))
     (Run 19 ∷ Tick 1 ∷ [])
     ≡ codes "switch a\na CreateMsgPort -> $00001000\na CreateIORequest $00001000 -> $00001028\na CreateIORequest $00001000 -> $00001050\na CreateIORequest $00001000 -> $00001078\na CreateIORequest $00001000 -> $000010A0\na OpenDevice \"timer.device\" $00000003 $00001028 -> $00000000\na OpenDevice \"timer.device\" $00000000 $00001050 -> $00000000\na OpenDevice \"timer.device\" $00000001 $00001078 -> $00000000\na OpenDevice \"timer.device\" $00000003 $000010A0 -> $00000000\na SetIO $000010A0 $0000000B $00000000 $000186A0\na DoIO $000010A0 -> $00000000\na SetIO $00001028 $00000009 $00000000 $0001D4C0\na SetIO $00001050 $00000009 $00000000 $00004E20\na SetIO $00001078 $00000009 $00000000 $00004E20\na SetIO $000010A0 $00000009 $00000000 $0001C138\na SendIO $00001050\na SendIO $00001028\na SendIO $00001078\na SendIO $000010A0\nserve VERTB\ntimer $000010A0\ntimer $00001050\ntimer $00001028\ntimer $00001078\n"
@@ -820,7 +821,7 @@ DisableDoesNotHoldASettingBack =
     trace
     (with_timer
     (makes_reply_port ∷ makes_request 1 ∷ makes_request 2 ∷ makes_request 3 ∷ opens_timer 3 1 ∷ opens_timer 3 2 ∷ opens_timer 0 3
-    ∷ asks 9 30000 1 ∷ asks 11 30000 2 ∷ asks 9 10000 3 ∷ its_request SendIO 1 ∷ its_request SendIO 3 ∷ command (Nesting Disable) []
+    ∷ sets_request 9 30000 1 ∷ sets_request 11 30000 2 ∷ sets_request 9 10000 3 ∷ its_request SendIO 1 ∷ its_request SendIO 3 ∷ command (Nesting Disable) []
     ∷ its_request DoIO 2 ∷ command (Nesting Enable) [] ∷ []))
     (Run 13 ∷ Tick 1 ∷ Run 2 ∷ [])
     ≡ codes "switch a\na CreateMsgPort -> $00001000\na CreateIORequest $00001000 -> $00001028\na CreateIORequest $00001000 -> $00001050\na CreateIORequest $00001000 -> $00001078\na OpenDevice \"timer.device\" $00000003 $00001028 -> $00000000\na OpenDevice \"timer.device\" $00000003 $00001050 -> $00000000\na OpenDevice \"timer.device\" $00000000 $00001078 -> $00000000\na SetIO $00001028 $00000009 $00000000 $00007530\na SetIO $00001050 $0000000B $00000000 $00007530\na SetIO $00001078 $00000009 $00000000 $00002710\na SendIO $00001028\na SendIO $00001078\na Disable\na DoIO $00001050 -> $00000000\ntimer $00001028\na Enable\nserve VERTB\ntimer $00001078\n"
@@ -868,7 +869,7 @@ AnAttemptOfTheOwnerCounts =
     trace
     (record bare {
       regions = room 48;
-      tasks = alone (makes ∷ its ObtainSemaphore ∷ its AttemptSemaphore ∷ its ReleaseSemaphore ∷ its FreeSem ∷ []);
+      tasks = alone (makes_semaphore ∷ its ObtainSemaphore ∷ its AttemptSemaphore ∷ its ReleaseSemaphore ∷ its FreeSem ∷ []);
     })
     (Run 5 ∷ [])
     ≡ codes "switch a\na NewSem -> $00001000\na ObtainSemaphore $00001000\na AttemptSemaphore $00001000 -> $00000001\na ReleaseSemaphore $00001000\nalert SEM a FreeSem\n"

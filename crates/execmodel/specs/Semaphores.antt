@@ -6,7 +6,7 @@ use Rattle.std.specs.List.{list_any}
 use Rattle.execlist.specs.{Order.first, Order.without, Disciplines.by_arrival}
 use Rattle.scheduler.specs.{Schedule.waits_at_semaphore, Dispatch.arrives}
 use Rattle.sigsem.specs.declared.semaphore.Obtained.TheVariants.{Owner, Waits}
-use Rattle.sigsem.specs.Semaphores.{free_sem, is_last, is_open, is_owned, is_owner, is_too_deep, once_less, once_more, outcome_for, owned_next}
+use Rattle.sigsem.specs.Semaphores.{free_sem, is_last, is_free_for, is_owned, is_owner, is_too_deep, once_less, once_more, outcome_for, owned_next}
 use Rattle.sigsem.specs.{declared.semaphore.Sem.Sem, declared.semaphore.Obtained.Obtained}
 use Rattle.script.specs.declared.word.semaphores.SemaphoreWord.{SemaphoreWord}
 use Rattle.script.specs.declared.word.semaphores.SemaphoreWord.TheVariants as word
@@ -130,7 +130,7 @@ obtain_alert t semaphore heap =
 
 -- the semaphore is the task's at once, or the task waits for it (autodocs ObtainSemaphore and AttemptSemaphore)
 unfoldable pub obtained : ℕ → ℕ → Heap → Heap
-obtained semaphore t heap = if is_open t (sem_of semaphore heap) then entered semaphore t heap else queued semaphore t heap
+obtained semaphore t heap = if is_free_for t (sem_of semaphore heap) then entered semaphore t heap else queued semaphore t heap
 
 -- a task that owns the semaphore goes on, and one that does not waits (autodoc ObtainSemaphore)
 abbrev pub obtains : Obtained → ℕ → ℕ → Call → State → Outcome
@@ -153,7 +153,7 @@ does_obtain_semaphore t call s =
 
 -- the semaphore is the task's at once, or nothing changes
 unfoldable pub attempted : ℕ → ℕ → Heap → Heap
-attempted semaphore t heap = if is_open t (sem_of semaphore heap) then entered semaphore t heap else heap
+attempted semaphore t heap = if is_free_for t (sem_of semaphore heap) then entered semaphore t heap else heap
 
 -- AttemptSemaphore semaphore: if ObtainSemaphore would make the task the owner this does the same and answers 1; if the task would
 -- have to wait, nothing changes and the answer is 0 (autodoc exec.library/AttemptSemaphore; the alerts: project rule)
@@ -161,7 +161,7 @@ unfoldable pub does_attempt_semaphore : ℕ → Call → State → Outcome
 does_attempt_semaphore t call s =
     let semaphore = argument 0 call in
     unless (obtain_alert t semaphore s.memory.heap) t call
-    (λ s. answered t call (if is_open t (sem_of semaphore s.memory.heap) then 1 else 0) (on_memory (on_heap (attempted semaphore t)) s)) s
+    (λ s. answered t call (if is_free_for t (sem_of semaphore s.memory.heap) then 1 else 0) (on_memory (on_heap (attempted semaphore t)) s)) s
 
 -- ---- releasing
 

@@ -57,7 +57,7 @@ does_set_signal t call s =
 abbrev pub signal_alert : ℕ → ℕ → Scripts → Option Alert
 signal_alert number mask scripts = if not (is_task number scripts) then Some an_alert.Handle else mask_alert mask
 
--- Signal t mask: the task of that number receives the signals of the mask (autodoc exec.library/Signal; the alerts: project rule)
+-- Signal t mask: the task of that number, which is 1 for the first one, receives the signals of the mask (autodoc exec.library/Signal; the alerts: project rule)
 abbrev pub does_signal_by : Caller → Call → State → Outcome
 does_signal_by c call s =
     let other = argument 0 call in

@@ -143,8 +143,8 @@ abbrev pub begun_with : List CommandData → Bool → Program
 begun_with code starts = record { code = code; place = 0; variables = replicate private_variables 0; kept = None; starts = starts }
 
 -- the program of a task of the file before its first command
-abbrev pub begun : TaskData → Program
-begun task = begun_with task.code task.start
+abbrev pub new_program : TaskData → Program
+new_program task = begun_with task.code task.start
 
 -- The machine of a file before its start: no task was added, nothing runs, it was not yet reported as idle, and no interrupt was
 -- asked for. No memory is allocated, no port is public, and no request waits; the clock of the timer and system time begin at 0 (project
@@ -152,7 +152,7 @@ begun task = begun_with task.code task.start
 unfoldable pub booted : MachineData → State
 booted machine = record {
   schedule = unstarted (length machine.tasks) (map (λ (task : TaskData). task.pri) machine.tasks) (map (λ (task : TaskData). task.name) machine.tasks) machine.quantum;
-  scripts = record { programs = map begun machine.tasks; shared = replicate shared_variables 0 };
+  scripts = record { programs = map new_program machine.tasks; shared = replicate shared_variables 0 };
   memory = record {
     regions = machine.regions;
     libraries = machine.libraries;

@@ -9,7 +9,7 @@ use Rattle.script.specs.{declared.word.Word.Word, declared.event.Event.Event, Fi
 use Rattle.scheduler.specs.{Schedule.Schedule, Schedule.name_of, Schedule.leaves, declared.Switch.Switch as Choice, Dispatch.switch_of, Dispatch.rescheduled, Dispatch.added}
 use Rattle.scheduler.specs.declared.Switch.TheVariants as switch
 use Rattle.execmodel.specs.State.{Call, Scripts, State, Outcome, quiet, says, andthen, unless_stopped, program_of, on_schedule, on_memory, on_pending, on_timer, booted}
-use Rattle.execmodel.specs.{Pending.source_named, Pending.with_latch_of, Pending.next_softint, Interrupts.interrupts, Interrupts.runs_softint, Calls.next_call, Plain.does_plain, Signals.does_signals, Nesting.does_nesting, Tasks.does_tasks, Lists.does_lists, Memory.does_memory, Ports.does_ports, Semaphores.does_semaphores, Causing.does_interrupts, Libraries.does_libraries, Requests.does_requests, Requests.finishes_set}
+use Rattle.execmodel.specs.{Pending.with_latch_of, Pending.next_softint, Interrupts.interrupts, Interrupts.runs_softint, Calls.next_call, Plain.does_plain, Signals.does_signals, Nesting.does_nesting, Tasks.does_tasks, Lists.does_lists, Memory.does_memory, Ports.does_ports, Semaphores.does_semaphores, Causing.does_interrupts, Libraries.does_libraries, Requests.does_requests, Requests.finishes_set}
 use Rattle.timerdev.specs.Timing.{ticked}
 use Rattle.softint.specs.{declared.source.Source.Source, declared.source.Source.TheVariants.Vertb}
 
@@ -120,7 +120,7 @@ starts s = settle (on_schedule (all_added s.scripts (length s.scripts.programs))
 unfoldable pub event : Event → State → Outcome
 event (Run n) s = steps n s
 event (Tick n) s = ticks n s
-event (Irq name) s = request (source_named name) s
+event (Irq asks) s = request asks s
 
 -- one event after another
 unfoldable pub events : List Event → State → Outcome

@@ -2,7 +2,9 @@
 ghost use Rattle.std.specs.Prelude.{◌≡◌, true, List};
 ghost use Rattle.script.specs.declared.event.Event.{Event};
 ghost use Rattle.execmodel.specs.Keeping.{PlainWordsChangeScripts, SignalWordsChangeSignalsAndStates, NestingWordsChangeNestings, TaskWordsChangeStatesPrioritiesAndObjects, ListWordsChangeTheMemory, MemoryWordsChangeTheMemory, PortWordsChangePortsSignalsAndStates, SemaphoreWordsChangeStatesAndObjects, InterruptWordsChangeWhatIsCaused, LibraryWordsChangeTheMemory, RequestWordsChangeRequestsPortsSignalsAndStates};
-ghost use Rattle.execmodel.specs.Laws.{FirstInFirstOut, EachByteHasOneOwner, FreeMemRefusesObjects, OwnersChangeAtTheLastRelease, FreeSemaphoresHaveNoWaiters, SemaphoresPassInOrder, QueuesAgreeWithTheSchedule, EachStateIsSettled, SwitchesGoToTheChosen, EachSwitchLineIsAChoice, OnlySwitchesSaySo, WaitersHaveReceivedNone, ReceivedSignalsStay, InterruptsKeepNestings, ThreeServingsAtMost, OpenLibrariesStay, LibrariesHaveOneBase, LibrariesAreAskedInVersionTwo, UnaskedLibrariesStay, UnaskedMemoryStays, AskingChangesTheBlocks, ReplyPortsLive, RequestsUnderWayWait, TheClockCountsTicks, SystemTimeGoesWithTheClock, CallsFitTheirWords, LinesAreShort, LibrariesGiveWayAsFarAsNeeded, OnlyClosedLibrariesGiveWay};
+ghost use Rattle.execmodel.specs.Laws.{FirstInFirstOut, EachByteHasOneOwner, FreeMemRefusesObjects, OwnersChangeAtTheLastRelease, FreeSemaphoresHaveNoWaiters, SemaphoresPassInOrder, QueuesAgreeWithTheSchedule, EachStateIsSettled, SwitchesGoToTheChosen, EachSwitchLineIsAChoice, OnlySwitchesSaySo, WaitersHaveReceivedNone, ReceivedSignalsStay, InterruptsKeepNestings, ThreeServingsAtMost, OpenLibrariesStay, LibrariesHaveOneBase, LibrariesAreAskedInVersionTwo, UnaskedMemoryStays, AskingChangesTheBlocks, ReplyPortsLive, RequestsUnderWayWait, TheClockCountsTicks, SystemTimeGoesWithTheClock, CallsFitTheirWords, LinesAreShort, LibrariesGiveWayAsFarAsNeeded, OnlyClosedLibrariesGiveWay};
+ghost use Rattle.execmodel.specs.OtherBlocks.{ListWordsLeaveOtherBlocks, LibraryWordsLeaveOtherBlocks, MemoryWordsLeaveOtherBlocks};
+ghost use Rattle.execmodel.specs.VersionOne.{UnaskedWordsTakeMemoryAsItIs, VersionOneTakesMemoryAsItIs, UnaskedLibrariesStay};
 ghost use Rattle.execmodel.specs.{State.State, State.Outcome, State.quiet, State.andthen, State.unless_stopped, Step.event, Step.events};
 
 /// After an alert no event does anything: the state stays as it is, no line is printed and no mark is left. If an alert comes between
@@ -23,7 +25,9 @@ pub fn an_alert_ends_all()
 /// and the priorities, and words of interrupts which software interrupts are caused; words of requests the objects, which requests wait for the
 /// timer, system time, signals, which tasks are ready, running or waiting, and which software interrupts are caused, but neither the clock nor
 /// which ports are public. An alert stops the machine.
-#[tactic(auto, using(crate::proofs::Words::plain_words_change_scripts, crate::proofs::Words::signal_words_change_signals_and_states, crate::proofs::Words::nesting_words_change_nestings, crate::proofs::Words::task_words_change_states_priorities_and_objects, crate::proofs::Words::list_words_change_the_memory, crate::proofs::Words::memory_words_change_the_memory, crate::proofs::Words::port_words_change_ports_signals_and_states, crate::proofs::Words::semaphore_words_change_states_and_objects, crate::proofs::Words::interrupt_words_change_what_is_caused, crate::proofs::Words::library_words_change_the_memory, crate::proofs::Words::request_words_change_requests_ports_signals_and_states))]
+/// Of the blocks, in every state of every run, words of libraries leave each as it is that is no library's; words of lists each that holds another
+/// object than a list or a node, and words of memory each that holds another than a plain block, but for libraries that are expunged under low memory.
+#[tactic(auto, using(crate::proofs::Words::plain_words_change_scripts, crate::proofs::Words::signal_words_change_signals_and_states, crate::proofs::Words::nesting_words_change_nestings, crate::proofs::Words::task_words_change_states_priorities_and_objects, crate::proofs::Words::list_words_change_the_memory, crate::proofs::Words::memory_words_change_the_memory, crate::proofs::Words::port_words_change_ports_signals_and_states, crate::proofs::Words::semaphore_words_change_states_and_objects, crate::proofs::Words::interrupt_words_change_what_is_caused, crate::proofs::Words::library_words_change_the_memory, crate::proofs::Words::request_words_change_requests_ports_signals_and_states, crate::proofs::OtherLists::list_words_leave_other_blocks, crate::proofs::OtherBlocks::library_words_leave_other_blocks, crate::proofs::OtherBlocks::memory_words_leave_other_blocks))]
 pub fn each_group_keeps_to_its_part()
     ensures plain { PlainWordsChangeScripts }
     ensures signals { SignalWordsChangeSignalsAndStates }
@@ -36,6 +40,9 @@ pub fn each_group_keeps_to_its_part()
     ensures interrupts { InterruptWordsChangeWhatIsCaused }
     ensures libraries { LibraryWordsChangeTheMemory }
     ensures requests { RequestWordsChangeRequestsPortsSignalsAndStates }
+    ensures blocks_of_lists { ListWordsLeaveOtherBlocks }
+    ensures blocks_of_libraries { LibraryWordsLeaveOtherBlocks }
+    ensures blocks_of_memory { MemoryWordsLeaveOtherBlocks }
 {}
 
 /// Messages leave a port in the order in which they came: over every stretch of every run, the messages that the port had at first and
@@ -140,14 +147,18 @@ pub fn libraries_have_one_base()
 {}
 
 /// In version 1 of the rules no library is expunged under low memory. In every state of every run libraries are asked exactly if the machine is of
-/// version 2. If they are not, what asks them before a word takes memory changes nothing; and whatever a step, a tick or a request does, a loaded
-/// library keeps its base, its number and its block, open or not, unless the running task in this step removes it while it is not open, or closes
-/// it for the last time and it was to be expunged then. In any version asking changes the blocks and the objects in them alone, and nothing if the
-/// block has a place already.
-#[tactic(auto, using(crate::proofs::Versions::libraries_are_asked_in_version_two, crate::proofs::Versions::unasked_memory_stays, crate::proofs::Libraries::unasked_libraries_stay, crate::proofs::Versions::asking_changes_the_blocks))]
+/// version 2. If they are not, what asks them before a word takes memory changes nothing, and each word that takes memory takes it as it is: one
+/// equation for each of these words, in every state of a run of version 1. And whatever a step, a tick or a request does, a loaded library stays as
+/// it is, open or not: at its base, in its block, as often open, and to be expunged or not, unless the running task in this step opens, closes or
+/// removes that library; then it is open once more, once less or as often, or is expunged: removed while it is not open, or closed for the last
+/// time when it was to be expunged then. In any version asking changes the blocks and the objects in them alone, and nothing if the block has a
+/// place already.
+#[tactic(auto, using(crate::proofs::Versions::libraries_are_asked_in_version_two, crate::proofs::Versions::unasked_memory_stays, crate::proofs::UnaskedLibraries::unasked_libraries_stay, crate::proofs::Versions::asking_changes_the_blocks))]
 pub fn version_one()
     ensures asked { LibrariesAreAskedInVersionTwo }
     ensures unasked { UnaskedMemoryStays }
+    ensures words { UnaskedWordsTakeMemoryAsItIs }
+    ensures runs { VersionOneTakesMemoryAsItIs }
     ensures stay { UnaskedLibrariesStay }
     ensures beside { AskingChangesTheBlocks }
 {}

@@ -1,6 +1,6 @@
 //! A run, one step and one tick at a time: after each of them a watcher sees the machine.
 ghost use Rattle.std.specs.Prelude.{◌≡◌, ◌+◌, ◌*◌, ℕ, false, sum_by, OnOk};
-ghost use Rattle.script.specs.Events.{ticks as ticks_of};
+ghost use Rattle.script.specs.Events.{event_ticks};
 ghost use Rattle.execsim.specs.Time.{HasTimeFor};
 
 use crate::fault::PictureFault;
@@ -151,9 +151,9 @@ fn advance(
     reel: &mut Reel,
 ) -> Result<(), PictureFault>
     requires going { machine.old.failed ≡ false }
-    requires time { HasTimeFor (ticks_of one) machine.old.seen }
+    requires time { HasTimeFor (event_ticks one) machine.old.seen }
     ensures going { OnOk result (machine.new.failed ≡ false) }
-    ensures time { OnOk result ((ticks : ℕ) → HasTimeFor (ticks_of one + ticks) machine.old.seen → HasTimeFor ticks machine.new.seen) }
+    ensures time { OnOk result ((ticks : ℕ) → HasTimeFor (event_ticks one + ticks) machine.old.seen → HasTimeFor ticks machine.new.seen) }
 {
     let mut bytes = mem::replace(&mut reel.text, Vec::new(alloc));
     bytes.clear();
@@ -179,9 +179,9 @@ fn turn_once<V: Watch>(
     watch: &mut V,
 ) -> Result<(), PictureFault>
     requires going { machine.old.failed ≡ false }
-    requires time { HasTimeFor (ticks_of one) machine.old.seen }
+    requires time { HasTimeFor (event_ticks one) machine.old.seen }
     ensures going { OnOk result (machine.new.failed ≡ false) }
-    ensures time { OnOk result ((ticks : ℕ) → HasTimeFor (ticks_of one + ticks) machine.old.seen → HasTimeFor ticks machine.new.seen) }
+    ensures time { OnOk result ((ticks : ℕ) → HasTimeFor (event_ticks one + ticks) machine.old.seen → HasTimeFor ticks machine.new.seen) }
 {
     if reel.is_over() {
         return Ok(());
@@ -202,9 +202,9 @@ fn turn_many<V: Watch>(
     watch: &mut V,
 ) -> Result<(), PictureFault>
     requires going { machine.old.failed ≡ false }
-    requires time { HasTimeFor (many * ticks_of one) machine.old.seen }
+    requires time { HasTimeFor (many * event_ticks one) machine.old.seen }
     ensures going { OnOk result (machine.new.failed ≡ false) }
-    ensures time { OnOk result ((ticks : ℕ) → HasTimeFor (many * ticks_of one + ticks) machine.old.seen → HasTimeFor ticks machine.new.seen) }
+    ensures time { OnOk result ((ticks : ℕ) → HasTimeFor (many * event_ticks one + ticks) machine.old.seen → HasTimeFor ticks machine.new.seen) }
 {
     for _turn in 0..many {
         turn_once(alloc, machine, one, event, reel, watch)?;
@@ -222,9 +222,9 @@ fn turn_event<V: Watch>(
     watch: &mut V,
 ) -> Result<(), PictureFault>
     requires going { machine.old.failed ≡ false }
-    requires time { HasTimeFor (ticks_of one) machine.old.seen }
+    requires time { HasTimeFor (event_ticks one) machine.old.seen }
     ensures going { OnOk result (machine.new.failed ≡ false) }
-    ensures time { OnOk result ((ticks : ℕ) → HasTimeFor (ticks_of one + ticks) machine.old.seen → HasTimeFor ticks machine.new.seen) }
+    ensures time { OnOk result ((ticks : ℕ) → HasTimeFor (event_ticks one + ticks) machine.old.seen → HasTimeFor ticks machine.new.seen) }
 {
     match one {
         Event::Run(n) => turn_many(alloc, machine, Event::Run(1), n, event, reel, watch),
@@ -242,7 +242,7 @@ fn turn_all<V: Watch>(
     watch: &mut V,
 ) -> Result<(), PictureFault>
     requires going { machine.old.failed ≡ false }
-    requires time { HasTimeFor (sum_by ticks_of list.now) machine.old.seen }
+    requires time { HasTimeFor (sum_by event_ticks list.now) machine.old.seen }
 {
     let mut event = 0usize;
     for one in list {
@@ -261,7 +261,7 @@ fn film_on<V: Watch>(
     watch: &mut V,
 ) -> Result<Ending, PictureFault>
     requires going { machine.old.failed ≡ false }
-    requires time { HasTimeFor (sum_by ticks_of list.now) machine.old.seen }
+    requires time { HasTimeFor (sum_by event_ticks list.now) machine.old.seen }
 {
     let mut reel = Reel {
         number: 0,

@@ -1,6 +1,7 @@
 pub mod CommandLine
 pub mod Message
 pub mod Fault
+pub mod Unread
 pub mod Reading
 pub mod Ending
 pub mod Lending

@@ -10,6 +10,7 @@ mod lent;
 mod paged;
 mod running;
 mod texts;
+mod unread;
 
 pub use arguments::run_on_arguments;
 pub use command_line::Paths;
@@ -19,3 +20,4 @@ pub use fault::Fault;
 pub use files::read_text;
 pub use running::{run, run_on_texts};
 pub use texts::{SystemTexts, Texts};
+pub use unread::{CannotRead, TextFault, Unread};

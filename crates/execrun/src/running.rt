@@ -9,7 +9,7 @@ ghost use Rattle.execrun.specs.{CommandLine.AreRefused, CommandLine.AreRight, Co
 use crate::command_line::{Paths, paths_given, write_answer};
 use crate::ending::{Ending, Status, report};
 use crate::fault::Fault;
-use crate::files::read_text;
+use crate::files::text_or_fault;
 use crate::lent::Lent;
 use crate::texts::{SystemTexts, Texts};
 use clap::error::ErrorKind;
@@ -69,8 +69,8 @@ fn simulate_files<'a, T: Texts, W: Write>(
     ensures { RunsFiles (T.text_at texts.now) paths.entry (W.contents out.old) (W.contents out.new) result
         ⊎ ReadsNothing (IsOneOf paths.entry) (W.contents out.old) (W.contents out.new) result }
 {
-    let machine = read_text(texts, alloc, paths.machine)?;
-    let events = read_text(texts, alloc, paths.events)?;
+    let machine = text_or_fault(texts, alloc, paths.machine)?;
+    let events = text_or_fault(texts, alloc, paths.events)?;
     write_trace(alloc, &machine, &events, out)
 }
 

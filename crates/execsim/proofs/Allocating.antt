@@ -2,7 +2,7 @@
 use Rattle.std.proofs.Common.{◌≡◌, ℕ, true, false, Option, None, Some, refl, sym, ◌∙◌, codes, unwrap_or}
 use Rattle.memlist.specs.Fit.{avail}
 use Rattle.script.specs.declared.word.memory.MemoryWord.TheVariants as words
-use Rattle.execmodel.specs.Memory.{has_only, alloc_bits, can_be_asked, allocates, block_at, extents, is_named, place_for, placed, freed, alloc_alert, does_memory, memory_deed}
+use Rattle.execmodel.specs.Memory.{has_only, alloc_bits, can_be_asked, allocates_block, block_at, extents, is_named, place_for, placed, freed, alloc_alert, does_memory, memory_deed}
 use Rattle.execmodel.specs.{State.Call, State.Memory, State.Object, State.Plain, State.State, State.Outcome, State.on_memory, Calls.argument, Calls.done, Calls.answered, Calls.alerted, Deeds.performs, GivingWay.after_asking}
 use Rattle.execmodel.proofs.{Deeds.allotting, GivingWay.asking_keeps}
 use Rattle.execsim.specs.Agreement.{Seen, Follows, queues_in_order}
@@ -17,7 +17,7 @@ placed-in_order size object (Some address) y = refl
 
 -- a plain block is taken where it fits
 abbrev takes_block : ℕ → Call → (size reqs : ℕ) → State → Outcome
-takes_block t call size reqs s = allocates t call size Plain (place_for size reqs s.memory) s
+takes_block t call size reqs s = allocates_block t call size Plain (place_for size reqs s.memory) s
 
 module _ {H : Hearing} {m n : Seen} {a b : H.Told} (t : ℕ) (call : Call) where
   pub alloc_refused : has_only alloc_bits (argument 1 call) ≡ false → Follows H (alerted an_alert.Value t call) m n a b → Follows H (does_memory words.AllocMem t call) m n a b
@@ -29,7 +29,7 @@ module _ {H : Hearing} {m n : Seen} {a b : H.Told} (t : ℕ) (call : Call) where
       → n ≡ record m { memory = placed size Plain place m.memory }
       → Follows H (answered t call (unwrap_or place 0)) n o a b → Follows H (takes_block t call size reqs) m o a b
   block_taken size reqs place fits is follows = follows_as
-      {g = allocates t call size Plain place}
+      {g = allocates_block t call size Plain place}
       (λ s e.
       let same : place_for size reqs s.memory ≡ place = reads_memory (place_for size reqs) (λ y. refl) (sym fits) s e in
       rw same refl)

@@ -10,7 +10,7 @@ use Rattle.script.specs.declared.word.task_signals.SignalWord.TheVariants as sig
 use Rattle.script.specs.declared.word.interrupts.InterruptWord.TheVariants as interrupts
 use Rattle.script.specs.declared.command.Argument.TheVariants as arguments
 use Rattle.script.specs.declared.word.plain.PlainWord.TheVariants as plain
-use Rattle.execmodel.specs.{State.Timer as Clock, State.Bodies, State.Call, State.Scripts, State.State, State.quiet, State.says, State.andthen, State.unless_stopped, State.on_scripts, Bodies.body_step, Bodies.does_in_body, Bodies.does_plain_by, Bodies.does_word_by, Bodies.runs_body, Calls.Caller, Calls.ByBody, Calls.argument, Calls.call_in_body, Calls.done_by, Calls.evaluated_in_body, Calls.name_in, Calls.number_in, Calls.silent_by, Calls.stored_shared, Causing.does_cause_by, Pending.softint_named, Signals.is_mask, Signals.is_task, Signals.does_signal_by, Interrupts.runs_server, Interrupts.server_at, Interrupts.softint_at}
+use Rattle.execmodel.specs.{State.Timer as Clock, State.Bodies, State.Call, State.Scripts, State.State, State.quiet, State.says, State.andthen, State.unless_stopped, State.on_scripts, Bodies.body_step, Bodies.does_in_body, Bodies.does_plain_by, Bodies.does_word_by, Bodies.runs_body, Calls.Caller, Calls.ByBody, Calls.argument, Calls.call_in_body, Calls.done_by, Calls.evaluated_in_body, Calls.name_in, Calls.argument_number, Calls.silent_by, Calls.stored_shared, Causing.does_cause_by, Pending.softint_named, Signals.is_mask, Signals.is_task, Signals.does_signal_by, Interrupts.runs_server, Interrupts.server_at, Interrupts.softint_at}
 use Rattle.execsim.specs.{declared.bodies.Body.Body, Actions.caused, Actions.does_at_place, Actions.softint_body, Agreement.Seen, Agreement.Agrees, Agreement.Follows, Agreement.Quietly, Views.code_of_body}
 use Rattle.execsim.proofs.Following.{andthen-assoc, andthen-quiet, andthen-second, follows_as, follows_known, follows_nothing, quietly_as, quietly_moves, follows_says, follows_then, guarded_going, moves_scripts, reads_scripts}
 use Rattle.execsim.proofs.{Caused.caused_done, Caused.one_only, Keeping.body_keeps, Signalling.signal_sent}
@@ -102,8 +102,8 @@ pub signalled_pair : {H : Hearing} {m n : Seen} {a b : H.Told} (name : List ℕ)
     → H.hears a b ((trace.Call name (codes "Signal") (Value other ∷ Value mask ∷ []) trace.Done) ∷ [])
     → n ≡ record m { schedule = signalled by_priority (other - 1) mask m.schedule } → Follows H (does_in_body name call) m n a b
 signalled_pair {H} {m} {n} {a} {b} name call other mask is pair known masked puts moved =
-    let first : argument 0 call ≡ other = ap (λ (l : List trace.Argument). number_in (slice_get l 0)) pair in
-    let second : argument 1 call ≡ mask = ap (λ (l : List trace.Argument). number_in (slice_get l 1)) pair in
+    let first : argument 0 call ≡ other = ap (λ (l : List trace.Argument). argument_number (slice_get l 0)) pair in
+    let second : argument 1 call ≡ mask = ap (λ (l : List trace.Argument). argument_number (slice_get l 1)) pair in
     signalled_as name call is (ap (λ x. is_task x m.scripts) first ∙ known) (ap is_mask second ∙ masked)
     (subst (λ (l : List trace.Argument). H.hears a b ((trace.Call name (codes "Signal") l trace.Done) ∷ [])) (sym pair) puts)
     (moved ∙ ap (λ x. record m { schedule = signalled by_priority (x - 1) mask m.schedule }) (sym first)

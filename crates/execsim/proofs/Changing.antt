@@ -7,7 +7,7 @@ use Rattle.script.specs.declared.variable.Variable.TheVariants.{Private, Shared}
 use Rattle.script.specs.{declared.command.Argument.Argument, declared.command.Command.Command, Commands.ArgumentData, Commands.CommandData, Commands.argument_view, Commands.command_view, Words.word_text, declared.variable.Variable.Variable, declared.word.Word.TheVariants.Plain}
 use Rattle.script.specs.declared.word.plain.PlainWord.TheVariants as word
 use Rattle.scheduler.specs.Schedule.{name_of}
-use Rattle.execmodel.specs.{State.Call, State.Scripts, State.State, State.program_of, Calls.argument, Calls.call_of, Calls.done, Calls.evaluated, Calls.goes_on, Calls.next_call, Calls.number_in, Calls.silent, Calls.stored, Plain.does_set, Plain.does_add, Plain.does_sub, Plain.does_and, Plain.does_or, Plain.jumps, Plain.does_jump, Plain.does_jump_zero, Plain.does_jump_not_zero, Plain.does_print, Step.call_step, Step.does, Step.does_word, Step.task_step}
+use Rattle.execmodel.specs.{State.Call, State.Scripts, State.State, State.program_of, Calls.argument, Calls.call_of, Calls.done, Calls.evaluated, Calls.goes_on, Calls.next_call, Calls.argument_number, Calls.silent, Calls.stored, Plain.does_set, Plain.does_add, Plain.does_sub, Plain.does_and, Plain.does_or, Plain.jumps, Plain.does_jump, Plain.does_jump_zero, Plain.does_jump_not_zero, Plain.does_print, Step.call_step, Step.does, Step.does_word, Step.task_step}
 use Rattle.execsim.specs.{Changes.PutsPrint, Changes.changes, Agreement.Seen, Agreement.Follows, Agreement.Quietly, Agreement.line_seen, declared.change.Change.Change}
 use Rattle.execsim.proofs.{Calling.map-map_as, Calling.next-command, Caused.one_only, Endings.follows_done, Following.moves_scripts, Following.follows_as, Following.quietly_as, Following.quietly_moves, Following.reads_scripts, Stepping.task_step_as}
 use Rattle.exectrace.specs.Hearing.{Hearing}
@@ -25,19 +25,19 @@ next_changes t scripts command place (Some change) kept here behind is = λ s.
 -- the number at an argument of a command, if the arguments have these values
 module _ (value : ArgumentData → trace.Argument) (k : ℕ) (command : Command) where
   pub number_there : (found : Argument) (n : ℕ) → slice_get (take command.count command.arguments) k ≡ Some found
-      → ((name : List ℕ) → n ≡ number_in (Some (value (argument_view name found))))
-      → n ≡ number_in (slice_get (map value (command_view command).arguments) k)
+      → ((name : List ℕ) → n ≡ argument_number (Some (value (argument_view name found))))
+      → n ≡ argument_number (slice_get (map value (command_view command).arguments) k)
   number_there found n at is =
       let view : Argument → ArgumentData = argument_view command.name.bytes in
       let all : List Argument = take command.count command.arguments in
-      is command.name.bytes ∙ sym (ap number_in (slice_get-map value (map view all) k
+      is command.name.bytes ∙ sym (ap argument_number (slice_get-map value (map view all) k
       ∙ ap (option_map value) (slice_get-map view all k ∙ ap (option_map view) at)))
 
-  pub number_past : slice_get (take command.count command.arguments) k ≡ None → 0 ≡ number_in (slice_get (map value (command_view command).arguments) k)
+  pub number_past : slice_get (take command.count command.arguments) k ≡ None → 0 ≡ argument_number (slice_get (map value (command_view command).arguments) k)
   number_past at =
       let view : Argument → ArgumentData = argument_view command.name.bytes in
       let all : List Argument = take command.count command.arguments in
-      sym (ap number_in (slice_get-map value (map view all) k
+      sym (ap argument_number (slice_get-map value (map view all) k
       ∙ ap (option_map value) (slice_get-map view all k ∙ ap (option_map view) at)))
 
 -- a call of a plain word, by the numbers at its arguments

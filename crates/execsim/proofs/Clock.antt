@@ -4,12 +4,12 @@ use Rattle.std.proofs.lemmas.{List.Sums.sum_by-cons, List.Sums.sum_by_more_le, N
 use Rattle.execlist.specs.Disciplines.{by_arrival}
 use Rattle.exectrace.specs.{declared.sinks.SinkState.TheVariants.Good}
 use Rattle.script.specs.declared.event.Event.TheVariants.{Run, Tick, Irq}
-use Rattle.script.specs.{Events.ticks as ticks_of, declared.event.Event.Event, declared.word.Word.Word}
+use Rattle.script.specs.{Events.event_ticks, declared.event.Event.Event, declared.word.Word.Word}
 use Rattle.script.specs.declared.word.Word.TheVariants as word
 use Rattle.softint.specs.{declared.source.Source.Source, declared.source.Source.TheVariants.Vertb}
 use Rattle.scheduler.specs.{declared.Switch.Switch as Choice, Dispatch.switch_of, Dispatch.rescheduled}
 use Rattle.scheduler.specs.declared.Switch.TheVariants as switch
-use Rattle.execmodel.specs.{State.Bodies, State.Call, State.Mark, State.Memory, State.State, State.Outcome, State.Timer as Clock, State.andthen, State.quiet, State.on_memory, State.on_schedule, State.on_timer, Keeping.clock_alone, Pending.source_named, Step.ends, Step.switches, Step.announced, Step.steps, Step.request, Step.tick, Step.ticks, Step.starts, Step.event, Step.events}
+use Rattle.execmodel.specs.{State.Bodies, State.Call, State.Mark, State.Memory, State.State, State.Outcome, State.Timer as Clock, State.andthen, State.quiet, State.on_memory, State.on_schedule, State.on_timer, Keeping.clock_alone, Step.ends, Step.switches, Step.announced, Step.steps, Step.request, Step.tick, Step.ticks, Step.starts, Step.event, Step.events}
 use Rattle.timerdev.specs.Timing.{ticked}
 use Rattle.execmodel.proofs.{Itself.does_itself, Itself.word_itself, Itself.word_keeps, Stretches.HoldsOfEach, Stretches.HoldsOfInterrupts, Stretches.of_request, Stretches.of_starts, Stretches.of_steps}
 use Rattle.execsim.specs.{Agreement.Seen, Agreement.Agrees, Agreement.FollowsWhileGood, Reached.IsReached, Reached.after_start, Time.HasTimeFor, Time.IsInTime}
@@ -119,18 +119,18 @@ ticks_gain (suc n) s =
     subst (λ (k : ℕ). Gains k s (tick (ticks n s).state).state) all
     (gains_then n 1 s (ticks n s).state (tick (ticks n s).state).state (ticks_gain n s) (tick_gains (ticks n s).state))
 
-pub event_gains : (e : Event) (s : State) → Gains (ticks_of e) s (event e s).state
+pub event_gains : (e : Event) (s : State) → Gains (event_ticks e) s (event e s).state
 unfolding event
 event_gains (Run n) s = steps_gain n s
 event_gains (Tick n) s = ticks_gain n s
-event_gains (Irq name) s = request_gains (source_named name) s
+event_gains (Irq asks) s = request_gains asks s
 
-events_gain : (list : List Event) (s : State) → Gains (sum_by ticks_of list) s (events list s).state
+events_gain : (list : List Event) (s : State) → Gains (sum_by event_ticks list) s (events list s).state
 unfolding events andthen
 events_gain [] s = gains_none s s refl
 events_gain (e ∷ rest) s =
-    subst (λ (k : ℕ). Gains k s (events rest (event e s).state).state) (sym (sum_by-cons ticks_of e rest))
-    (gains_then (ticks_of e) (sum_by ticks_of rest) s (event e s).state (events rest (event e s).state).state (event_gains e s)
+    subst (λ (k : ℕ). Gains k s (events rest (event e s).state).state) (sym (sum_by-cons event_ticks e rest))
+    (gains_then (event_ticks e) (sum_by event_ticks rest) s (event e s).state (events rest (event e s).state).state (event_gains e s)
     (events_gain rest (event e s).state))
 
 -- ---- how much time is left
@@ -172,10 +172,10 @@ pub time_for_tick : {H : Hearing} {m n : Seen} {a b : H.Told} (i many : ℕ) →
 time_for_tick i many within = time_left i 1 many (omega (arith, within)) (ticks_gain i) (ticks_reached i)
 
 -- after some events of a list there is time for the next one
-pub time_for_event : {H : Hearing} {m n : Seen} {a b : H.Told} (list : List Event) (k : ℕ) (d : Event) → k < length list → (H.good a ≡ true → IsInTime (sum_by ticks_of list) m)
-    → FollowsWhileGood H (events (take k list)) m n a b → H.good b ≡ true → IsInTime (ticks_of (get_or list k d)) n
-time_for_event list k d within = time_left (sum_by ticks_of (take k list)) (ticks_of (get_or list k d)) (sum_by ticks_of list)
-    (sum_by_more_le ticks_of list k d within) (events_gain (take k list)) (events_reached (take k list))
+pub time_for_event : {H : Hearing} {m n : Seen} {a b : H.Told} (list : List Event) (k : ℕ) (d : Event) → k < length list → (H.good a ≡ true → IsInTime (sum_by event_ticks list) m)
+    → FollowsWhileGood H (events (take k list)) m n a b → H.good b ≡ true → IsInTime (event_ticks (get_or list k d)) n
+time_for_event list k d within = time_left (sum_by event_ticks (take k list)) (event_ticks (get_or list k d)) (sum_by event_ticks list)
+    (sum_by_more_le event_ticks list k d within) (events_gain (take k list)) (events_reached (take k list))
 
 -- the start takes no time
 pub time_from_start : {H : Hearing} {m n : Seen} {a b : H.Told} (many : ℕ) → (H.good a ≡ true → IsInTime many m) → FollowsWhileGood H starts m n a b → H.good b ≡ true → IsInTime many n

@@ -4,7 +4,7 @@ use Rattle.exectrace.specs.Trace.{Done, Answers, Waits}
 use Rattle.exectrace.specs.Trace as trace
 use Rattle.script.specs.{Alerts.alert_text, Words.word_text}
 use Rattle.scheduler.specs.Schedule.{name_of}
-use Rattle.execmodel.specs.{State.Call, State.State, Calls.stored, Calls.goes_on, Calls.keeps, Calls.line_of, Calls.done, Calls.answered, Calls.waiting, Calls.silent, Calls.alerted}
+use Rattle.execmodel.specs.{State.Call, State.State, Calls.stored, Calls.goes_on, Calls.keeps, Calls.line_of_call, Calls.done, Calls.answered, Calls.waiting, Calls.silent, Calls.alerted}
 use Rattle.execsim.specs.Agreement.{Seen, Agrees, Follows, Quietly, line_seen}
 use Rattle.execsim.proofs.Following.{reads_schedule, moves_scripts, moves_stopped, follows_saying, quietly_moves}
 use Rattle.exectrace.specs.Hearing.{Hearing}
@@ -13,7 +13,7 @@ use Rattle.script.specs.declared.alert.Alert.{Alert}
 name_same : {m : Seen} (t : ℕ) (s : State) → Agrees m s → name_of s.schedule t ≡ name_of m.schedule t
 name_same t s a = reads_schedule (λ y. name_of y t) (λ y. refl) refl s a
 
-line_same : {m : Seen} (t : ℕ) (call : Call) (outcome : trace.Outcome) (s : State) → Agrees m s → line_of t call outcome s ≡ line_seen t call outcome m
+line_same : {m : Seen} (t : ℕ) (call : Call) (outcome : trace.CallEnd) (s : State) → Agrees m s → line_of_call t call outcome s ≡ line_seen t call outcome m
 line_same t call outcome s a = ap (λ name. trace.Call name (word_text call.word) call.arguments outcome) (name_same t s a)
 
 pub follows_done : {H : Hearing} {m n : Seen} {a b : H.Told} (t : ℕ) (call : Call) → n ≡ record m { scripts = goes_on t call.next m.scripts }

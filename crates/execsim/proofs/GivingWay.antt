@@ -1,7 +1,7 @@
 -- How the machine follows if libraries are expunged under low memory to a block: the order of the public ports is of no account.
 use Rattle.std.proofs.Common.{◌≡◌, ℕ, Bool, true, false, cond, List, [], ◌∷◌, Option, None, Some, refl, ap, ◌∙◌, ◌&&◌, is_some, length, nat_eq, not}
 use Rattle.std.specs.List.{range_with_len}
-use Rattle.execmodel.specs.{State.Memory, State.Object, State.on_heap, Places.freed, Places.place_for, Objects.is_allowed, Loaded.base_of, Loaded.count_of, Loaded.removed, Loaded.with_library, GivingWay.after_asking, GivingWay.after_asking_for_object, GivingWay.asked_each, GivingWay.asked_one, GivingWay.gives_way, GivingWay.gives_way_at}
+use Rattle.execmodel.specs.{State.Memory, State.Object, State.on_heap, Places.freed, Places.place_for, Objects.is_allowed, Loaded.base_of, Loaded.count_of, Loaded.after_expunge, Loaded.with_library, GivingWay.after_asking, GivingWay.after_asking_for_object, GivingWay.asked_each, GivingWay.asked_one, GivingWay.gives_way, GivingWay.gives_way_at}
 use Rattle.execlib.specs.Libraries.{public_memory}
 use Rattle.execsim.specs.Agreement.{queues_in_order}
 
@@ -12,8 +12,8 @@ pub freed_or-in_order : (leaves : Bool) (base count : ℕ) (delayed : Bool) (y :
 freed_or-in_order true base count delayed y = refl
 freed_or-in_order false base count delayed y = refl
 
-pub removed-in_order : (base : ℕ) (y : Memory) → removed base (queues_in_order y) ≡ queues_in_order (removed base y)
-unfolding removed
+pub removed-in_order : (base : ℕ) (y : Memory) → after_expunge base (queues_in_order y) ≡ queues_in_order (after_expunge base y)
+unfolding after_expunge
 removed-in_order base y = freed_or-in_order (nat_eq (count_of base y.heap) 0) base (count_of base y.heap) true y
 
 gives_way_at-in_order : (base : Option ℕ) (y : Memory) → gives_way_at base (queues_in_order y) ≡ queues_in_order (gives_way_at base y)

@@ -7,7 +7,7 @@ use Rattle.script.specs.declared.word.plain.PlainWord.TheVariants as plain
 use Rattle.script.specs.declared.word.task_signals.SignalWord.TheVariants as signals
 use Rattle.script.specs.declared.word.ports.PortWord.TheVariants as ports
 use Rattle.script.specs.declared.word.interrupts.InterruptWord.TheVariants as interrupts
-use Rattle.msgport.specs.{declared.action.Action.Action, Port.acting}
+use Rattle.msgport.specs.{declared.action.Action.Action, Port.arrival_action}
 use Rattle.msgport.specs.declared.action.Action.TheVariants as action
 use Rattle.execlist.specs.Order.{first}
 use Rattle.execmodel.specs.Requests.{acting_at, answering_port, ended, ends_with, finishes, finishes_all_due, finishes_each, with_reply}
@@ -32,7 +32,7 @@ keeps_performed action.Nothing s = refl
 
 keeps_delivered : (kind port message : ℕ) (s : State) → held (delivered kind port message s) ≡ held s
 unfolding delivered
-keeps_delivered kind port message s = keeps_performed (acting (port_of port s.memory.heap)) (on_memory (on_heap (posted kind port message)) s)
+keeps_delivered kind port message s = keeps_performed (arrival_action (port_of port s.memory.heap)) (on_memory (on_heap (posted kind port message)) s)
 
 keeps_allowed : (name : List ℕ) (call : Call) (effect : State → Outcome) (alert : Option Alert) (s : State) → held (effect s).state ≡ held s
     → held (unless_by alert (ByBody name) call effect s).state ≡ held s

@@ -13,6 +13,7 @@ pub mod Caused
 pub mod Changing
 pub mod Clock
 pub mod Endings
+pub mod Fed
 pub mod Following
 pub mod Forbidding
 pub mod GivingWay

@@ -1,7 +1,7 @@
 -- How the machine follows the words of lists and nodes.
 use Rattle.std.proofs.Common.{◌≡◌, ℕ, [], Bool, false, true, Option, None, Some, List, refl, ap, sym, ◌∙◌, Result, Ok, Err, IfOk, OnOk, OnErr, codes, w32, unwrap_or}
 use Rattle.std.specs.Int.{cast_signed}
-use Rattle.execmodel.specs.{State.Call, State.Heap, State.ListHead, State.Memory, State.Node, State.Object, State.State, State.Outcome, State.on_memory, Calls.Caller, Calls.ByTask, Calls.unless, Calls.unless_by, Calls.argument, Calls.name_argument, Calls.done, Calls.answered, Calls.alerted, Calls.alerted_by, Memory.allocates, Memory.makes_object, Memory.placed, GivingWay.after_asking_for_object, Objects.place_for_object, Deeds.makes, Lists.does_lists, Lists.is_list, Lists.is_node, Lists.list_deed, Lists.list_size, Lists.new_node_alert, Lists.node_size, Tasks.is_priority}
+use Rattle.execmodel.specs.{State.Call, State.Heap, State.ListHead, State.Memory, State.Node, State.Object, State.State, State.Outcome, State.on_memory, Calls.Caller, Calls.ByTask, Calls.unless, Calls.unless_by, Calls.argument, Calls.name_argument, Calls.done, Calls.answered, Calls.alerted, Calls.alerted_by, Memory.allocates_block, Memory.makes_object, Memory.placed, GivingWay.after_asking_for_object, Objects.place_for_object, Deeds.makes, Lists.does_lists, Lists.is_list, Lists.is_node, Lists.list_deed, Lists.list_size, Lists.new_node_alert, Lists.node_size, Tasks.is_priority}
 use Rattle.script.specs.declared.word.lists.ListWord.TheVariants as lists
 use Rattle.execmodel.proofs.Deeds.{making}
 use Rattle.execheap.specs.{declared.refusal.Refusal.Refusal, Refusals.alert_of, Refusals.code_of}
@@ -108,7 +108,7 @@ module _ {H : Hearing} {m n o : Seen} {a b : H.Told} (t : ℕ) (call : Call) whe
       → n ≡ record m { memory = placed size object place m.memory } → Follows H (answered t call (unwrap_or place 0)) n o a b
       → Follows H (makes_object t call kind size object) m o a b
   object_made kind size object place fits is follows = follows_as
-      {g = allocates t call size object place}
+      {g = allocates_block t call size object place}
       (λ s e.
       let same : place_for_object kind size s.memory ≡ place = reads_memory (place_for_object kind size) (room-in_order kind size) (sym fits) s e in
       rw same refl)

@@ -2,7 +2,7 @@
 use Rattle.std.proofs.Common.{◌≡◌, ℕ, Bool, true, false, List, [], Option, None, Some, refl, ap, sym, Result, Ok, Err, IfOk, OnOk, OnErr, if◌then◌else◌, unwrap_or}
 use Rattle.execlist.specs.Disciplines.{by_arrival, by_priority}
 use Rattle.scheduler.specs.{Schedule.Schedule, Schedule.waits_at_semaphore, Dispatch.arrives}
-use Rattle.sigsem.specs.{Semaphores.free_sem, Semaphores.is_open, Semaphores.outcome_for, declared.semaphore.Obtained.Obtained, declared.semaphore.Obtained.TheVariants.Waits}
+use Rattle.sigsem.specs.{Semaphores.free_sem, Semaphores.is_free_for, Semaphores.outcome_for, declared.semaphore.Obtained.Obtained, declared.semaphore.Obtained.TheVariants.Waits}
 use Rattle.execmodel.specs.Semaphores.{attempted, heir, is_semaphore, is_tried_again, obtain_alert, obtained, obtains, passes, release_alert, released, sem_of, semaphore_size}
 use Rattle.execmodel.specs.{State.Call, State.Heap, State.Memory, State.State, State.Outcome, State.Semaphore, State.asked, State.passed, State.on_schedule, State.on_memory, State.on_heap, Calls.unless, Calls.argument, Calls.done, Calls.answered, Calls.waiting, Calls.alerted, Memory.placed, GivingWay.after_asking_for_object, Objects.place_for_object}
 use Rattle.execmodel.specs.Semaphores as model
@@ -87,12 +87,12 @@ module _ {H : Hearing} {m o : Seen} {a b : H.Told} (t : ℕ) (call : Call) where
   -- ---- attempting
 
   pub attempt_made : (x : Memory) (has : Bool) → None ≡ obtain_alert t (argument 0 call) m.memory.heap
-      → has ≡ is_open t (sem_of (argument 0 call) m.memory.heap) → x ≡ on_heap (attempted (argument 0 call) t) m.memory
+      → has ≡ is_free_for t (sem_of (argument 0 call) m.memory.heap) → x ≡ on_heap (attempted (argument 0 call) t) m.memory
       → Follows H (answered t call (if has then 1 else 0)) (record m { memory = x }) o a b
       → Follows H (model.does_attempt_semaphore t call) m o a b
   unfolding model.does_attempt_semaphore
   attempt_made x has says is changed follows =
-      goes_on_as t call (obtain_alert t (argument 0 call)) (λ heap. is_open t (sem_of (argument 0 call) heap))
+      goes_on_as t call (obtain_alert t (argument 0 call)) (λ heap. is_free_for t (sem_of (argument 0 call) heap))
       (λ has. answered t call (if has then 1 else 0)) (attempted (argument 0 call) t) x has says is changed follows
 
   pub attempt_refused : (x : Memory) (why : Refusal) → Some (code_of why) ≡ obtain_alert t (argument 0 call) m.memory.heap → x ≡ m.memory

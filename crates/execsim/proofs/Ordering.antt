@@ -7,7 +7,7 @@ use Rattle.execlist.specs.{Lists.times, Order.order, Order.first, Order.enqueue,
 use Rattle.execlist.proofs.OrderLaws.{order_takes, order_leaves_out, first_of_order, order_reads_keys, order_rekeyed}
 use Rattle.taskq.specs.Tasks.{is_ready, is_live}
 use Rattle.signals.specs.Signals.{after_post}
-use Rattle.scheduler.specs.Schedule.{Schedule, status_of, signals_of, with_priority, with_signals, switch_for, renewed, begins, is_absent, leaves, departs, removed, awaits, is_interrupting_allowed, ticked_for, ticked}
+use Rattle.scheduler.specs.Schedule.{Schedule, status_of, signals_of, with_priority, with_signals, switch_for, renewed, begins, is_absent, leaves, departs, removed, awaits, is_interrupting_allowed, ticked_for, quantum_ticked}
 use Rattle.scheduler.specs.Dispatch.{arrives, switch_of, displaced, after_switch, rescheduled, added, reprioritized, signalled}
 use Rattle.scheduler.specs.{declared.Switch.Switch, declared.Switch.TheVariants.To, declared.Switch.TheVariants.Idle}
 use Rattle.script.specs.File.{SoftintData}
@@ -159,8 +159,8 @@ ticked_for-in_order : (running : Option ℕ) (y : Schedule) → ticked_for runni
 ticked_for-in_order None y = refl
 ticked_for-in_order (Some r) y = refl
 
-pub ticked-in_order : (y : Schedule) → ticked (in_order y) ≡ in_order (ticked y)
-unfolding ticked
+pub ticked-in_order : (y : Schedule) → quantum_ticked (in_order y) ≡ in_order (quantum_ticked y)
+unfolding quantum_ticked
 ticked-in_order y = ticked_for-in_order y.running y
 
 pub counted-in_order : (asks : Source) (y : Schedule) → serving_counted asks (in_order y) ≡ in_order (serving_counted asks y)

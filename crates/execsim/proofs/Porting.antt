@@ -6,7 +6,7 @@ use Rattle.execlist.specs.{Order.first, Disciplines.by_arrival, Disciplines.by_p
 use Rattle.signals.specs.Signals.{grant}
 use Rattle.scheduler.specs.Schedule.{Schedule, signals_of, allocates, clears_and_waits, frees, sets_signals, takes, waits_for}
 use Rattle.scheduler.specs.Dispatch.{signalled}
-use Rattle.msgport.specs.{declared.action.Action.Action, declared.action.PortAction.TheVariants.Cause, Port.acting, Port.new_port, Ports.new_message, Ports.nt_freemsg, Ports.nt_message, Ports.nt_replymsg}
+use Rattle.msgport.specs.{declared.action.Action.Action, declared.action.PortAction.TheVariants.Cause, Port.arrival_action, Port.new_port, Ports.new_message, Ports.nt_freemsg, Ports.nt_message, Ports.nt_replymsg}
 use Rattle.msgport.specs.declared.action.Action.TheVariants as action
 use Rattle.execmodel.specs.Ports.{content_of, is_called, is_message, is_port, is_port_at, messages_of, message_size, port_of, port_or_none, port_size, posted, taken_off, typed}
 use Rattle.execmodel.specs.{State.Call, State.Message, State.MsgPort, State.Memory, State.State, State.Outcome, State.put, State.got, State.leaving, State.on_schedule, State.on_memory, State.on_heap, Calls.Caller, Calls.unless, Calls.argument, Calls.name_argument, Calls.done, Calls.done_by, Calls.answered, Calls.answered_by, Calls.waiting, Calls.alerted, Memory.freed, Memory.placed, GivingWay.after_asking_for_object, Objects.place_for_object, Lists.or_none, Pending.softint_named, Tasks.is_priority}
@@ -233,20 +233,20 @@ performed_done c call act is follows = follows_change (performed_moves act is) f
 
 module _ {H : Hearing} {m o : Seen} {a b : H.Told} (c : Caller) (call : Call) where
   -- a message is put at a port, and what is to be done is done
-  delivers : (kind port message : ℕ) (x : Memory) (act : Action) → act ≡ acting (port_of port m.memory.heap)
+  delivers : (kind port message : ℕ) (x : Memory) (act : Action) → act ≡ arrival_action (port_of port m.memory.heap)
       → x ≡ on_heap (posted kind port message) m.memory → Follows H (performed_or_alerted_by (Ok act) c call) (record m { memory = x }) o a b
       → Follows H (λ s. done_by c call (model.delivered kind port message s)) m o a b
   unfolding model.delivered
   delivers kind port message x act acts changed follows = follows_as
       {g = λ s. done_by c call (model.performed act (on_memory (on_heap (posted kind port message)) s))}
       (λ s e.
-      let same : acting (port_of port s.memory.heap) ≡ act = reads_memory (λ memory. acting (port_of port memory.heap)) (λ y. refl) (sym acts) s e in
+      let same : arrival_action (port_of port s.memory.heap) ≡ act = reads_memory (λ memory. arrival_action (port_of port memory.heap)) (λ y. refl) (sym acts) s e in
       rw same refl)
       (follows_change (moves_memory (on_heap (posted kind port message)) (on_heap (posted kind port message)) (λ y. refl)
       (ap (λ y. record m { memory = y }) changed)) follows)
 
   pub put_tried : (x : Memory) (result : Result Action Refusal) → alert_of result ≡ model.put_alert (argument 0 call) (argument 1 call) m.memory.heap
-      → IfOk result (λ act. act ≡ acting (port_of (argument 0 call) m.memory.heap))
+      → IfOk result (λ act. act ≡ arrival_action (port_of (argument 0 call) m.memory.heap))
       → OnOk result (x ≡ on_heap (posted nt_message (argument 0 call) (argument 1 call)) m.memory) → OnErr result (x ≡ m.memory)
       → Follows H (performed_or_alerted_by result c call) (record m { memory = x }) o a b → Follows H (model.does_put_msg_by c call) m o a b
   put_tried x (Ok act) says acts changed kept follows =
@@ -259,7 +259,7 @@ module _ {H : Hearing} {m o : Seen} {a b : H.Told} (c : Caller) (call : Call) wh
 
   -- a message with that reply port, or with none, is replied
   replies : (reply message : ℕ) (x : Memory) (act : Action) (none : Bool) → nat_eq reply 0 ≡ none
-      → act ≡ cond none action.Nothing (acting (port_of reply m.memory.heap))
+      → act ≡ cond none action.Nothing (arrival_action (port_of reply m.memory.heap))
       → x ≡ record m.memory { heap = cond none (typed nt_freemsg message m.memory.heap) (posted nt_replymsg reply message m.memory.heap) }
       → Follows H (performed_or_alerted_by (Ok act) c call) (record m { memory = x }) o a b → Follows H (model.replied_by reply c call message) m o a b
   replies reply message x act true none acts changed follows = follows_as

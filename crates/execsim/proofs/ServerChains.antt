@@ -6,7 +6,7 @@ use Rattle.std.specs.List.{range_with_len}
 use Rattle.execlist.specs.{Order.order, Disciplines.pri_at}
 use Rattle.script.specs.File.{ServerData}
 use Rattle.softint.specs.{declared.interrupt.Server.Server, declared.source.Source.Source, declared.source.Source.TheVariants.Ports, Interrupts.Interrupts, Interrupts.chain, Interrupts.serves, Sources.is_source}
-use Rattle.execmodel.specs.{State.Bodies, Interrupts.chain_of, Interrupts.no_server, Interrupts.server_pri, Interrupts.servers_of, Pending.source_named}
+use Rattle.execmodel.specs.{State.Bodies, Interrupts.chain_of, Interrupts.no_server, Interrupts.server_pri, Interrupts.servers_for}
 use Rattle.execsim.specs.Views.{IsFor, interrupting}
 use Rattle.execsim.proofs.Calling.{map-map_as}
 use Rattle.execmodel.proofs.Chains.{chain_is_order}
@@ -17,18 +17,18 @@ filter_same test other same (x ∷ xs) =
     ap (λ (b : Bool). cond b (x ∷ filter test xs) (filter test xs)) (same x) ∙ ap (λ (l : List ℕ). cond (other x) (x ∷ l) l) (filter_same test other same xs)
 
 -- the source of a server by its number
-source_at : (servers : List ServerData) (k : ℕ) → get_or (map (λ (v : Server). v.source) (map interrupting servers)) k Ports ≡ source_named (get_or servers k no_server).source
+source_at : (servers : List ServerData) (k : ℕ) → get_or (map (λ (v : Server). v.source) (map interrupting servers)) k Ports ≡ (get_or servers k no_server).source
 source_at servers k =
     ap (λ (l : List Source). get_or l k Ports) (sym (map-map_as (λ (v : Server). v.source) interrupting servers))
-    ∙ default_map (λ (s : ServerData). source_named s.source) servers k no_server
+    ∙ default_map (λ (s : ServerData). s.source) servers k no_server
 
-chain_shown : (asks : Source) (servers : List ServerData) → chain asks (map interrupting servers) ≡ order (server_pri servers) (servers_of asks servers)
+chain_shown : (asks : Source) (servers : List ServerData) → chain asks (map interrupting servers) ≡ order (server_pri servers) (servers_for asks servers)
 chain_shown asks servers =
     ap (λ (pris : List ℤ). order (pri_at pris) (filter (serves asks (map interrupting servers)) (range_with_len 0 (length (map interrupting servers)))))
     (sym (map-map_as (λ (v : Server). v.pri) interrupting servers))
     ∙ ap (λ (n : ℕ). order (server_pri servers) (filter (serves asks (map interrupting servers)) (range_with_len 0 n))) (length-map servers interrupting)
     ∙ ap (order (server_pri servers)) (filter_same (serves asks (map interrupting servers))
-    (λ k. is_source (source_named (get_or servers k no_server).source) asks)
+    (λ k. is_source (get_or servers k no_server).source asks)
     (λ k. ap (λ (source : Source). is_source source asks) (source_at servers k)) (range_with_len 0 (length servers)))
 
 pub chain_same : (asks : Source) (m : Interrupts) (bodies : Bodies) → IsFor bodies m → chain asks m.servers ≡ chain_of asks bodies.servers

@@ -8,8 +8,8 @@ use Rattle.script.specs.File.{ServerData}
 use Rattle.scheduler.specs.Schedule.{Schedule}
 use Rattle.softint.specs.{declared.source.Source.Source, Sources.highest, Interrupts.Interrupts}
 use Rattle.softint.specs.Interrupts as ints
-use Rattle.exectrace.specs.Heard.{text_of_source}
-use Rattle.execmodel.specs.Interrupts.{by_choice, chain_of, serving_counted, finishes_for, interrupts, runs_chain, runs_server, server_at, server_pri, servers_of, serves, servings}
+use Rattle.softint.specs.Sources.{source_text}
+use Rattle.execmodel.specs.Interrupts.{by_choice, chain_of, serving_counted, finishes_for, interrupts, runs_chain, runs_server, server_at, server_pri, servers_for, serves, servings}
 use Rattle.execmodel.specs.{State.Bodies, State.Pending, State.Timer as Clock, State.State, State.Outcome, State.quiet, State.says, State.andthen, State.unless_stopped, State.on_pending, State.on_schedule, Pending.allows_interrupts, Pending.is_caused, Pending.next_softint, Pending.next_source, Pending.softint_pri, Pending.with_caused, Pending.with_latch_of}
 use Rattle.execsim.specs.{Actions.served, Actions.softint_seen, Actions.source_seen, Agreement.Seen, Agreement.Agrees, Agreement.Follows, Agreement.Moves, Views.IsFor}
 use Rattle.execsim.proofs.Following.{follows_as, follows_change, follows_known, follows_nothing, follows_says, follows_then, guarded_going, guarded_stopped, moves_latch, moves_schedule}
@@ -98,7 +98,7 @@ drop_all (x ∷ xs) (suc n) e = drop_all xs n (omega (arith, e))
 pub chain_ends : (asks : Source) (servers : List ServerData) (n : ℕ) → length servers ≤ n → drop n (chain_of asks servers) ≡ []
 unfolding chain_of
 chain_ends asks servers n all =
-    let within = chain_within (length servers) (server_pri servers) (servers_of asks servers) in
+    let within = chain_within (length servers) (server_pri servers) (servers_for asks servers) in
     drop_all (chain_of asks servers) n (omega (arith, all, within))
 
 -- What the machine of a chain does from a place on.
@@ -200,13 +200,13 @@ chain_done {m = m} {n = n} {b = b} asks place all known rest = follows_known (λ
 -- ---- serving
 
 pub serves_with : {H : Hearing} {m n o p : Seen} {a b c d : H.Told} (asks : Source) → n ≡ record m { schedule = serving_counted asks m.schedule }
-    → H.hears a b ((Serve (text_of_source asks)) ∷ []) → Follows H (finishes_for asks) n o b c
+    → H.hears a b ((Serve (source_text asks)) ∷ []) → Follows H (finishes_for asks) n o b c
     → Follows H (runs_chain (chain_of asks o.bodies.servers)) o p c d → Follows H (served asks) m p a d
 serves_with {H} {m} {n} {o} {p} {a} {b} {c} {d} asks is puts finishes follows =
     follows_known (λ s e. follows_as
-    {g = λ s. andthen (says (Serve (text_of_source asks))) (andthen (finishes_for asks) (runs_chain (chain_of asks o.bodies.servers)))
+    {g = λ s. andthen (says (Serve (source_text asks))) (andthen (finishes_for asks) (runs_chain (chain_of asks o.bodies.servers)))
     (on_schedule (serving_counted asks) s)}
-    (λ s e. ap (λ (x : Bodies). andthen (says (Serve (text_of_source asks))) (andthen (finishes_for asks) (runs_chain (chain_of asks x.servers)))
+    (λ s e. ap (λ (x : Bodies). andthen (says (Serve (source_text asks))) (andthen (finishes_for asks) (runs_chain (chain_of asks x.servers)))
     (on_schedule (serving_counted asks) s)) (sym (same_bodies s e)))
     (follows_change counts (follows_then (follows_says _ puts) (follows_then finishes follows))))
   where

@@ -10,7 +10,7 @@ use Rattle.msgport.specs.declared.action.Action.{Action}
 use Rattle.msgport.specs.declared.action.Action.TheVariants as action
 use Rattle.softint.specs.{Sources.highest, declared.source.Source.Source}
 use Rattle.script.specs.Commands.{CommandData}
-use Rattle.exectrace.specs.Heard.{text_of_source}
+use Rattle.softint.specs.Sources.{source_text}
 use Rattle.execmodel.specs.{State.Call, State.Pending, State.State, State.Outcome, State.quiet, State.says, State.andthen, State.unless_stopped, State.on_schedule, Bodies.body_step, Bodies.runs_body, Calls.Caller, Calls.ByTask, Calls.done, Calls.done_by, Calls.answered, Calls.alerted, Calls.alerted_by, Requests.finishes_until, Interrupts.chain_of, Interrupts.serving_counted, Interrupts.finishes_for, Interrupts.runs_chain, Interrupts.softint_at, Pending.allows_interrupts, Pending.softint_next, Pending.caused_no_more, Pending.with_caused, Pending.with_latch_of, Semaphores.obtains, Semaphores.passes, Step.task_step}
 use Rattle.execmodel.specs.Ports as model
 use Rattle.sigsem.specs.declared.semaphore.Obtained.{Obtained}
@@ -101,7 +101,7 @@ without_request (Some asks) pending = with_latch_of asks false pending
 -- a source is served, whose latch is cleared
 abbrev pub served : Source → State → Outcome
 served asks s =
-    andthen (says (Serve (text_of_source asks))) (andthen (finishes_for asks) (runs_chain (chain_of asks s.bodies.servers)))
+    andthen (says (Serve (source_text asks))) (andthen (finishes_for asks) (runs_chain (chain_of asks s.bodies.servers)))
     (on_schedule (serving_counted asks) s)
 
 -- a command of the body of that name is done, if there is one, unless an alert has stopped the machine

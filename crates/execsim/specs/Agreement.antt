@@ -40,7 +40,7 @@ pub record Agrees (seen : Seen) (s : State) : Type 0 where
   pub stopped : seen.stopped ≡ s.stopped
 
 -- the line of a call of task t, by what the machine shows
-abbrev pub line_seen : ℕ → Call → trace.Outcome → Seen → trace.TraceLine
+abbrev pub line_seen : ℕ → Call → trace.CallEnd → Seen → trace.TraceLine
 line_seen t call outcome seen = trace.Call (name_of seen.schedule t) (word_text call.word) call.arguments outcome
 
 -- From any state that it agrees with, the machine goes on as the action says, and who listens hears what happens.

@@ -1,7 +1,7 @@
 -- What the readers of a machine answer, by what its layers show.
 use Rattle.std.specs.Prelude.{ℕ, nat_lt, ◌||◌, if◌then◌else◌, is_some, length, Option, None, Some}
 use Rattle.scheduler.specs.{Schedule.task_count, Status.status_seen}
-use Rattle.execmodel.specs.State.{program_of}
+use Rattle.execmodel.specs.{Feeding.without_call, State.program_of}
 use Rattle.execsim.specs.{declared.machine.readers.MachineView.MachineView, declared.machine.readers.TaskView.TaskView, Actions.softint_seen, Agreement.Seen}
 
 -- what is seen of task t
@@ -25,6 +25,10 @@ task_seen t seen = if nat_lt t (length seen.scripts.programs) then Some (task_vi
 -- the task whose command or end the next step is
 abbrev pub actor_seen : Seen → Option ℕ
 actor_seen seen = if seen.stopped || is_some (softint_seen seen) then None else seen.schedule.running
+
+-- the task that the next step finds at the end of its body
+abbrev pub end_seen : Seen → Option ℕ
+end_seen seen = if seen.stopped || is_some (softint_seen seen) then None else without_call seen.schedule.running seen.scripts
 
 -- what is seen of the machine beside its tasks and its memory
 abbrev pub machine_view : Seen → MachineView

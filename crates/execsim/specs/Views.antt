@@ -4,7 +4,7 @@ use Rattle.exectrace.specs.Short.{short_argument}
 use Rattle.script.specs.{Commands.CommandData, Commands.command_view, File.SoftintData, File.ServerData}
 use Rattle.softint.specs.{declared.interrupt.Server.Server as Interrupting, Interrupts.Interrupts}
 use Rattle.execmodel.specs.State as model
-use Rattle.execmodel.specs.{Calls.ByTask, Calls.ByBody, Interrupts.softint_at, Interrupts.server_at, Pending.source_named}
+use Rattle.execmodel.specs.{Calls.ByTask, Calls.ByBody, Interrupts.softint_at, Interrupts.server_at}
 use Rattle.execmodel.specs.Calls as calls
 use Rattle.execsim.specs.{declared.bodies.Softint.Softint, declared.bodies.Server.Server, declared.bodies.Body.Body, declared.call.Call.Call, declared.call.Caller.Caller}
 use Rattle.execsim.specs.declared.bodies.Body.TheVariants as body
@@ -43,7 +43,7 @@ server_view s = record { name = s.name.bytes; source = s.source; pri = s.pri; cl
 
 -- a server as calls on interrupts see it: by its source and its priority
 abbrev pub interrupting : ServerData → Interrupting
-interrupting s = record { source = source_named s.source; pri = s.pri }
+interrupting s = record { source = s.source; pri = s.pri }
 
 -- the interrupts are those of the bodies
 pub record IsFor (bodies : model.Bodies) (ints : Interrupts) : Type 0 where

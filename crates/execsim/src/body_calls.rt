@@ -6,7 +6,7 @@ ghost use Rattle.exectrace.specs.{Short.short_argument, Shown.shown_outcome, Tra
 ghost use Rattle.exectrace.specs.Trace as trace;
 ghost use Rattle.script.specs.{Words.word_text, Commands.argument_view, Commands.command_view};
 ghost use Rattle.scheduler.specs.Dispatch.{signalled};
-ghost use Rattle.execmodel.specs.{Bodies.does_in_body, Bodies.does_interrupts_by, Bodies.does_plain_by, Bodies.does_ports_by, Bodies.does_signals_by, Bodies.runs_body, State.Scripts, State.State, Calls.ByBody, Calls.alerted_by, Calls.answered_by, Calls.argument, Calls.call_in_body, Calls.done_by, Calls.evaluated_in_body, Calls.number_in, Calls.silent_by, Calls.stored_shared};
+ghost use Rattle.execmodel.specs.{Bodies.does_in_body, Bodies.does_interrupts_by, Bodies.does_plain_by, Bodies.does_ports_by, Bodies.does_signals_by, Bodies.runs_body, State.Scripts, State.State, Calls.ByBody, Calls.alerted_by, Calls.answered_by, Calls.argument, Calls.call_in_body, Calls.done_by, Calls.evaluated_in_body, Calls.argument_number, Calls.silent_by, Calls.stored_shared};
 ghost use Rattle.execmodel.specs.State as model;
 ghost use Rattle.execmodel.specs.Calls as calls;
 ghost use Rattle.execsim.specs.{Agreement.Quietly, Actions.caused, Actions.does_at_place, Agreement.Follows, Agreement.Seen, Callers.HasTask, Views.call_view, Views.code_of_body};
@@ -135,7 +135,7 @@ impl<S: ListSpace> Kernel<S> {
     /// The number that an argument is in a body; 0 for a name.
     #[inline(always)]
     fn number_in_body(&self, argument: Argument) -> u32
-        ensures { (name : List ℕ) → result ≡ number_in (Some (evaluated_in_body self.now.scripts (argument_view name argument))) }
+        ensures { (name : List ℕ) → result ≡ argument_number (Some (evaluated_in_body self.now.scripts (argument_view name argument))) }
     {
         match self.evaluate_in_body(argument) {
             ShortArg::Value(n) => n,

@@ -7,12 +7,11 @@ ghost use Rattle.softint.specs.{Interrupts.IsPriority, Sources.no_latches};
 ghost use Rattle.timerdev.specs.Timing.{new_timer};
 ghost use Rattle.execlib.specs.Libraries.{description_of};
 ghost use Rattle.execheap.specs.Numbered.{shown_library};
-ghost use Rattle.execmodel.specs.State.{State, booted, begun};
+ghost use Rattle.execmodel.specs.State.{State, booted, new_program};
 ghost use Rattle.execsim.specs.{Agreement.Agrees, Time.HasTimeFor, Views.IsFor, Views.interrupting};
 
 use crate::bodies::Bodies;
 use crate::code::copied_code;
-use crate::interrupts::source_named;
 use crate::kernel::Kernel;
 use crate::program::Program;
 use execheap::{Heap, LibInit};
@@ -71,7 +70,7 @@ fn sched_of<S: ListSpace>(
 
 /// The program of a task at its first command.
 fn program_of(alloc: Global, task: &TaskRecord) -> Result<Program, AllocError>
-    ensures { IfOk result (λ p. p ≡ begun (task_view task.now)) }
+    ensures { IfOk result (λ p. p ≡ new_program (task_view task.now)) }
 {
     let code = copied_code(alloc, &task.code)?;
     Ok(Program::new(code, task.start))
@@ -79,7 +78,7 @@ fn program_of(alloc: Global, task: &TaskRecord) -> Result<Program, AllocError>
 
 /// The programs of the tasks, in the order of the file.
 fn programs_of(alloc: Global, tasks: &[TaskRecord]) -> Result<Vec<Program>, AllocError>
-    ensures { IfOk result (λ v. v.items ≡ map begun (map task_view tasks.now)) }
+    ensures { IfOk result (λ v. v.items ≡ map new_program (map task_view tasks.now)) }
 {
     let mut programs = Vec::new(alloc);
     for task in tasks {
@@ -96,7 +95,7 @@ fn tasks_of<S: ListSpace>(
 ) -> Result<(Sched<S>, Vec<Program>), AllocError>
     requires few { length tasks.now ≤ 4096 }
     ensures schedule { IfOk result (λ made. made.0 ≡ unstarted (length tasks.now) (map (λ t. t.pri) tasks.now) (map (λ t. t.name.bytes) tasks.now) quantum) }
-    ensures programs { IfOk result (λ made. made.1.items ≡ map begun (map task_view tasks.now)) }
+    ensures programs { IfOk result (λ made. made.1.items ≡ map new_program (map task_view tasks.now)) }
 {
     let sched = sched_of(alloc, tasks, quantum)?;
     let programs = programs_of(alloc, tasks)?;
@@ -123,7 +122,7 @@ fn sources_of(alloc: Global, servers: &[ServerRecord]) -> Result<Vec<Server>, Al
     let mut sources = Vec::new(alloc);
     for server in servers {
         sources.push(Server {
-            source: source_named(server.source),
+            source: server.source,
             pri: server.pri,
         })?;
     }

@@ -2,7 +2,7 @@
 ghost use Rattle.std.specs.Prelude.{◌≡◌, ℕ, List, IfSome, IsTrue, None, Some, false, option_copied, slice_get, take, ◌∷◌, []};
 ghost use Rattle.exectrace.specs.{Trace.Done};
 ghost use Rattle.script.specs.{declared.word.Word.TheVariants.Plain, Commands.argument_view, Commands.command_view};
-ghost use Rattle.execmodel.specs.{State.State, Calls.argument, Calls.call_of, Calls.evaluated, Calls.goes_on, Calls.next_call, Calls.number_in, Calls.stored, Step.call_step, Step.does, Step.task_step};
+ghost use Rattle.execmodel.specs.{State.State, Calls.argument, Calls.call_of, Calls.evaluated, Calls.goes_on, Calls.next_call, Calls.argument_number, Calls.stored, Step.call_step, Step.does, Step.task_step};
 ghost use Rattle.execsim.specs.{Agreement.Quietly, Callers.HasTask, Changes.ChangesScripts, Changes.PutsPrint, Changes.changes, Agreement.Follows, Agreement.line_seen};
 
 use crate::kernel::Kernel;
@@ -35,7 +35,7 @@ impl<S: ListSpace> Kernel<S> {
     #[inline(always)]
     fn number(&self, t: TaskId, argument: Argument) -> u32
         requires { HasTask t self.now }
-        ensures { (name : List ℕ) → result ≡ number_in (Some (evaluated t self.now.scripts (argument_view name argument))) }
+        ensures { (name : List ℕ) → result ≡ argument_number (Some (evaluated t self.now.scripts (argument_view name argument))) }
     {
         match argument {
             Argument::Number(n) => n,

@@ -2,33 +2,20 @@
 //! served (RKM Libraries, Exec Interrupts).
 ghost use Rattle.std.specs.Prelude.{◌≡◌, is_some, true, slice_get, ◌∷◌, []};
 ghost use Rattle.exectrace.specs.Trace.{Serve};
-ghost use Rattle.softint.specs.Sources.{highest};
-ghost use Rattle.exectrace.specs.Heard.{text_of_source};
-ghost use Rattle.execmodel.specs.{Interrupts.chain_of, Interrupts.serving_counted, Interrupts.interrupts, Interrupts.runs_chain, Interrupts.runs_server, Pending.softint_named, Pending.source_named, Pending.with_latch_of};
+ghost use Rattle.softint.specs.Sources.{highest, source_text};
+ghost use Rattle.execmodel.specs.{Interrupts.chain_of, Interrupts.serving_counted, Interrupts.interrupts, Interrupts.runs_chain, Interrupts.runs_server, Pending.softint_named, Pending.with_latch_of};
 ghost use Rattle.execsim.specs.{Actions.caused, Actions.served, Actions.softint_body, Actions.softint_seen, Actions.source_seen, Actions.without_request, Actions.without_softint, Agreement.Follows};
 
 use crate::bodies::Body;
 use crate::kernel::Kernel;
 use execlist::space::ListSpace;
 use exectrace::{Name, Said, Witness};
-use script::Source as NamedSource;
 use softint::caused::IntId;
 use softint::chain::ServerId;
 use softint::source::Source;
 
 /// How many sources there are.
 const SOURCES: u32 = 3;
-
-/// The source of a name of the texts.
-pub fn source_named(name: NamedSource) -> Source
-    ensures { result ≡ source_named name }
-{
-    match name {
-        NamedSource::Ports => Source::Ports,
-        NamedSource::Vertb => Source::Vertb,
-        NamedSource::Exter => Source::Exter,
-    }
-}
 
 impl<S: ListSpace> Kernel<S> {
     // ---- causing and requesting
@@ -151,7 +138,7 @@ impl<S: ListSpace> Kernel<S> {
     /// Says that a source is served.
     #[inline(always)]
     fn say_serve<W: Witness>(&self, source: Source, out: &mut W)
-        ensures { W.hearing.hears (W.told out.old) (W.told out.new) (Serve (text_of_source source) ∷ []) }
+        ensures { W.hearing.hears (W.told out.old) (W.told out.new) (Serve (source_text source) ∷ []) }
     {
         out.hear(&Said::Serve(source));
     }

@@ -1,10 +1,11 @@
 //! The machine as its callers see it: made from a machine file, started once, and given one event after another.
 ghost use Rattle.std.specs.Prelude.{◌≡◌, ◌+◌, ℕ, true, false, sum_by, IfOk, IsOk};
 ghost use Rattle.exectrace.specs.{Sink.Writes, Trace.printed, declared.sinks.SinkState.SinkState};
-ghost use Rattle.script.specs.Events.{ticks as ticks_of};
+ghost use Rattle.script.specs.Events.{event_ticks};
 ghost use Rattle.execmodel.specs.{State.State, State.booted, State.andthen, Step.starts, Step.event, Step.events};
 ghost use Rattle.execsim.specs.{Advancing.Advances, Advancing.Ends, Agreement.Agrees, Headline.Acts, Headline.StaysFailed, Headline.Finishes, Headline.flow_of, Playing.Plays, Reached.QueuesAgree, Time.HasTimeFor};
 
+mod feeding;
 mod queues;
 mod readers;
 mod standing;
@@ -167,10 +168,10 @@ impl<S: ListSpace> Machine<S> {
     /// As those of `start`. After a failed write the rest of the event is not simulated.
     pub fn event<W: Sink>(&mut self, one: Event, out: &mut W) -> Result<Flow, WriteFault>
         requires good { self.old.failed ≡ false → (W.tape out.old).state ≡ SinkState.Good }
-        requires time { self.old.failed ≡ false → HasTimeFor (ticks_of one) self.old.seen }
+        requires time { self.old.failed ≡ false → HasTimeFor (event_ticks one) self.old.seen }
         ensures acts { self.old.failed ≡ false → Acts (event one) self.old self.new (W.tape out.old) (W.tape out.new) result }
         ensures time_left { self.old.failed ≡ false → IsOk result
-            → (ticks : ℕ) → HasTimeFor (ticks_of one + ticks) self.old.seen → HasTimeFor ticks self.new.seen }
+            → (ticks : ℕ) → HasTimeFor (event_ticks one + ticks) self.old.seen → HasTimeFor ticks self.new.seen }
         ensures good { IsOk result → (W.tape out.new).state ≡ SinkState.Good }
         ensures failed { self.old.failed ≡ true → StaysFailed self.old self.new (W.tape out.old) (W.tape out.new) result }
     {
@@ -219,7 +220,7 @@ impl<S: ListSpace> Machine<S> {
     pub fn play<W: Witness>(&mut self, list: &[Event], witness: &mut W) -> Flow
         requires going { self.old.failed ≡ false }
         requires listens { W.hearing.good (W.told witness.old) ≡ true }
-        requires time { HasTimeFor (sum_by ticks_of list.now) self.old.seen }
+        requires time { HasTimeFor (sum_by event_ticks list.now) self.old.seen }
         ensures { Plays W.hearing (andthen starts (events list.now)) self.old self.new (W.told witness.old) (W.told witness.new) result }
     {
         self.rests = false;
@@ -233,7 +234,7 @@ impl<S: ListSpace> Machine<S> {
     pub(crate) fn run<W: Sink>(&mut self, list: &[Event], out: &mut W) -> Result<Flow, WriteFault>
         requires going { self.old.failed ≡ false }
         requires good { (W.tape out.old).state ≡ SinkState.Good }
-        requires time { HasTimeFor (sum_by ticks_of list.now) self.old.seen }
+        requires time { HasTimeFor (sum_by event_ticks list.now) self.old.seen }
         ensures { Acts (andthen starts (events list.now)) self.old self.new (W.tape out.old) (W.tape out.new) result }
     {
         self.rests = false;

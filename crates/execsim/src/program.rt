@@ -1,7 +1,7 @@
 //! What a task executes: its commands, its own variables, and the call that it waits in.
-ghost use Rattle.std.specs.Prelude.{◌≡◌, ◌<◌, ◌≤◌, ◌+◌, map, length, true, Some, None, slice_get, slice_set, slice_index_or, option_copied, option_map};
+ghost use Rattle.std.specs.Prelude.{◌≡◌, ◌<◌, ◌≤◌, ◌+◌, map, length, true, Some, None, slice_get, slice_set, slice_index_or, option_copied, option_map, OnErr, OnOk};
 ghost use Rattle.exectrace.specs.Short.{short_argument};
-ghost use Rattle.execmodel.specs.{Calls.argument, Calls.name_argument, State.begun_with};
+ghost use Rattle.execmodel.specs.{Calls.argument, Calls.name_argument, Feeding.longer, State.begun_with};
 ghost use Rattle.script.specs.Commands.{command_view};
 ghost use Rattle.execsim.specs.Views.{call_view};
 
@@ -9,6 +9,7 @@ use crate::call::Call;
 use crate::code::copy_code;
 use exectrace::{Name, ShortArg};
 use script::{Command, PlainWord, Word};
+use std::alloc::AllocError;
 use std::marker::Model;
 
 /// How many variables of its own a task has.
@@ -131,6 +132,17 @@ impl Program {
         self.waits = false;
         self.starts = starts;
         true
+    }
+
+    /// The body has this command too, at its end. If memory is refused the program stays as it is.
+    ///
+    /// Source: project rule.
+    pub fn feed(&mut self, command: Command) -> Result<(), AllocError>
+        ensures fed { OnOk result (self.new ≡ longer (command_view command) self.old) }
+        ensures kept { OnErr result (self.new ≡ self.old) }
+    {
+        self.code.push(command)?;
+        Ok(())
     }
 
     /// Whether the task starts with the machine.

@@ -3,7 +3,7 @@ ghost use Rattle.std.specs.Prelude.{◌≡◌, [], length, map, nat_eq, true};
 ghost use Rattle.script.specs.Records.{task_view};
 ghost use Rattle.scheduler.specs.Schedule.{task_count, unstarted};
 ghost use Rattle.timerdev.specs.Timing.{new_timer};
-ghost use Rattle.execmodel.specs.State.{begun};
+ghost use Rattle.execmodel.specs.State.{new_program};
 
 use crate::program::Program;
 use execheap::Heap;
@@ -51,7 +51,7 @@ pub(crate) fn reset_sched<S: ListSpace>(
 
 /// Makes the programs those of these tasks, each at its first command, if they have as many commands, and answers whether they have.
 pub(crate) fn reset_programs(programs: &mut Vec<Program>, tasks: &[TaskRecord]) -> bool
-    ensures same { result ≡ true → programs.new.items ≡ map begun (map task_view tasks.now) }
+    ensures same { result ≡ true → programs.new.items ≡ map new_program (map task_view tasks.now) }
     ensures count { length programs.new.items ≡ length programs.old.items }
 {
     if programs.len() != tasks.len() {

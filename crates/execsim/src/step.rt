@@ -1,7 +1,7 @@
 //! Steps and settling: all interleaving comes from the list of events.
 ghost use Rattle.std.specs.Prelude.{◌≡◌, ◌<◌, ◌≤◌, false, is_some, length, sum_by, Some, None, IfSome, IsTrue, if◌then◌else◌, true};
 ghost use Rattle.execlist.specs.Disciplines.{by_priority};
-ghost use Rattle.script.specs.Events.{ticks as ticks_of};
+ghost use Rattle.script.specs.Events.{event_ticks};
 ghost use Rattle.scheduler.specs.{Schedule.IsToOneOf, Dispatch.switch_of, Dispatch.rescheduled, Dispatch.added};
 ghost use Rattle.softint.specs.Sources.{highest};
 ghost use Rattle.execmodel.specs.Step.{announced, switches, settle, does, ends, acts, acting, step, steps, request, tick, ticks, starts, all_added, event, events, task_step};
@@ -9,7 +9,6 @@ ghost use Rattle.execmodel.specs.{State.andthen, State.on_schedule, State.progra
 ghost use Rattle.execsim.specs.{Callers.HasTask, Callers.Runs, Actions.running_task_step, Agreement.Follows, Agreement.FollowsWhileGood, Agreement.Moves, Reached.IsInOrder, Resting.IsSettled, Time.HasTimeFor, Time.IsInTime, Time.IsKnown, Views.call_view};
 
 use crate::call::Call;
-use crate::interrupts::source_named;
 use crate::kernel::Kernel;
 use execlist::space::ListSpace;
 use exectrace::{Said, ShortArg, Witness};
@@ -386,19 +385,19 @@ impl<S: ListSpace> Kernel<S> {
     /// One event.
     #[tactic(auto, unfolding(execmodel::specs::Step::event))]
     pub(crate) fn event<W: Witness>(&mut self, one: Event, out: &mut W)
-        requires { W.hearing.good (W.told out.old) ≡ true → IsInTime (ticks_of one) self.old }
+        requires { W.hearing.good (W.told out.old) ≡ true → IsInTime (event_ticks one) self.old }
         ensures { FollowsWhileGood W.hearing (event one) self.old self.new (W.told out.old) (W.told out.new) }
     {
         match one {
             Event::Run(n) => self.steps(n, out),
             Event::Tick(n) => self.ticks(n, out),
-            Event::Irq(name) => self.request_while_good(source_named(name), out),
+            Event::Irq(source) => self.request_while_good(source, out),
         }
     }
 
     /// One event after another.
     pub(crate) fn events<W: Witness>(&mut self, list: &[Event], out: &mut W)
-        requires { W.hearing.good (W.told out.old) ≡ true → IsInTime (sum_by ticks_of list.now) self.old }
+        requires { W.hearing.good (W.told out.old) ≡ true → IsInTime (sum_by event_ticks list.now) self.old }
         ensures { FollowsWhileGood W.hearing (events list.now) self.old self.new (W.told out.old) (W.told out.new) }
     {
         for one in list {

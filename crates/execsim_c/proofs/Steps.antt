@@ -4,7 +4,7 @@ use Rattle.std.specs.Io.KnownBytes.{Appends}
 use Rattle.std.proofs.lemmas.{List.take_more, List.drop_more, List.Concat.flat_map-append, List.Sums.sum_by-cons}
 use Rattle.exectrace.specs.{Sink.Tape, Trace.TraceLine, Trace.printed, Trace.printed_line}
 use Rattle.exectrace.specs.Putting.{Appends-none, Appends-then}
-use Rattle.script.specs.{Events.ticks as ticks_of, declared.event.Event.Event}
+use Rattle.script.specs.{Events.event_ticks, declared.event.Event.Event}
 use Rattle.execmodel.specs.{State.State, State.Outcome, State.Mark, State.andthen, Step.event, Step.events}
 use Rattle.execmodel.proofs.Moments.{events_more}
 use Rattle.execsim.specs.{Agreement.Seen, Agreement.Agrees, Headline.Shown, Headline.Acts, declared.machine.Flow.Flow}
@@ -65,5 +65,5 @@ does_all list k old new before after past it = subst (λ (l : List Event). Does 
 
 -- the time of what is left
 pub ticks_left : (list : List Event) (k : ℕ) (d : Event) → k < length list
-    → sum_by ticks_of (drop k list) ≡ ticks_of (get_or list k d) + sum_by ticks_of (drop (k + 1) list)
-ticks_left list k d within = ap (sum_by ticks_of) (drop_more list k d within) ∙ sum_by-cons ticks_of (get_or list k d) (drop (k + 1) list)
+    → sum_by event_ticks (drop k list) ≡ event_ticks (get_or list k d) + sum_by event_ticks (drop (k + 1) list)
+ticks_left list k d within = ap (sum_by event_ticks) (drop_more list k d within) ∙ sum_by-cons event_ticks (get_or list k d) (drop (k + 1) list)

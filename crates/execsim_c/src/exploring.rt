@@ -1,6 +1,7 @@
 //! A bounded search: every way in which interrupts can come among the events of a run, and the events of one way.
 ghost use Rattle.std.specs.Prelude.{◌≤◌, IfOk};
 
+use crate::absent::Unanswered;
 use crate::names::{EVENTS, MACHINE};
 use crate::put::hand_over;
 use crate::refusal::{no_memory, refuse, refuse_with};
@@ -100,11 +101,13 @@ fn refuse_search(failure: &Failure<'_>, out: &mut [u8], length: &mut u64) -> u32
     match failure {
         Failure::Machine(fault) => refuse(SimFault::File(*fault), out, length),
         Failure::Events(fault) => refuse(SimFault::Events(*fault), out, length),
-        Failure::NoMemory | Failure::CannotRead(_) | Failure::WriteFailed => no_memory(out, length),
+        Failure::NoMemory | Failure::CannotRead(_, _) | Failure::WriteFailed => no_memory(
+            out, length,
+        ),
         Failure::TooManyWays(_, _) | Failure::TooManyOutcomes | Failure::TooManyTicks(_) => {
-            refuse_with(failure, TOO_MANY, out, length)
+            refuse_with(&Unanswered(failure), TOO_MANY, out, length)
         }
-        _ => refuse_with(failure, NOT_THERE, out, length),
+        _ => refuse_with(&Unanswered(failure), NOT_THERE, out, length),
     }
 }
 

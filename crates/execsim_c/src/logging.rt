@@ -1,6 +1,7 @@
 //! The log of a run, and all that its machine shows after a step.
 ghost use Rattle.std.specs.Prelude.{◌≤◌};
 
+use crate::absent::{Unshown, part_within, within};
 use crate::names::{EVENTS, MACHINE};
 use crate::put::hand_over;
 use crate::refusal::{no_memory, refuse, refuse_with};
@@ -61,50 +62,43 @@ pub(crate) fn part_of(
     machine: &[u8],
     events: &[u8],
     options: &Options<'static>,
-) -> Result<Shown, Failure<'static>> {
+) -> Result<Shown, Unshown> {
     let run = run_of(alloc, machine, events)?;
-    written(alloc, &run, options)
+    part_within(options, last_number(run.events.list()))?;
+    let shown = written(alloc, &run, options)?;
+    Ok(shown)
 }
 
 /// All that the machine of two texts shows after a step.
-fn state_of(
-    alloc: Global,
-    machine: &[u8],
-    events: &[u8],
-    step: u64,
-) -> Result<Shown, Failure<'static>> {
+fn state_of(alloc: Global, machine: &[u8], events: &[u8], step: u64) -> Result<Shown, Unshown> {
     let run = run_of(alloc, machine, events)?;
-    let number = if step == LAST_STEP {
-        last_number(run.events.list())
-    } else {
-        step
-    };
-    written(alloc, &run, &whole(View::State(number)))
+    let last = last_number(run.events.list());
+    let number = if step == LAST_STEP { last } else { step };
+    within("step", number, last)?;
+    let shown = written(alloc, &run, &whole(View::State(number)))?;
+    Ok(shown)
 }
 
 /// Puts why a run is not shown at the front of a buffer, and answers the status.
-fn refuse_part(failure: &Failure<'_>, out: &mut [u8], length: &mut u64) -> u32
+fn refuse_part(why: &Unshown, out: &mut [u8], length: &mut u64) -> u32
     ensures { result ≤ 7 }
 {
-    match failure {
-        Failure::Machine(fault) => refuse(SimFault::File(*fault), out, length),
-        Failure::Events(fault) => refuse(SimFault::Events(*fault), out, length),
-        Failure::NoMemory | Failure::CannotRead(_) | Failure::WriteFailed => no_memory(out, length),
-        _ => refuse_with(failure, NOT_THERE, out, length),
+    match why {
+        Unshown::Failed(Failure::Machine(fault)) => refuse(SimFault::File(*fault), out, length),
+        Unshown::Failed(Failure::Events(fault)) => refuse(SimFault::Events(*fault), out, length),
+        Unshown::Failed(Failure::NoMemory | Failure::CannotRead(_, _) | Failure::WriteFailed) =>
+            no_memory(out, length),
+        _ => refuse_with(why, NOT_THERE, out, length),
     }
 }
 
 /// Hands over what is shown of a run, or why it is not.
-pub(crate) fn hand_over_part(
-    found: Result<Shown, Failure<'_>>,
-    out: &mut [u8],
-    length: &mut u64,
-) -> u32
+pub(crate) fn hand_over_part(found: Result<Shown, Unshown>, out: &mut [u8], length: &mut u64) -> u32
     ensures { result ≤ 7 }
 {
     match found {
         Ok(shown) => hand_over(&shown.text, status_if(shown.is_stopped), out, length),
-        Err(failure) => refuse_part(&failure, out, length),
+        Err(why) => refuse_part(&why, out, length),
     }
 }
 

@@ -1,16 +1,17 @@
 //! A machine that is kept between calls: it has started, and it keeps the lines that no caller has taken.
-ghost use Rattle.std.specs.Prelude.{◌≡◌, ◌+◌, ℕ, false, IfOk, IfSome, OnOk, Some, sum_by};
+ghost use Rattle.std.specs.Prelude.{◌≡◌, ◌+◌, ℕ, false, IfOk, IfSome, OnErr, OnOk, Some, sum_by};
 ghost use Rattle.exectrace.specs.declared.sinks.SinkState.{SinkState};
-ghost use Rattle.script.specs.Events.{ticks as ticks_of};
-ghost use Rattle.execmodel.specs.Step.{events};
+ghost use Rattle.script.specs.{Commands.command_view, Events.event_ticks};
+ghost use Rattle.execmodel.specs.{Feeding.fed_to, Step.events};
 ghost use Rattle.execsim.specs.Time.{HasTimeFor};
 ghost use Rattle.execsim_c.specs.Stepping.{Does, Starts};
 
 use execlist::link::LinkSpace;
 use execsim::Machine;
 use exectrace::{Sink, WriteFault, WriteSink};
-use script::{Event, MachineFile};
+use script::{Command, Event, MachineFile};
 use std::alloc::{AllocError, Global};
+use taskq::TaskId;
 
 /// How many ticks a machine bears at least.
 const TICKS: u64 = 1_000_000;
@@ -29,7 +30,7 @@ pub struct Session {
 
 /// The ticks of an event.
 fn ticks_in(event: Event) -> u64
-    ensures { result ≡ ticks_of event }
+    ensures { result ≡ event_ticks event }
 {
     match event {
         Event::Run(_) | Event::Irq(_) => 0,
@@ -39,7 +40,7 @@ fn ticks_in(event: Event) -> u64
 
 /// How many of these ticks are left after some events; none if they ask for more.
 fn ticks_after(list: &[Event], ticks: u64) -> Option<u64>
-    ensures { IfSome result (λ left. left + sum_by ticks_of list.now ≡ ticks) }
+    ensures { IfSome result (λ left. left + sum_by event_ticks list.now ≡ ticks) }
 {
     let mut left = ticks;
     for event in list {
@@ -60,10 +61,10 @@ fn run_events<W: Sink>(
 ) -> Result<(), WriteFault>
     requires whole { machine.old.failed ≡ false }
     requires good { (W.tape out.old).state ≡ SinkState.Good }
-    requires time { HasTimeFor (sum_by ticks_of list.now) machine.old.seen }
+    requires time { HasTimeFor (sum_by event_ticks list.now) machine.old.seen }
     ensures does { OnOk result (Does (events list.now) machine.old.seen machine.new.seen (W.tape out.old).taken (W.tape out.new).taken) }
     ensures whole { OnOk result (machine.new.failed ≡ false) }
-    ensures time { OnOk result ((ticks : ℕ) → HasTimeFor (sum_by ticks_of list.now + ticks) machine.old.seen → HasTimeFor ticks machine.new.seen) }
+    ensures time { OnOk result ((ticks : ℕ) → HasTimeFor (sum_by event_ticks list.now + ticks) machine.old.seen → HasTimeFor ticks machine.new.seen) }
 {
     for event in list {
         machine.event(*event, out)?;
@@ -94,7 +95,7 @@ impl Session {
 
     /// How many ticks are left after some events; none if they ask for more.
     pub(crate) fn ticks_after(&self, list: &[Event]) -> Option<u64>
-        ensures { IfSome result (λ left. left + sum_by ticks_of list.now ≡ self.now.ticks_left) }
+        ensures { IfSome result (λ left. left + sum_by event_ticks list.now ≡ self.now.ticks_left) }
     {
         ticks_after(list, self.ticks_left)
     }
@@ -105,7 +106,7 @@ impl Session {
     ///
     /// Memory was refused for their lines.
     pub(crate) fn after(self, list: &[Event], left: u64) -> Result<Session, AllocError>
-        requires { left + sum_by ticks_of list.now ≡ self.ticks_left }
+        requires { left + sum_by event_ticks list.now ≡ self.ticks_left }
         ensures { IfOk result (λ next. Does (events list.now) self.machine.seen next.machine.seen (Some self.lines.items) (Some next.lines.items)) }
     {
         let Session {
@@ -122,6 +123,18 @@ impl Session {
             }),
             Err(_) => Err(AllocError),
         }
+    }
+
+    /// Feeds a command to a task, at the end of its body.
+    ///
+    /// # Errors
+    ///
+    /// Memory was refused. The machine is as it was.
+    pub(crate) fn feed(&mut self, task: TaskId, command: Command) -> Result<(), AllocError>
+        ensures fed { OnOk result (self.new ≡ record self.old { machine = record self.old.machine { seen = record self.old.machine.seen { scripts = fed_to task (command_view command) self.old.machine.seen.scripts } } }) }
+        ensures kept { OnErr result (self.new ≡ self.old) }
+    {
+        self.machine.feed(task, command)
     }
 
     /// Whether an alert has stopped the machine.

@@ -78,7 +78,7 @@ pub struct BlockShown {
 }
 
 /// A task's number, or `NONE`.
-fn number_of(task: Option<TaskId>) -> u64
+pub(crate) fn number_of(task: Option<TaskId>) -> u64
     ensures { result ≡ number_shown task }
 {
     match task {

@@ -1,6 +1,6 @@
 //! A machine that C keeps between calls: it is opened, does events, gives its lines, and is closed.
 ghost use Rattle.std.specs.Prelude.{◌≡◌, ◌+◌, ◌⊎◌, IfOk, MatchResult, None, Ok, Err, Some, false, sum_by, true};
-ghost use Rattle.script.specs.Events.{ticks as ticks_of};
+ghost use Rattle.script.specs.Events.{event_ticks};
 ghost use Rattle.taskscript.specs.{Events.script_of, File.file_of, declared.fault.FileFault.FileFault, declared.fault.EventFault.EventFault};
 ghost use Rattle.execmodel.specs.Step.{events};
 ghost use Rattle.execsim_c.specs.{Buffers.RefusesFile, Handles.Goes, Handles.Opens, Handles.Takes, Stepping.Does, Stepping.IsStarted};
@@ -34,7 +34,7 @@ fn started(alloc: Global, file: &[u8]) -> Result<Box<Session>, FileFault>
 
 /// The events of an event text, and how many ticks are left to a machine after them.
 fn events_for(alloc: Global, session: &Session, events: &[u8]) -> Result<(Events, u64), EventFault>
-    ensures { IfOk result (λ found. (script_of events.now ≡ Ok found.0) × (found.1 + sum_by ticks_of found.0 ≡ session.now.ticks_left)) }
+    ensures { IfOk result (λ found. (script_of events.now ≡ Ok found.0) × (found.1 + sum_by event_ticks found.0 ≡ session.now.ticks_left)) }
 {
     let events = match read_events(alloc, events) {
         Ok(events) => events,
@@ -53,7 +53,7 @@ fn after(
     list: &[Event],
     left: u64,
 ) -> Result<Box<Session>, AllocError>
-    requires { left + sum_by ticks_of list.now ≡ session.value.ticks_left }
+    requires { left + sum_by event_ticks list.now ≡ session.value.ticks_left }
     ensures { IfOk result (λ next. Does (events list.now) session.value.machine.seen next.value.machine.seen (Some session.value.lines.items) (Some next.value.lines.items)) }
 {
     let next = Box::into_inner(session).after(list, left)?;

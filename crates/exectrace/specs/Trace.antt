@@ -7,10 +7,10 @@ pub data Argument : Type 0 where
   Quoted : (name : List ℕ) → Argument
 
 -- how a call ends: it does not answer, it answers a value, or it waits
-pub data Outcome : Type 0 where
-  Done : Outcome
-  Answers : (value : ℕ) → Outcome
-  Waits : Outcome
+pub data CallEnd : Type 0 where
+  Done : CallEnd
+  Answers : (value : ℕ) → CallEnd
+  Waits : CallEnd
 
 -- what happened; a name is that of a task, a server or a software interrupt
 pub data TraceLine : Type 0 where
@@ -19,7 +19,7 @@ pub data TraceLine : Type 0 where
   -- no task runs
   Idle : TraceLine
   -- a call was made
-  Call : (name word : List ℕ) (arguments : List Argument) (outcome : Outcome) → TraceLine
+  Call : (name word : List ℕ) (arguments : List Argument) (outcome : CallEnd) → TraceLine
   -- the latch of an interrupt source is served
   Serve : (source : List ℕ) → TraceLine
   -- the request at this address finishes at a tick, or as system time is set
@@ -49,7 +49,7 @@ argument_text (Value n) = codes " " ++ value_text n
 argument_text (Quoted name) = codes " \"" ++ name ++ codes "\""
 
 -- the end of the line of a call: nothing, its answer, or that it waits
-abbrev pub outcome_text : Outcome → List ℕ
+abbrev pub outcome_text : CallEnd → List ℕ
 outcome_text Done = []
 outcome_text (Answers n) = codes " -> " ++ value_text n
 outcome_text Waits = codes " waits"

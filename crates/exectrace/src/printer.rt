@@ -1,6 +1,6 @@
 //! The listener that prints: it alone knows what a line of a trace looks like.
 ghost use Rattle.std.specs.Prelude.{◌≡◌};
-ghost use Rattle.exectrace.specs.{Heard.heard, Heard.text_of_source, Printing.is_good, Printing.printing, Sink.Puts, Trace.printed_line};
+ghost use Rattle.exectrace.specs.{Heard.heard, Printing.is_good, Printing.printing, Sink.Puts, Trace.printed_line};
 
 use crate::printing::{
     put_alert, put_idle, put_serve, put_server, put_short_call, put_softint, put_switch, put_timer,
@@ -8,20 +8,6 @@ use crate::printing::{
 use crate::sinks::{Sink, SinkState};
 use crate::telling::Said;
 use crate::witness::Witness;
-use script::Source as NamedSource;
-use softint::source::Source;
-
-/// The text of a source.
-#[inline(always)]
-fn text_of_source(source: Source) -> &'static str
-    ensures { result.now ≡ text_of_source source }
-{
-    match source {
-        Source::Ports => NamedSource::Ports.text(),
-        Source::Vertb => NamedSource::Vertb.text(),
-        Source::Exter => NamedSource::Exter.text(),
-    }
-}
 
 /// Whether a sink in this state is good.
 #[inline(always)]
@@ -52,7 +38,7 @@ pub fn print<W: Sink>(said: &Said<'_>, out: &mut W)
             quoted,
             ends,
         } => put_short_call(by, word.text(), arguments, quoted, *ends, out),
-        Said::Serve(source) => put_serve(text_of_source(*source), out),
+        Said::Serve(source) => put_serve(source.text(), out),
         Said::Timer(request) => put_timer(*request, out),
         Said::Server(who) => put_server(who, out),
         Said::Softint(who) => put_softint(who, out),

@@ -13,8 +13,8 @@ abbrev pub not_nested : ℤ
 not_nested = negsuc 0
 
 -- 127, the greatest count
-abbrev pub deepest : ℤ
-deepest = pos 127
+abbrev pub most_nested : ℤ
+most_nested = pos 127
 
 -- both counts begin at -1
 abbrev pub initial_nesting : Nesting
@@ -23,13 +23,13 @@ initial_nesting = record { forbids = not_nested; disables = not_nested }
 -- both counts lie from -1 to 127
 pub record IsInRange (nesting : Nesting) : Type 0 where
   pub least_forbids : not_nested ≤ℤ nesting.forbids
-  pub greatest_forbids : nesting.forbids ≤ℤ deepest
+  pub greatest_forbids : nesting.forbids ≤ℤ most_nested
   pub least_disables : not_nested ≤ℤ nesting.disables
-  pub greatest_disables : nesting.disables ≤ℤ deepest
+  pub greatest_disables : nesting.disables ≤ℤ most_nested
 
 -- the count one level further in, or none past 127
 abbrev pub count_inside : ℤ → Option ℤ
-count_inside count = if int_lt count deepest then Some (count +ℤ pos 1) else None
+count_inside count = if int_lt count most_nested then Some (count +ℤ pos 1) else None
 
 -- the count one level further out, or none at -1
 abbrev pub count_outside : ℤ → Option ℤ

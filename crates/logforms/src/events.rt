@@ -1,6 +1,6 @@
 //! The events of a run by the numbers that a log gives to steps, ticks and requests.
 ghost use Rattle.std.specs.Prelude.{◌≡◌, ◌≤◌, IfOk, sum_by};
-ghost use Rattle.script.specs.Events.{ticks as ticks_of};
+ghost use Rattle.script.specs.Events.{event_ticks};
 ghost use Rattle.execlog.specs.Log.{turns};
 
 use script::Event;
@@ -27,7 +27,7 @@ pub fn turns_of(event: Event) -> u64
 
 /// How many ticks an event is.
 fn ticks_of(event: Event) -> u64
-    ensures { result ≡ ticks_of event }
+    ensures { result ≡ event_ticks event }
 {
     match event {
         Event::Tick(n) => u64::from(n),
@@ -66,7 +66,7 @@ fn shortened(event: Event, left: u64) -> Event {
 #[tactic(auto, using(crate::proofs::Turns::sum_more))]
 pub fn events_up_to(alloc: Global, events: &[Event], number: u64) -> Result<Vec<Event>, AllocError>
     ensures few { IfOk result (λ part. sum_by turns part.items ≤ 4000000) }
-    ensures time { IfOk result (λ part. sum_by ticks_of part.items ≤ 1000000) }
+    ensures time { IfOk result (λ part. sum_by event_ticks part.items ≤ 1000000) }
 {
     let mut part = Vec::new(alloc);
     let mut turns = 0u64;

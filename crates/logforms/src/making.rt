@@ -1,7 +1,7 @@
 //! A machine that is run over events.
 ghost use Rattle.std.specs.Prelude.{◌≡◌, ◌≤◌, false, sum_by};
 ghost use Rattle.exectrace.specs.declared.sinks.SinkState.{SinkState};
-ghost use Rattle.script.specs.Events.{ticks as ticks_of};
+ghost use Rattle.script.specs.Events.{event_ticks};
 ghost use Rattle.execsim.specs.Time.{HasTimeFor};
 ghost use Rattle.execlog.specs.Log.{turns};
 
@@ -30,7 +30,7 @@ pub fn run_events<F: Form, W: Sink>(
     requires left { HasTimeFor 1000000 machine.old.seen }
     requires good { (W.tape sink.old).state ≡ SinkState.Good }
     requires few { sum_by turns events.now ≤ 4000000 }
-    requires time { sum_by ticks_of events.now ≤ 1000000 }
+    requires time { sum_by event_ticks events.now ≤ 1000000 }
 {
     write_log(alloc, machine, events, form, sink)
 }

@@ -25,6 +25,14 @@ pub fn run_of<'a>(alloc: Global, machine: &[u8], script: &[u8]) -> Result<Run, F
     })
 }
 
+/// The bytes of the text at a path.
+fn text_at<'a, T: Texts>(texts: &T, alloc: Global, path: &'a str) -> Result<Vec<u8>, Failure<'a>> {
+    match read_text(texts, alloc, path) {
+        Ok(bytes) => Ok(bytes),
+        Err(fault) => Err(Failure::of_text(path, fault)),
+    }
+}
+
 /// Reads the texts at two paths. Nothing is judged before both are read.
 ///
 /// # Errors
@@ -37,7 +45,7 @@ pub fn read_run<'a, T: Texts>(
     alloc: Global,
     paths: Paths<'a>,
 ) -> Result<Run, Failure<'a>> {
-    let machine = read_text(texts, alloc, paths.machine)?;
-    let script = read_text(texts, alloc, paths.events)?;
+    let machine = text_at(texts, alloc, paths.machine)?;
+    let script = text_at(texts, alloc, paths.events)?;
     run_of(alloc, &machine, &script)
 }

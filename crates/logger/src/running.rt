@@ -1,6 +1,6 @@
 //! The command over any words and writers, and on the arguments of its process.
 ghost use Rattle.std.specs.Prelude.{◌≡◌, ◌≤◌, IfOk, false, sum_by};
-ghost use Rattle.script.specs.Events.{ticks as ticks_of};
+ghost use Rattle.script.specs.Events.{event_ticks};
 ghost use Rattle.execsim.specs.Time.{HasTimeFor};
 ghost use Rattle.execlog.specs.Log.{turns};
 
@@ -59,7 +59,7 @@ fn write_log_of<'a, F: Form, W: Write>(
     requires going { machine.old.failed ≡ false }
     requires left { HasTimeFor 1000000 machine.old.seen }
     requires few { sum_by turns events.now ≤ 4000000 }
-    requires time { sum_by ticks_of events.now ≤ 1000000 }
+    requires time { sum_by event_ticks events.now ≤ 1000000 }
     ensures { IfOk result (λ status. status ≤ 4) }
 {
     let mut sink = WriteSink::new(&mut *out);
@@ -76,7 +76,7 @@ fn write_form<'a, F: Form, W: Write>(
     out: &mut W,
 ) -> Result<u8, Failure<'a>>
     requires few { sum_by turns events.now ≤ 4000000 }
-    requires time { sum_by ticks_of events.now ≤ 1000000 }
+    requires time { sum_by event_ticks events.now ≤ 1000000 }
     ensures { IfOk result (λ status. status ≤ 4) }
 {
     match Machine::boot(alloc, &run.listed.machine) {
@@ -104,7 +104,7 @@ fn write_rows<'a, W: Write>(
     out: &mut W,
 ) -> Result<u8, Failure<'a>>
     requires few { sum_by turns events.now ≤ 4000000 }
-    requires time { sum_by ticks_of events.now ≤ 1000000 }
+    requires time { sum_by event_ticks events.now ≤ 1000000 }
     ensures { IfOk result (λ status. status ≤ 4) }
 {
     write_text(HEAD, out)?;
@@ -133,7 +133,7 @@ fn write_json<'a, W: Write>(
     out: &mut W,
 ) -> Result<u8, Failure<'a>>
     requires few { sum_by turns events.now ≤ 4000000 }
-    requires time { sum_by ticks_of events.now ≤ 1000000 }
+    requires time { sum_by event_ticks events.now ≤ 1000000 }
     ensures { IfOk result (λ status. status ≤ 4) }
 {
     let ends = ends_of(alloc, run.events.list())?;

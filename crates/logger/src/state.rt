@@ -1,6 +1,6 @@
 //! All that a machine shows after some steps, as a page of text.
 ghost use Rattle.std.specs.Prelude.{◌≡◌, ◌≤◌, false, sum_by};
-ghost use Rattle.script.specs.Events.{ticks as ticks_of};
+ghost use Rattle.script.specs.Events.{event_ticks};
 ghost use Rattle.execsim.specs.Time.{HasTimeFor};
 ghost use Rattle.execlog.specs.Log.{turns};
 
@@ -75,7 +75,7 @@ fn page_after<'a>(
     requires going { machine.old.failed ≡ false }
     requires left { HasTimeFor 1000000 machine.old.seen }
     requires few { sum_by turns events.now ≤ 4000000 }
-    requires time { sum_by ticks_of events.now ≤ 1000000 }
+    requires time { sum_by event_ticks events.now ≤ 1000000 }
 {
     let mut sink = WriteSink::new(Nowhere);
     run_events(alloc, machine, events, &Silent, &mut sink)?;
@@ -100,7 +100,7 @@ pub fn state_page<'a>(
     last: u64,
 ) -> Result<(String, bool), Failure<'a>>
     requires few { sum_by turns events.now ≤ 4000000 }
-    requires time { sum_by ticks_of events.now ≤ 1000000 }
+    requires time { sum_by event_ticks events.now ≤ 1000000 }
 {
     match Machine::boot(alloc, &run.listed.machine) {
         Err(_) => Err(Failure::NoMemory),

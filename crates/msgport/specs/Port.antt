@@ -22,8 +22,8 @@ acting_by Ignore port = action.Nothing
 
 -- what a port does when a message arrives: it signals its task, causes its software interrupt, or does nothing (RKM Libraries, Exec
 -- Messages and Ports: mp_Flags)
-abbrev pub acting : Port → Action
-acting port = acting_by port.action port
+abbrev pub arrival_action : Port → Action
+arrival_action port = acting_by port.action port
 
 -- the signal of that number, at a port of the task
 abbrev pub wait_bit_by : PortAction → ℕ → Port → Option ℕ

@@ -1,7 +1,7 @@
 -- What calls on ports see: the ports and the messages by number, the messages of each port, those that are held, and the public ports
 -- (RKM Libraries, Exec Messages and Ports).
 use Rattle.std.specs.Prelude.{◌≡◌, ℕ, nat_lt, ℤ, Bool, not, ◌||◌, is_some, IsTrue, if◌then◌else◌, List, [], ◌∷◌, ◌++◌, length, drop, replicate, slice_set, Option, Some, None, unwrap_or}
-use Rattle.execlist.specs.{Order.enqueue, Order.first, Order.without, Lists.Key, Lists.blank, Lists.sequence, Lists.home, Lists.is_at, Lists.pri_of, Lists.times, Pool.Pooled, Pool.all_free, Pool.free_below, Pool.given, Pool.released, Pool.slot, Pool.written}
+use Rattle.execlist.specs.{Order.enqueue, Order.first, Order.without, Lists.KeyData, Lists.blank, Lists.sequence, Lists.home, Lists.is_at, Lists.pri_of, Lists.times, Pool.Pooled, Pool.all_free, Pool.free_below, Pool.given, Pool.released, Pool.slot, Pool.written}
 use Rattle.msgport.specs.declared.fault.PortFault.TheVariants.{NotEmpty, Link, Unknown}
 use Rattle.msgport.specs.{declared.fault.PortFault.PortFault, declared.message.Message.Message, Port.Port, Port.new_port}
 
@@ -20,7 +20,7 @@ pub record MessagePorts : Type 0 where
   -- the public ports, as `enqueue` keeps them
   pub public : List ℕ
   -- the priority and the name of each port, as it was made public last
-  pub keys : List Key
+  pub keys : List KeyData
 
 -- ---- types of messages (exec/nodes.h)
 
@@ -192,7 +192,7 @@ taken_off p None s = s
 taken_off p (Some m) s = record s { queues = slice_set s.queues p (drop 1 (messages_of p s)); places = slice_set s.places m None }
 
 -- port p is public under that name, before the first one of lower priority (autodoc exec.library/AddPort)
-abbrev pub keyed : ℕ → List ℕ → ℤ → List Key → List Key
+abbrev pub keyed : ℕ → List ℕ → ℤ → List KeyData → List KeyData
 keyed p name pri keys = slice_set keys p (record { pri = pri; name = Some name })
 
 abbrev pub made_public : ℕ → List ℕ → ℤ → MessagePorts → MessagePorts

@@ -1,6 +1,6 @@
 //! One port: whom it notifies of a message that arrives, and how.
 ghost use Rattle.std.specs.Prelude.{◌≡◌, ◌<◌, ◌≤◌, IfSome};
-ghost use Rattle.msgport.specs.Port.{Port as Owned, acting, new_port, wait_bit};
+ghost use Rattle.msgport.specs.Port.{Port as Owned, arrival_action, new_port, wait_bit};
 
 use crate::action::{Action, PortAction, TaskId};
 use std::marker::Model;
@@ -77,7 +77,7 @@ impl Port {
     ///
     /// Source: autodoc exec.library/PutMsg.
     pub fn acting(&self) -> Action
-        ensures { result ≡ acting self.now }
+        ensures { result ≡ arrival_action self.now }
     {
         match self.action {
             PortAction::Signal => Action::Signal(self.task, 1 << self.bit),

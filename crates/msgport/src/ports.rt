@@ -2,7 +2,7 @@
 ghost use Rattle.std.specs.Prelude.{◌≡◌, ℕ, ◌<◌, ◌≤◌, [], length, replicate, false, not, find, is_ok, Some, None, IfOk, IfSome, IsSome, IsTrue, ok_or};
 ghost use Rattle.execlist.specs.{Order.first, Lists.blank, Lists.home, Lists.is_named, Pool.IsStocked, Pool.all_free, Pool.next_number, Answers.fault_or, Answers.kept_or};
 ghost use Rattle.msgport.specs.Ports.{IsSound, is_port, is_message, is_queued, is_held, is_linked, is_public, has_messages, port_at, message_at, messages_of, loose_fault, post_fault, reply_fault, queued_fault, private_fault, public_fault, delete_fault, no_ports, all_freed, port_made, message_made, port_freed, message_freed, with_port, with_message, typed, appended, posted, held, let_go, taken_out, taken_off, made_public, made_private, nt_message, nt_freemsg, nt_replymsg};
-ghost use Rattle.msgport.specs.Port.{acting, wait_bit};
+ghost use Rattle.msgport.specs.Port.{arrival_action, wait_bit};
 
 mod readers;
 
@@ -244,7 +244,7 @@ impl<S: ListSpace> Ports<S> {
     /// It is Unknown if there is no such port or no such message, and else Link if a port has the message already, or it is held.
     /// Autodoc exec.library/PutMsg.
     pub fn put(&mut self, p: PortId, m: MsgId) -> Result<Action, PortFault>
-        ensures answer { result ≡ fault_or (post_fault p m self.old) (acting (port_at p self.old)) }
+        ensures answer { result ≡ fault_or (post_fault p m self.old) (arrival_action (port_at p self.old)) }
         ensures next { self.new ≡ kept_or (post_fault p m self.old) self.old (posted nt_message p m self.old) }
     {
         match self.post_fault(p, m) {
@@ -259,7 +259,7 @@ impl<S: ListSpace> Ports<S> {
     /// It is Unknown if there is no such port or no such message, and else Link if a port has the message already.
     /// Autodoc exec.library/ReplyMsg.
     pub fn reply(&mut self, p: PortId, m: MsgId) -> Result<Action, PortFault>
-        ensures answer { result ≡ fault_or (reply_fault p m self.old) (acting (port_at p self.old)) }
+        ensures answer { result ≡ fault_or (reply_fault p m self.old) (arrival_action (port_at p self.old)) }
         ensures next { self.new ≡ kept_or (reply_fault p m self.old) self.old (posted nt_replymsg p m (let_go m self.old)) }
     {
         match self.reply_fault(p, m) {
@@ -695,7 +695,7 @@ impl<S: ListSpace> Ports<S> {
         requires port { IsTrue (is_port p self.old) }
         requires message { IsTrue (is_message m self.old) }
         requires loose { IsTrue (not (is_linked m self.old)) }
-        ensures answer { result ≡ acting (port_at p self.old) }
+        ensures answer { result ≡ arrival_action (port_at p self.old) }
         ensures next { self.new ≡ posted kind p m self.old }
     {
         let action = self.port(p).acting();

@@ -3,7 +3,7 @@ use Rattle.std.proofs.Common.{◌≡◌, ℕ, ◌+◌, ◌<◌, List, [], ◌∷
 use Rattle.std.proofs.lemmas.{Grind.flat_map-append, List.take_more, List.Sums.sum_by-drop_more}
 use Rattle.exectrace.specs.{Sink.Tape, Trace.printed, Trace.printed_line}
 use Rattle.script.specs.declared.event.Event.TheVariants.{Run, Tick}
-use Rattle.script.specs.{Events.ticks as ticks_of, File.MachineData, declared.event.Event.Event}
+use Rattle.script.specs.{Events.event_ticks, File.MachineData, declared.event.Event.Event}
 use Rattle.execmodel.specs.{State.State, State.Outcome, State.andthen, State.booted, Step.starts, Step.steps, Step.ticks, Step.event, Step.events, Step.run}
 use Rattle.execmodel.proofs.Moments.{events_more, run_cut, tick_cut}
 use Rattle.execsim.specs.{Agreement.Seen, Agreement.Agrees, Headline.Acts, Headline.Shown, declared.machine.Flow.Flow, Time.HasTimeFor}
@@ -143,7 +143,7 @@ ran_to {after = after} m list first told rest =
 
 -- the time that is left
 pub time_for_one : (list : List Event) (i : ℕ) (d : Event) (within : i < length list) (m : Seen)
-    → HasTimeFor (sum_by ticks_of (drop i list)) m → HasTimeFor (ticks_of (get_or list i d)) m
+    → HasTimeFor (sum_by event_ticks (drop i list)) m → HasTimeFor (event_ticks (get_or list i d)) m
 time_for_one list i d within m enough =
-    let rest = sum_by-drop_more ticks_of list i d within in
-    time_for_fewer (ticks_of (get_or list i d)) (sum_by ticks_of (drop i list)) m (omega (arith, rest)) enough
+    let rest = sum_by-drop_more event_ticks list i d within in
+    time_for_fewer (event_ticks (get_or list i d)) (sum_by event_ticks (drop i list)) m (omega (arith, rest)) enough

@@ -2,7 +2,7 @@
 //! the end of that run.
 ghost use Rattle.std.specs.Prelude.{◌≡◌, ◌+◌, ◌∷◌, ℕ, [], false, sum_by, OnOk};
 ghost use Rattle.exectrace.specs.{Trace.printed, declared.sinks.SinkState.SinkState};
-ghost use Rattle.script.specs.{Events.ticks as ticks_of, File.MachineData, declared.event.Event.Event};
+ghost use Rattle.script.specs.{Events.event_ticks, File.MachineData, declared.event.Event.Event};
 ghost use Rattle.execmodel.specs.{State.booted, Step.run as run_of, Step.starts};
 ghost use Rattle.execsim.specs.{Agreement.Agrees, Time.HasTimeFor};
 ghost use Rattle.runadvice.specs.Going.{EndsWith, Goes};
@@ -39,11 +39,11 @@ impl<'a> Run<'a> {
 fn advance(run: &mut Run<'_>, one: Event, next: Next) -> Result<(), AllocError>
     requires going { run.old.machine.failed ≡ false }
     requires good { run.old.room.state ≡ SinkState.Good }
-    requires time { HasTimeFor (ticks_of one) run.old.machine.seen }
+    requires time { HasTimeFor (event_ticks one) run.old.machine.seen }
     ensures goes { OnOk result (Goes (one ∷ []) run.old.machine.seen run.new.machine.seen run.old.room.bytes.items run.new.room.bytes.items) }
     ensures going { OnOk result (run.new.machine.failed ≡ false) }
     ensures good { OnOk result (run.new.room.state ≡ SinkState.Good) }
-    ensures time { OnOk result ((ticks : ℕ) → HasTimeFor (ticks_of one + ticks) run.old.machine.seen → HasTimeFor ticks run.new.machine.seen) }
+    ensures time { OnOk result ((ticks : ℕ) → HasTimeFor (event_ticks one + ticks) run.old.machine.seen → HasTimeFor ticks run.new.machine.seen) }
 {
     run.course.clear(&mut run.room);
     match run.machine.event(one, &mut run.room) {
@@ -94,11 +94,11 @@ fn advance_ticks(run: &mut Run<'_>, count: u32) -> Result<(), AllocError>
 fn advance_event(run: &mut Run<'_>, one: Event) -> Result<(), AllocError>
     requires going { run.old.machine.failed ≡ false }
     requires good { run.old.room.state ≡ SinkState.Good }
-    requires time { HasTimeFor (ticks_of one) run.old.machine.seen }
+    requires time { HasTimeFor (event_ticks one) run.old.machine.seen }
     ensures goes { OnOk result (Goes (one ∷ []) run.old.machine.seen run.new.machine.seen run.old.room.bytes.items run.new.room.bytes.items) }
     ensures going { OnOk result (run.new.machine.failed ≡ false) }
     ensures good { OnOk result (run.new.room.state ≡ SinkState.Good) }
-    ensures time { OnOk result ((ticks : ℕ) → HasTimeFor (ticks_of one + ticks) run.old.machine.seen → HasTimeFor ticks run.new.machine.seen) }
+    ensures time { OnOk result ((ticks : ℕ) → HasTimeFor (event_ticks one + ticks) run.old.machine.seen → HasTimeFor ticks run.new.machine.seen) }
 {
     match one {
         Event::Run(count) => advance_steps(run, count),
@@ -111,7 +111,7 @@ fn advance_event(run: &mut Run<'_>, one: Event) -> Result<(), AllocError>
 fn advance_all(run: &mut Run<'_>, list: &[Event]) -> Result<(), AllocError>
     requires going { run.old.machine.failed ≡ false }
     requires good { run.old.room.state ≡ SinkState.Good }
-    requires time { HasTimeFor (sum_by ticks_of list.now) run.old.machine.seen }
+    requires time { HasTimeFor (sum_by event_ticks list.now) run.old.machine.seen }
     ensures goes { OnOk result (Goes list.now run.old.machine.seen run.new.machine.seen run.old.room.bytes.items run.new.room.bytes.items) }
     ensures going { OnOk result (run.new.machine.failed ≡ false) }
     ensures good { OnOk result (run.new.room.state ≡ SinkState.Good) }
@@ -145,7 +145,7 @@ pub fn follow(run: &mut Run<'_>, list: &[Event]) -> Result<(), AllocError>
     requires going { run.old.machine.failed ≡ false }
     requires good { run.old.room.state ≡ SinkState.Good }
     requires empty { run.old.room.bytes.items ≡ [] }
-    requires time { HasTimeFor (sum_by ticks_of list.now) run.old.machine.seen }
+    requires time { HasTimeFor (sum_by event_ticks list.now) run.old.machine.seen }
     ensures agrees { OnOk result ((m : MachineData) → Agrees run.old.machine.seen (booted m) → Agrees run.new.machine.seen (run_of m list.now).state) }
     ensures tells { OnOk result ((m : MachineData) → Agrees run.old.machine.seen (booted m)
         → EndsWith (printed (run_of m list.now).lines) run.new.room.bytes.items) }

@@ -130,8 +130,8 @@ ticked_for None s = s
 ticked_for (Some r) s = record s { left = s.left - 1 }
 
 -- the quantum of the running task loses one serving of VERTB, but not below zero
-unfoldable pub ticked : Schedule → Schedule
-ticked s = ticked_for s.running s
+unfoldable pub quantum_ticked : Schedule → Schedule
+quantum_ticked s = ticked_for s.running s
 
 -- ---- beginning and ending
 
@@ -163,16 +163,16 @@ found name s = find (is_live_named s.queue name) (range_with_len 0 (length s.que
 
 -- something that is waited for has come: a signal of the mask; no signal makes a task ready that waits for a semaphore (autodocs Wait and
 -- ObtainSemaphore)
-abbrev pub has_come : Why → ℕ → Bool
-has_come (Signals mask) received = not (nat_eq (bit_and received mask) 0)
-has_come Sem received = false
+abbrev pub is_signalled : Why → ℕ → Bool
+is_signalled (Signals mask) received = not (nat_eq (bit_and received mask) 0)
+is_signalled Sem received = false
 
 -- the task waits for one of these signals (autodoc Wait)
 abbrev pub awaits : TaskState → ℕ → Bool
 awaits Absent received = false
 awaits Ready received = false
 awaits Running received = false
-awaits (Waiting why) received = has_come why received
+awaits (Waiting why) received = is_signalled why received
 awaits Removed received = false
 
 -- the running task waits for signals of the mask; no task runs then (autodoc exec.library/Wait)

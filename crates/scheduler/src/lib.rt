@@ -6,7 +6,7 @@
 ghost use Rattle.std.specs.Prelude.{◌≡◌, ◌≢◌, ℕ, ◌<◌, ◌≤◌, length, slice_set, map, if◌then◌else◌, Some, None, IsTrue, IsSome, IfSome, IfOk};
 ghost use Rattle.execlist.specs.{Lists.times, Order.enqueue, Disciplines.by_priority, Disciplines.pri_at};
 ghost use Rattle.taskq.specs.Tasks.{state_at, is_live, is_ready};
-ghost use Rattle.scheduler.specs.Schedule.{task_count, name_of, priority_of, status_of, unstarted, is_absent, leaves, removed, found, switch_for, IsToOneOf, takes_over, begins, renewed, ticked, waits_at_semaphore, is_at_semaphore};
+ghost use Rattle.scheduler.specs.Schedule.{task_count, name_of, priority_of, status_of, unstarted, is_absent, leaves, removed, found, switch_for, IsToOneOf, takes_over, begins, renewed, quantum_ticked, waits_at_semaphore, is_at_semaphore};
 ghost use Rattle.scheduler.specs.{Dispatch.arrives, Dispatch.displaced, Dispatch.switch_of, Dispatch.after_switch, Dispatch.rescheduled, Dispatch.added, Dispatch.reprioritized, Sound.is_stopped, Sound.IsToReady, Settled.begins_anew, Settled.stays};
 
 mod nesting;
@@ -461,9 +461,9 @@ impl<S: ListSpace> Sched<S> {
     /// no task runs nothing changes.
     ///
     /// Source: RKM Libraries, Exec Tasks: task scheduling. Project rule: the quantum in servings.
-    #[tactic(auto, unfolding(crate::specs::Schedule::ticked))]
+    #[tactic(auto, unfolding(crate::specs::Schedule::quantum_ticked))]
     pub fn quantum_tick(&mut self)
-        ensures next { self.new ≡ ticked self.old }
+        ensures next { self.new ≡ quantum_ticked self.old }
         ensures tasks { task_count self.new ≡ task_count self.old }
     {
         if self.running.is_some() {

@@ -1,7 +1,8 @@
 -- What a machine file states.
 use Rattle.std.specs.Prelude.{nat_eq, if◌then◌else◌, ℕ, ℤ, Bool, List}
 use Rattle.memlist.specs.declared.region.Region.{Region}
-use Rattle.script.specs.{declared.source.Source.Source, Commands.CommandData}
+use Rattle.softint.specs.declared.source.Source.{Source}
+use Rattle.script.specs.Commands.{CommandData}
 
 -- a task: its name (1 to 31 characters), its priority (-128 to 127), whether it is added at the start, and its commands in the order of its lines
 pub record TaskData : Type 0 where

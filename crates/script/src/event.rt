@@ -1,8 +1,8 @@
 //! Events: what an event text asks the machine to do.
 ghost use Rattle.std.specs.Prelude.{◌≡◌};
-ghost use Rattle.script.specs.Events.{steps, ticks, AreWithin};
+ghost use Rattle.script.specs.Events.{event_steps, event_ticks, AreWithin};
 
-use crate::source::Source;
+use softint::source::Source;
 use std::marker::Model;
 
 /// One event.
@@ -19,7 +19,7 @@ pub enum Event {
 impl Event {
     /// The steps that the event asks for.
     pub fn steps(self) -> u32
-        ensures { result ≡ steps self }
+        ensures { result ≡ event_steps self }
     {
         match self {
             Event::Run(n) => n,
@@ -29,7 +29,7 @@ impl Event {
 
     /// The ticks that the event asks for.
     pub fn ticks(self) -> u32
-        ensures { result ≡ ticks self }
+        ensures { result ≡ event_ticks self }
     {
         match self {
             Event::Run(_) | Event::Irq(_) => 0,

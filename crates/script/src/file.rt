@@ -4,8 +4,8 @@ ghost use Rattle.script.specs.{Machines.IsMachine, Records.library_view, Records
 
 use crate::command::Command;
 use crate::name::Name;
-use crate::source::Source;
 use memlist::Region;
+use softint::source::Source;
 use std::marker::Model;
 
 /// A task of the machine.

@@ -7,7 +7,6 @@ mod event;
 mod file;
 mod interrupting;
 mod name;
-mod source;
 mod variable;
 mod word;
 
@@ -17,7 +16,7 @@ pub use event::{Event, Events};
 pub use file::{LibraryRecord, MachineFile, ServerRecord, SoftintRecord, TaskRecord};
 pub use interrupting::is_word_of_interrupt;
 pub use name::{Name, is_name};
-pub use source::Source;
+pub use softint::source::Source;
 pub use variable::Variable;
 pub use word::{
     InterruptWord, Kind, LibraryWord, ListWord, MemoryWord, NestingWord, PlainWord, PortWord,

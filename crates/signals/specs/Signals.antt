@@ -15,8 +15,8 @@ abbrev pub has_signal : ℕ → ℕ → Bool
 has_signal set n = not (nat_eq (bit_and set (2 ^ n)) 0)
 
 -- the set less the signals of the mask
-abbrev pub without : ℕ → ℕ → ℕ
-without set mask = bit_and set (bit_not w32 mask)
+abbrev pub without_bits : ℕ → ℕ → ℕ
+without_bits set mask = bit_and set (bit_not w32 mask)
 
 -- ---- the sets of a task
 
@@ -34,12 +34,12 @@ taken_signals mask sets = bit_and sets.received mask
 
 -- Wait: the signals asked for leave what is received, and the others stay
 abbrev pub after_take : ℕ → SignalSets → SignalSets
-after_take mask sets = record { received = without sets.received mask; allocated = sets.allocated }
+after_take mask sets = record { received = without_bits sets.received mask; allocated = sets.allocated }
 
 -- SetSignal: inside the mask the received signals become those of `new`, and outside it they stay (autodoc SetSignal)
 abbrev pub after_set : ℕ → ℕ → SignalSets → SignalSets
 after_set new mask sets = record {
-  received = bit_or (without sets.received mask) (bit_and new mask);
+  received = bit_or (without_bits sets.received mask) (bit_and new mask);
   allocated = sets.allocated;
 }
 
@@ -79,8 +79,8 @@ grant_number (Some n) = pos n
 -- AllocSignal: a signal that is given becomes allocated, and is cleared from what is received
 abbrev pub after_grant : Option ℕ → SignalSets → SignalSets
 after_grant None sets = sets
-after_grant (Some n) sets = record { received = without sets.received (2 ^ n); allocated = bit_or sets.allocated (2 ^ n) }
+after_grant (Some n) sets = record { received = without_bits sets.received (2 ^ n); allocated = bit_or sets.allocated (2 ^ n) }
 
 -- FreeSignal: the signal is not allocated any more, and what is received stays (autodoc FreeSignal)
 abbrev pub after_free : ℕ → SignalSets → SignalSets
-after_free n sets = record { received = sets.received; allocated = without sets.allocated (2 ^ n) }
+after_free n sets = record { received = sets.received; allocated = without_bits sets.allocated (2 ^ n) }

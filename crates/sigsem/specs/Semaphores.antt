@@ -18,8 +18,8 @@ pub record Semaphores : Type 0 where
 -- ---- one semaphore
 
 -- the greatest count (project rule: that of a signed word, as ss_NestCount is in exec/semaphores.h)
-abbrev pub deepest : ℕ
-deepest = 32767
+abbrev pub most_obtained : ℕ
+most_obtained = 32767
 
 -- a semaphore that no task owns
 abbrev pub free_sem : Sem
@@ -38,16 +38,16 @@ abbrev pub is_owner : ℕ → Sem → Bool
 is_owner t sem = is_at sem.owner t
 
 -- task t may have a semaphore at once: no other task owns it
-abbrev pub is_open : ℕ → Sem → Bool
-is_open t sem = not (is_owned sem) || is_owner t sem
+abbrev pub is_free_for : ℕ → Sem → Bool
+is_free_for t sem = not (is_owned sem) || is_owner t sem
 
 -- a task that asks for a semaphore owns it, or waits for it (autodoc ObtainSemaphore)
 abbrev pub outcome_for : ℕ → Sem → Obtained
-outcome_for t sem = if is_open t sem then Owner else Waits
+outcome_for t sem = if is_free_for t sem then Owner else Waits
 
 -- task t owns a semaphore so often that once more is too often
 abbrev pub is_too_deep : ℕ → Sem → Bool
-is_too_deep t sem = is_owner t sem && nat_lt deepest (sem.count + 1)
+is_too_deep t sem = is_owner t sem && nat_lt most_obtained (sem.count + 1)
 
 -- task t owns the semaphore, and has to release it once more than before (autodocs ObtainSemaphore and ReleaseSemaphore)
 abbrev pub once_more : ℕ → Sem → Sem
@@ -68,7 +68,7 @@ owned_next (Some t) = owned_by t
 
 -- a free semaphore has the count 0, an owned one a count from 1 to 32767
 abbrev pub IsCounted : Sem → Type 0
-IsCounted sem = MatchOption sem.owner (sem.count ≡ 0) (λ t. (1 ≤ sem.count) × (sem.count ≤ deepest))
+IsCounted sem = MatchOption sem.owner (sem.count ≡ 0) (λ t. (1 ≤ sem.count) × (sem.count ≤ most_obtained))
 
 -- ---- parts
 
@@ -136,11 +136,11 @@ queued s t m = record m { queues = slice_set m.queues s (waiters_of s m ++ t ∷
 
 -- task t has semaphore s at once, or waits for it (autodoc exec.library/ObtainSemaphore)
 abbrev pub obtained : (s t : ℕ) → Semaphores → Semaphores
-obtained s t m = if is_open t (sem_at s m) then entered s t m else queued s t m
+obtained s t m = if is_free_for t (sem_at s m) then entered s t m else queued s t m
 
 -- task t has semaphore s at once, or nothing changes (autodoc exec.library/AttemptSemaphore)
 abbrev pub attempted : (s t : ℕ) → Semaphores → Semaphores
-attempted s t m = if is_open t (sem_at s m) then entered s t m else m
+attempted s t m = if is_free_for t (sem_at s m) then entered s t m else m
 
 -- semaphore s is the first waiter's, who waits no more and has to release it once, or free if none waits
 abbrev pub handed_on : ℕ → Option ℕ → Semaphores → Semaphores

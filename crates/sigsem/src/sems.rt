@@ -1,7 +1,7 @@
 //! The semaphores of a machine, by number.
 ghost use Rattle.std.specs.Prelude.{◌≡◌, ◌<◌, ◌≤◌, length, not, is_some, Some, None, IfOk, IfSome, IsTrue, ok_or};
 ghost use Rattle.execlist.specs.{Order.first, Pool.IsStocked, Pool.next_number, Answers.fault_or, Answers.kept_or};
-ghost use Rattle.sigsem.specs.Semaphores.{IsSound, is_sem, is_owned, is_open, sem_at, waiters_of, waits_at, free_fault, deep_fault, release_fault, outcome_for, heir, no_sems, sem_made, sem_freed, with_sem, queued, obtained, attempted, handed_on, let_go, dropped};
+ghost use Rattle.sigsem.specs.Semaphores.{IsSound, is_sem, is_owned, is_free_for, sem_at, waiters_of, waits_at, free_fault, deep_fault, release_fault, outcome_for, heir, no_sems, sem_made, sem_freed, with_sem, queued, obtained, attempted, handed_on, let_go, dropped};
 
 mod readers;
 
@@ -134,7 +134,7 @@ impl<S: ListSpace> Sems<S> {
     /// Autodoc exec.library/AttemptSemaphore.
     pub fn attempt(&mut self, s: SemId, t: TaskId) -> Result<bool, SemFault>
         requires { IsTrue (is_sem s self.old) }
-        ensures answer { result ≡ fault_or (deep_fault s t self.old) (is_open t (sem_at s self.old)) }
+        ensures answer { result ≡ fault_or (deep_fault s t self.old) (is_free_for t (sem_at s self.old)) }
         ensures next { self.new ≡ kept_or (deep_fault s t self.old) self.old (attempted s t self.old) }
     {
         let sem = self.sem(s);

@@ -1,5 +1,5 @@
--- The sources of interrupts, and which of them ask to be served (RKM Libraries, Exec Interrupts).
-use Rattle.std.specs.Prelude.{ℕ, pos, Bool, true, false, filter, Option, List, [], ◌∷◌}
+-- The sources of interrupts, their names, and which of them ask to be served (RKM Libraries, Exec Interrupts).
+use Rattle.std.specs.Prelude.{ℕ, pos, Bool, true, false, if◌then◌else◌, filter, Option, Some, None, List, [], ◌∷◌, codes, bytes_eq}
 use Rattle.execlist.specs.Order.{chosen}
 use Rattle.softint.specs.declared.source.Source.TheVariants.{Ports, Vertb, Exter}
 use Rattle.softint.specs.{declared.source.Source.Source, declared.latches.Latches.Latches}
@@ -7,6 +7,20 @@ use Rattle.softint.specs.{declared.source.Source.Source, declared.latches.Latche
 -- all sources
 abbrev pub sources : List Source
 sources = Ports ∷ Vertb ∷ Exter ∷ []
+
+-- the name of a source, in the texts and in the trace
+abbrev pub source_text : Source → List ℕ
+source_text Ports = codes "PORTS"
+source_text Vertb = codes "VERTB"
+source_text Exter = codes "EXTER"
+
+-- the source of a name
+abbrev pub source_of : List ℕ → Option Source
+source_of name =
+    if bytes_eq name (codes "PORTS") then Some Ports
+    else if bytes_eq name (codes "VERTB") then Some Vertb
+    else if bytes_eq name (codes "EXTER") then Some Exter
+    else None
 
 -- the level at which a source interrupts the processor
 abbrev pub level : Source → ℕ

@@ -3,7 +3,7 @@ use Rattle.std.proofs.Common.{◌≡◌, ◌∙◌, ℕ, zero, suc, Bool, true, 
 use Rattle.std.proofs.lemmas.List.Elements.{All-head, All-tail}
 use Rattle.execlist.specs.Disciplines.{by_arrival}
 use Rattle.exectrace.specs.Trace.{Value, Done, Switch, Serve, Server, Softint, TraceLine}
-use Rattle.exectrace.specs.Heard.{text_of_source}
+use Rattle.softint.specs.Sources.{source_text}
 use Rattle.exectrace.specs.Trace as trace
 use Rattle.script.specs.declared.event.Event.TheVariants.{Run, Tick, Irq}
 use Rattle.script.specs.{Commands.CommandData, declared.event.Event.Event}
@@ -18,7 +18,7 @@ use Rattle.execmodel.specs.Bodies.{body_step, does_in_body, runs_body}
 use Rattle.execmodel.specs.Interrupts.{softint_at, runs_softint, server_at, chain_of, runs_server, runs_chain, serving_counted, finishes_for, serves, servings, interrupts}
 use Rattle.execmodel.specs.Requests.{finishes_all_due, finishes_each}
 use Rattle.execmodel.specs.Calls.{next_call, call_in_body}
-use Rattle.execmodel.specs.Pending.{source_named, caused_no_more, with_latch_of, next_softint, next_source}
+use Rattle.execmodel.specs.Pending.{caused_no_more, with_latch_of, next_softint, next_source}
 use Rattle.execmodel.specs.Step.{announced, switches, settle, does, ends, task_step, call_step, softint_or_task_step, acting, acts, step, steps, request, tick, ticks, all_added, starts, event, events}
 use Rattle.statekeys.specs.Fits.{is_bare, HasBareWord, IsBare, placed, Stays, Drifts}
 use Rattle.statekeys.proofs.Words.{kept, ends_quiet, word_drifts, word_in_body}
@@ -121,8 +121,8 @@ module _ (b : State) (bare : IsBare b) where
       let begun = on_schedule (serving_counted asks) (on_pending (with_latch_of asks false) s) in
       let there : Stays b begun = record { schedule = serving_stays b.schedule asks s.schedule h.schedule; scripts = h.scripts; bodies = h.bodies } in
       let chain = chain_of asks s.bodies.servers in
-      both (says (Serve (text_of_source asks))) (andthen (finishes_for asks) (runs_chain chain)) begun
-      (says_drifts (Serve (text_of_source asks)) begun there)
+      both (says (Serve (source_text asks))) (andthen (finishes_for asks) (runs_chain chain)) begun
+      (says_drifts (Serve (source_text asks)) begun there)
       (λ r is. both (finishes_for asks) (runs_chain chain) r (finishing_drifts asks r is) (chain_drifts chain))
 
   serving_drifts : (next : State → Outcome) → ((r : State) → Stays b r → Drifts b (λ m. next (placed m r))) → (found : Option Source) (s : State) → Stays b s
@@ -225,7 +225,7 @@ module _ (b : State) (bare : IsBare b) where
   unfolding event
   event_drifts (Run n) s h = steps_drift n s h
   event_drifts (Tick n) s h = ticks_drift n s h
-  event_drifts (Irq name) s h = request_drifts (source_named name) s h
+  event_drifts (Irq asks) s h = request_drifts asks s h
 
   pub events_drift : (list : List Event) (s : State) → Stays b s → Drifts b (λ m. events list (placed m s))
   unfolding events

@@ -7,9 +7,9 @@ use Rattle.script.specs.{declared.event.Event.Event, File.MachineData, File.Task
 use Rattle.softint.specs.declared.source.Source.{Source}
 use Rattle.softint.specs.declared.source.Source.TheVariants as source
 use Rattle.timerdev.specs.Timing.{ticked as clock_ticked}
-use Rattle.execmodel.specs.State.{Memory, Program, State, Outcome, quiet, andthen, unless_stopped, on_memory, on_timer, on_pending, no_program, begun, booted}
+use Rattle.execmodel.specs.State.{Memory, Program, State, Outcome, quiet, andthen, unless_stopped, on_memory, on_timer, on_pending, no_program, new_program, booted}
 use Rattle.execmodel.specs.Interrupts.{no_softint, no_server, interrupts}
-use Rattle.execmodel.specs.Pending.{source_named, with_latch_of}
+use Rattle.execmodel.specs.Pending.{with_latch_of}
 use Rattle.execmodel.specs.Step.{switches, settle, acts, step, steps, request, tick, ticks, starts, event, events, run}
 use Rattle.execmodel.proofs.{Heaps.true_is_not_false, Moments.events_more, TidyLaw.switches_quiet}
 use Rattle.statekeys.specs.{Fits.HasBareWord, Fits.IsBare, Fits.IsWait, Fits.placed, Fits.placed_in, Fits.Stays, Fits.Drifts, Laws.GoesAlike, Laws.TheClockIsUnseen, Laws.KeysTellStates, Numbers.numbers, Runs.IsBareMachine}
@@ -25,13 +25,13 @@ at_each P d (x ∷ xs) all none (suc k) = at_each P d xs (All-tail P x xs all) n
 pub booted_bare : (machine : MachineData) → IsBareMachine machine → IsBare (booted machine)
 unfolding booted
 booted_bare machine is = record {
-  tasks = at_each (λ (program : Program). All HasBareWord program.code) no_program (map begun machine.tasks)
-      (All-map (λ (program : Program). All HasBareWord program.code) begun machine.tasks is.tasks) (All-nil HasBareWord);
+  tasks = at_each (λ (program : Program). All HasBareWord program.code) no_program (map new_program machine.tasks)
+      (All-map (λ (program : Program). All HasBareWord program.code) new_program machine.tasks is.tasks) (All-nil HasBareWord);
   softints = at_each (λ (softint : SoftintData). All HasBareWord softint.code) no_softint machine.softints is.softints (All-nil HasBareWord);
   servers = at_each (λ (server : ServerData). All HasBareWord server.code) no_server machine.servers is.servers (All-nil HasBareWord);
 }
 
-none_waits : (tasks : List TaskData) (t : ℕ) → IfSome (slice_index_or (map begun tasks) t no_program).kept IsWait
+none_waits : (tasks : List TaskData) (t : ℕ) → IfSome (slice_index_or (map new_program tasks) t no_program).kept IsWait
 none_waits [] t = tt
 none_waits (task ∷ tasks) zero = tt
 none_waits (task ∷ tasks) (suc t) = none_waits tasks t
@@ -47,10 +47,10 @@ booted_stays machine = record {
 pub booted_even : (machine : MachineData) → IsEven (booted machine).schedule (booted machine).scripts
 unfolding booted
 booted_even machine = record {
-  states = length-replicate (length machine.tasks) _ ∙ sym (length-map machine.tasks begun);
-  pris = length-map machine.tasks (λ (task : TaskData). task.pri) ∙ sym (length-map machine.tasks begun);
-  signals = length-replicate (length machine.tasks) _ ∙ sym (length-map machine.tasks begun);
-  nestings = length-replicate (length machine.tasks) _ ∙ sym (length-map machine.tasks begun);
+  states = length-replicate (length machine.tasks) _ ∙ sym (length-map machine.tasks new_program);
+  pris = length-map machine.tasks (λ (task : TaskData). task.pri) ∙ sym (length-map machine.tasks new_program);
+  signals = length-replicate (length machine.tasks) _ ∙ sym (length-map machine.tasks new_program);
+  nestings = length-replicate (length machine.tasks) _ ∙ sym (length-map machine.tasks new_program);
 }
 
 -- ---- whether the machine is idle
@@ -108,7 +108,7 @@ event_right : (e : Event) (s : State) → IsRight s → IsRight (event e s).stat
 unfolding event
 event_right (Run n) s right = steps_right n s right
 event_right (Tick n) s right = ticks_right n s right
-event_right (Irq name) s right = request_right (source_named name) s
+event_right (Irq asks) s right = request_right asks s
 
 events_right : (list : List Event) (s : State) → IsRight s → IsRight (events list s).state
 unfolding events andthen

@@ -5,7 +5,7 @@ use Rattle.signals.specs.Signals.{SignalSets, after_post, taken_signals}
 use Rattle.forbid.specs.Nesting.{Nesting}
 use Rattle.taskq.specs.Tasks.{is_ready, is_live}
 use Rattle.taskq.specs.declared.TaskState.{TaskState}
-use Rattle.scheduler.specs.Schedule.{Schedule, status_of, signals_of, with_status, with_priority, with_signals, allocates, frees, sets_signals, takes, waits_for, after_wait, nested, leaves, removed, begins, renewed, ticked, ticked_for, is_absent, awaits, is_switching_allowed, is_quantum_over, takes_over, switch_for}
+use Rattle.scheduler.specs.Schedule.{Schedule, status_of, signals_of, with_status, with_priority, with_signals, allocates, frees, sets_signals, takes, waits_for, after_wait, nested, leaves, removed, begins, renewed, quantum_ticked, ticked_for, is_absent, awaits, is_switching_allowed, is_quantum_over, takes_over, switch_for}
 use Rattle.scheduler.specs.{Dispatch.arrives, Dispatch.added, Dispatch.signalled, Dispatch.reprioritized, Dispatch.displaced, Dispatch.after_switch, Dispatch.rescheduled, Dispatch.switch_of}
 use Rattle.scheduler.specs.declared.Switch.TheVariants as switch
 use Rattle.execmodel.specs.{State.Scripts, State.program_of, Step.all_added}
@@ -210,7 +210,7 @@ module _ (b : Schedule) where
   }
 
   pub serving_stays : (asks : Source) (s : Schedule) → StaysSchedule b s → StaysSchedule b (serving_counted asks s)
-  unfolding ticked
+  unfolding quantum_ticked
   serving_stays source.Ports s h = h
   serving_stays source.Vertb s h = counted_stays s.running s h
   serving_stays source.Exter s h = h

@@ -2,7 +2,7 @@
 use Rattle.std.proofs.Common.{◌≡◌, ℕ, ◌<◌, ◌≤◌, ◌+◌, zero, suc, Bool, true, false, cond, List, [], ◌∷◌, ◌++◌, Option, Some, None, IfSome, map, take, length, replicate, slice_set, slice_index_or, refl, sym, ap, ◌∙◌, arith, ℤ, pos, find, length-set, set-set, get_or-set_same}
 use Rattle.std.specs.List.{range_with_len}
 use Rattle.std.proofs.lemmas.{Bool.cond-true, Bool.cond-false, List.length-map, List.map-set, List.set-get_or, List.get_or_read, List.take_more, List.take_more_set, List.get_or_past}
-use Rattle.execlist.specs.{Order.enqueue, Order.without, Lists.Key, Lists.pri_of, Lists.times, Lists.sequence, Lists.is_at, Disciplines.pri_at}
+use Rattle.execlist.specs.{Order.enqueue, Order.without, Lists.KeyData, Lists.pri_of, Lists.times, Lists.sequence, Lists.is_at, Disciplines.pri_at}
 use Rattle.taskq.specs.declared.TaskState.TheVariants.{Absent, Ready, Running, Waiting, Removed}
 use Rattle.taskq.specs.{declared.TaskState.TaskState, Tasks.home_for, Tasks.state_at, Tasks.pris_of, Tasks.is_ready, Tasks.is_live}
 use Rattle.execlist.proofs.PlainLemmas.{mapped_replicate, without_fresh}
@@ -44,19 +44,19 @@ states_kept states t v = length-set states t v
 
 -- Priorities.
 
-pri_of_key : (keys : List Key) (t : ℕ) → pri_of keys t ≡ pri_at (pris_of keys) t
+pri_of_key : (keys : List KeyData) (t : ℕ) → pri_of keys t ≡ pri_at (pris_of keys) t
 pri_of_key [] t = refl
 pri_of_key (k ∷ ks) zero = refl
 pri_of_key (k ∷ ks) (suc t) = pri_of_key ks t
 
 -- the priorities are those of the keys, as functions of the task
-pub pris_are : (keys : List Key) → pri_of keys ≡ pri_at (pris_of keys)
+pub pris_are : (keys : List KeyData) → pri_of keys ≡ pri_at (pris_of keys)
 pris_are keys = fun_ext (pri_of_key keys)
 
-pub enqueue_by_pris : (keys : List Key) (xs : List ℕ) (t : ℕ) → enqueue (pri_of keys) xs t ≡ enqueue (pri_at (pris_of keys)) xs t
+pub enqueue_by_pris : (keys : List KeyData) (xs : List ℕ) (t : ℕ) → enqueue (pri_of keys) xs t ≡ enqueue (pri_at (pris_of keys)) xs t
 enqueue_by_pris keys xs t = ap (λ key. enqueue key xs t) (pris_are keys)
 
-pub pris_written : (keys : List Key) (t : ℕ) (k : Key) → pris_of (slice_set keys t k) ≡ slice_set (pris_of keys) t k.pri
+pub pris_written : (keys : List KeyData) (t : ℕ) (k : KeyData) → pris_of (slice_set keys t k) ≡ slice_set (pris_of keys) t k.pri
 pris_written keys t k = map-set (λ x. x.pri) keys t k
 
 -- States.
@@ -94,7 +94,7 @@ known_live (x ∷ xs) (suc t) e = omega (arith, known_live xs t e)
 only_written : (all : List (List ℕ)) (xs : List ℕ) → length all ≡ 1 → sequence (slice_set all 0 xs) 0 ≡ xs
 only_written all xs e = get_or-set_same all 0 xs [] (omega arith)
 
-pub arrived : (all new : List (List ℕ)) (keys : List Key) (t : ℕ) → length all ≡ 1 → new ≡ slice_set all 0 (enqueue (pri_of keys) (sequence all 0) t) → sequence new 0 ≡ enqueue (pri_at (pris_of keys)) (sequence all 0) t
+pub arrived : (all new : List (List ℕ)) (keys : List KeyData) (t : ℕ) → length all ≡ 1 → new ≡ slice_set all 0 (enqueue (pri_of keys) (sequence all 0) t) → sequence new 0 ≡ enqueue (pri_at (pris_of keys)) (sequence all 0) t
 arrived all new keys t one e = ap (λ l. sequence l 0) e ∙ only_written all (enqueue (pri_of keys) (sequence all 0) t) one
     ∙ enqueue_by_pris keys (sequence all 0) t
 
@@ -110,7 +110,7 @@ not_there t xs o none law = sym (without_fresh t xs (law ∙ ap (λ k. cond (is_
 
 -- New tasks.
 
-pub pris_set : (keys : List Key) (ps : List ℤ) (t : ℕ) (k : Key) → t < length keys → t < length ps → take t (pris_of keys) ≡ take t ps → k.pri ≡ slice_index_or ps t (pos 0) → take (t + 1) (pris_of (slice_set keys t k)) ≡ take (t + 1) ps
+pub pris_set : (keys : List KeyData) (ps : List ℤ) (t : ℕ) (k : KeyData) → t < length keys → t < length ps → take t (pris_of keys) ≡ take t ps → k.pri ≡ slice_index_or ps t (pos 0) → take (t + 1) (pris_of (slice_set keys t k)) ≡ take (t + 1) ps
 pris_set keys ps t k lk lp e p =
     ap (take (t + 1)) (pris_written keys t k) ∙ take_more_set (pris_of keys) t k.pri (omega (arith, length-map keys (λ x. x.pri)))
     ∙ ap (λ l. l ++ k.pri ∷ []) e ∙ ap (λ x. take t ps ++ x ∷ []) p ∙ sym (take_more ps t (pos 0) lp)

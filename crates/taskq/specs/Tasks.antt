@@ -3,7 +3,7 @@
 -- RKM Libraries, Exec Tasks.
 use Rattle.std.specs.Prelude.{◌≡◌, ℕ, ℤ, length, List, [], Option, Some, None, Bool, true, false, ◌&&◌, ◌==◌, slice_index_or, map}
 use Rattle.std.specs.Cmp.Lexicographic.{pointwise}
-use Rattle.execlist.specs.Lists.{Key}
+use Rattle.execlist.specs.Lists.{KeyData}
 use Rattle.taskq.specs.declared.TaskState.TheVariants.{Absent, Ready, Running, Waiting, Removed}
 use Rattle.taskq.specs.declared.TaskState.{TaskState}
 
@@ -51,7 +51,7 @@ home_for (Waiting why) = None
 home_for Removed = None
 
 -- the priorities of keys
-abbrev pub pris_of : List Key → List ℤ
+abbrev pub pris_of : List KeyData → List ℤ
 pris_of keys = map (λ k. k.pri) keys
 
 -- a list space with these homes represents tasks of these states: it has one header, which holds the

@@ -6,10 +6,10 @@ use Rattle.toml.specs.View.{view, items_view}
 use Rattle.toml.specs.declared.value.Value.{Value}
 use Rattle.toml.proofs.Views.{items_view-drop}
 use Rattle.taskscript.specs.declared.fault.FileFault.TheVariants.{BadCommand, NotInInterrupt, BadLabel, TooMany}
-use Rattle.taskscript.specs.Numbering.{Names, names_after, variable_in, is_within, argument_in, command_in, variables_of, labels_of_arguments, have_room}
+use Rattle.taskscript.specs.Numbering.{Names, names_after, variable_in, keeps_variable_limits, argument_in, command_in, variables_of, labels_of_arguments, have_room}
 use Rattle.taskscript.specs.Code.{line_in, lines_in, command_said, label_said, commands_of, labels_of, is_label_of, place_of, names_of, line_faults, lines_faults, jump_faults, jumps_said, jumps_faults, body_faults, code_of, shared_after}
 use Rattle.script.specs.{declared.command.Command.Command, Commands.ArgumentData, Commands.CommandData, Commands.command_view}
-use Rattle.taskscript.specs.{declared.fault.FileFault.FileFault, Faults.check, Faults.Judges, Interrupting.Setting, Interrupting.may_stand, Interrupting.names_softints, Labels.Mark, Labels.place_in, Labels.place_at, Labels.are_marked, Labels.jump_faults_in, Labels.jumps_faults_in, Lines.NamedVariableData, Lines.NamedArgumentData, Lines.number, Lines.variable, Lines.label, Lines.quoted, Lines.NamedCommandData, Lines.LineData, Lines.label_line, Lines.command_line, declared.place.Owner.Owner, declared.refused.Refused.Refused, Listings.number_said, Listings.command_lines_from, Listings.command_lines, Meaning.says, Places.at, Places.line_at, Places.refused, Bodies.Reading, Bodies.nothing_read, Bodies.reading_with, Bodies.reading_after, Bodies.said_faults, Bodies.faults_after}
+use Rattle.taskscript.specs.{declared.fault.FileFault.FileFault, Faults.check, Faults.Judges, Interrupting.Setting, Interrupting.may_stand, Interrupting.names_softints, Labels.Mark, Labels.place_in, Labels.place_at, Labels.are_marked, Labels.jump_faults_in, Labels.jumps_faults_in, Lines.NamedVariableData, Lines.NamedArgumentData, Lines.number, Lines.variable, Lines.label, Lines.quoted, Lines.NamedCommandData, Lines.LineData, Lines.label_line, Lines.command_line, declared.place.Owner.Owner, declared.refused.Refused.Refused, Listings.number_said, Listings.command_lines_from, Listings.command_lines, Meaning.line_meaning, Places.at, Places.line_at, Places.refused, Bodies.Reading, Bodies.nothing_read, Bodies.reading_with, Bodies.reading_after, Bodies.said_faults, Bodies.faults_after}
 use Rattle.script.specs.Commands as numbered
 use Rattle.execlist.specs.Order.{first}
 use Rattle.taskscript.proofs.{Firsts.first_none, Firsts.first_some, Firsts.first_left, Firsts.first_right, Firsts.at_none, Firsts.at_some, Firsts.none_at, FirstSight.room_whole, Turns.names_after-append}
@@ -49,8 +49,8 @@ faults_step w j n s r whole others (Some (label_line name)) rest h =
     ∙ ap (λ (fs : List Refused). at (line_at w j n) (here ++ check (not (list_any (bytes_eq name) (mark_names r.marks))) BadLabel) ++ fs)
     (rest (reading_with r (Some (label_line name))) h ∙ ap (λ (ns : List (List ℕ)). lines_faults w j (n + 1) s whole ns others) (map_push (λ (m : Mark). m.name) r.marks (mark name (length r.commands))))
 faults_step w j n s r whole others (Some (command_line c)) rest h =
-    let room : have_room r.names (variables_of c) ≡ list_all (λ v. is_within (variable_in whole v)) (variables_of c) =
-    room_whole r.names (variables_of c) (variables_left others) ∙ ap (λ (names : Names). list_all (λ v. is_within (variable_in names v)) (variables_of c)) h in
+    let room : have_room r.names (variables_of c) ≡ list_all (λ v. keeps_variable_limits (variable_in whole v)) (variables_of c) =
+    room_whole r.names (variables_of c) (variables_left others) ∙ ap (λ (names : Names). list_all (λ v. keeps_variable_limits (variable_in names v)) (variables_of c)) h in
     let q = reading_with r (Some (command_line c)) in
     ap (λ (b : Bool). at (line_at w j n) (check (names_softints s c) BadCommand ++ (check (may_stand s c) NotInInterrupt ++ check b TooMany)) ++ faults_after w j (n + 1) s q others) room
     ∙ ap (λ (fs : List Refused). at (line_at w j n) (line_faults s whole (mark_names r.marks) (Some (command_line c))) ++ fs)
@@ -59,7 +59,7 @@ faults_step w j n s r whole others (Some (command_line c)) rest h =
 pub faults_whole : (w : Owner) (j n : ℕ) (s : Setting) (r : Reading) (whole : Names) (lines : List (List ℕ)) → names_after r.names (variables_left lines) ≡ whole
     → faults_after w j n s r lines ≡ lines_faults w j n s whole (mark_names r.marks) lines
 faults_whole w j n s r whole [] h = refl
-faults_whole w j n s r whole (line ∷ others) h = faults_step w j n s r whole others (says line) (λ q k. faults_whole w j (n + 1) s q whole others k) h
+faults_whole w j n s r whole (line ∷ others) h = faults_step w j n s r whole others (line_meaning line) (λ q k. faults_whole w j (n + 1) s q whole others k) h
 
 -- ---- what was read
 
@@ -76,7 +76,7 @@ place_after k (Some (command_line c)) = k + 1
 
 abbrev pub marks_from : ℕ → List (List ℕ) → List Mark
 marks_from k [] = []
-marks_from k (line ∷ others) = marks_said k (says line) (marks_from (place_after k (says line)) others)
+marks_from k (line ∷ others) = marks_said k (line_meaning line) (marks_from (place_after k (line_meaning line)) others)
 
 abbrev reading : List NamedCommandData → Names → List Mark → Reading
 reading cs names marks = record { commands = cs; names = names; marks = marks }
@@ -99,7 +99,7 @@ read_step r others (Some (command_line c)) rest =
 
 pub read_whole : (r : Reading) (lines : List (List ℕ)) → reading_after r lines ≡ reading (r.commands ++ commands_of lines) (names_after r.names (variables_left lines)) (r.marks ++ marks_from (length r.commands) lines)
 read_whole r [] = ap (λ (cs : List NamedCommandData). reading cs r.names r.marks) (sym (append-nil r.commands)) ∙ ap (λ (ms : List Mark). reading (r.commands ++ []) r.names ms) (sym (append-nil r.marks))
-read_whole r (line ∷ others) = read_step r others (says line) (λ q. read_whole q others)
+read_whole r (line ∷ others) = read_step r others (line_meaning line) (λ q. read_whole q others)
 
 -- ---- places
 
@@ -110,7 +110,7 @@ names_step k (Some (command_line c)) rest names h = h
 
 pub marks_from-names : (k : ℕ) (lines : List (List ℕ)) → mark_names (marks_from k lines) ≡ labels_of lines
 marks_from-names k [] = refl
-marks_from-names k (line ∷ others) = names_step k (says line) (marks_from (place_after k (says line)) others) (labels_of others) (marks_from-names (place_after k (says line)) others)
+marks_from-names k (line ∷ others) = names_step k (line_meaning line) (marks_from (place_after k (line_meaning line)) others) (labels_of others) (marks_from-names (place_after k (line_meaning line)) others)
 
 one_more : (n : ℕ) (x : List ℕ) (xs : List (List ℕ)) → take (1 + n) (x ∷ xs) ≡ x ∷ take n xs
 one_more n x xs = let e : 1 + n ≡ suc n = omega arith in ap (λ (k : ℕ). take k (x ∷ xs)) e
@@ -122,10 +122,10 @@ before_step false n x xs = one_more n x xs
 before_first-cons : (p : List ℕ → Bool) (x : List ℕ) (xs : List (List ℕ)) → before_first p (x ∷ xs) ≡ cond (p x) [] (x ∷ before_first p xs)
 before_first-cons p x xs = before_step (p x) (position_or_len p xs) x xs
 
-place_of-cons : (n line : List ℕ) (others : List (List ℕ)) → place_of (line ∷ others) n ≡ cond (is_label_of n line) 0 (length (cons_option (command_said (says line)) (commands_of (before_first (is_label_of n) others))))
+place_of-cons : (n line : List ℕ) (others : List (List ℕ)) → place_of (line ∷ others) n ≡ cond (is_label_of n line) 0 (length (cons_option (command_said (line_meaning line)) (commands_of (before_first (is_label_of n) others))))
 place_of-cons n line others = ap (λ (ls : List (List ℕ)). length (commands_of ls)) (before_first-cons (is_label_of n) line others) ∙ split (is_label_of n line)
   where
-    split : (b : Bool) → length (commands_of (cond b [] (line ∷ before_first (is_label_of n) others))) ≡ cond b 0 (length (cons_option (command_said (says line)) (commands_of (before_first (is_label_of n) others))))
+    split : (b : Bool) → length (commands_of (cond b [] (line ∷ before_first (is_label_of n) others))) ≡ cond b 0 (length (cons_option (command_said (line_meaning line)) (commands_of (before_first (is_label_of n) others))))
     split true = refl
     split false = refl
 
@@ -147,7 +147,7 @@ place_step n k (Some (command_line c)) others rest h = rest (k + 1) h ∙ plus (
 
 pub place_at-marks : (n : List ℕ) (k : ℕ) (lines : List (List ℕ)) → list_any (bytes_eq n) (labels_of lines) ≡ true → place_at (marks_from k lines) n ≡ k + place_of lines n
 place_at-marks n k [] h = absurd cc
-place_at-marks n k (line ∷ others) h = place_step n k (says line) others (λ j g. place_at-marks n j others g) h ∙ ap (λ (j : ℕ). k + j) (sym (place_of-cons n line others))
+place_at-marks n k (line ∷ others) h = place_step n k (line_meaning line) others (λ j g. place_at-marks n j others g) h ∙ ap (λ (j : ℕ). k + j) (sym (place_of-cons n line others))
 
 -- ---- commands with their places
 
@@ -197,7 +197,7 @@ pub jumps_judged : (w : Owner) (j n : ℕ) (marks : List Mark) (labels : List (L
     → jumps_faults_in w j marks (command_lines_from n lines) (commands_of lines) ≡ jumps_faults w j n labels lines
 jumps_judged w j n marks labels h [] = refl
 jumps_judged w j n marks labels h (line ∷ others) =
-    jumps_step w j n marks labels h (command_lines_from (n + 1) others) (commands_of others) (says line) (jumps_faults w j (n + 1) labels others) (jumps_judged w j (n + 1) marks labels h others)
+    jumps_step w j n marks labels h (command_lines_from (n + 1) others) (commands_of others) (line_meaning line) (jumps_faults w j (n + 1) labels others) (jumps_judged w j (n + 1) marks labels h others)
 
 one_number : (n : ℕ) (o : Option LineData) (numbers : List ℕ) (cs : List NamedCommandData) → length numbers ≡ length cs → length (cons_option (number_said n o) numbers) ≡ length (cons_option (command_said o) cs)
 one_number n None numbers cs h = h
@@ -207,7 +207,7 @@ one_number n (Some (command_line c)) numbers cs h = ap suc h
 -- each command has its line
 pub lines_of_commands : (n : ℕ) (lines : List (List ℕ)) → length (command_lines_from n lines) ≡ length (commands_of lines)
 lines_of_commands n [] = refl
-lines_of_commands n (line ∷ others) = one_number n (says line) (command_lines_from (n + 1) others) (commands_of others) (lines_of_commands (n + 1) others)
+lines_of_commands n (line ∷ others) = one_number n (line_meaning line) (command_lines_from (n + 1) others) (commands_of others) (lines_of_commands (n + 1) others)
 
 -- ---- the whole
 
@@ -285,18 +285,18 @@ next_line items i v line lt is text =
     ap lines_in (items_view-drop items i v lt) ∙ ap (λ (w : Value). line_in (view w) ∷ lines_in (items_view (drop (i + 1) items))) (sym is)
     ∙ ap (λ (t : List ℕ). t ∷ lines_in (items_view (drop (i + 1) items))) (sym text)
 
-pub line_stops : (w : Owner) (j n : ℕ) (s : Setting) (r : Reading) (line : List ℕ) (left others : List (List ℕ)) (f : FileFault) (o : Option Refused) → left ≡ line ∷ others → first (said_faults s r (says line)) ≡ Some f
+pub line_stops : (w : Owner) (j n : ℕ) (s : Setting) (r : Reading) (line : List ℕ) (left others : List (List ℕ)) (f : FileFault) (o : Option Refused) → left ≡ line ∷ others → first (said_faults s r (line_meaning line)) ≡ Some f
     → first (faults_after w j n s r left) ≡ o → o ≡ Some (refused (line_at w j n) f)
 line_stops w j n s r line left others f o is h so_far =
     sym so_far ∙ ap (λ (ls : List (List ℕ)). first (faults_after w j n s r ls)) is
-    ∙ first_some (at (line_at w j n) (said_faults s r (says line))) (faults_after w j (n + 1) s (reading_with r (says line)) others) (refused (line_at w j n) f) (at_some (line_at w j n) (said_faults s r (says line)) f h)
+    ∙ first_some (at (line_at w j n) (said_faults s r (line_meaning line))) (faults_after w j (n + 1) s (reading_with r (line_meaning line)) others) (refused (line_at w j n) f) (at_some (line_at w j n) (said_faults s r (line_meaning line)) f h)
 
-pub line_goes_on : (w : Owner) (j n : ℕ) (s : Setting) (r q : Reading) (line : List ℕ) (left others : List (List ℕ)) → left ≡ line ∷ others → first (said_faults s r (says line)) ≡ None → q ≡ reading_with r (says line)
+pub line_goes_on : (w : Owner) (j n : ℕ) (s : Setting) (r q : Reading) (line : List ℕ) (left others : List (List ℕ)) → left ≡ line ∷ others → first (said_faults s r (line_meaning line)) ≡ None → q ≡ reading_with r (line_meaning line)
     → first (faults_after w j n s r left) ≡ first (faults_after w j (n + 1) s q others)
 line_goes_on w j n s r q line left others is good more =
     ap (λ (ls : List (List ℕ)). first (faults_after w j n s r ls)) is
-    ∙ first_none (at (line_at w j n) (said_faults s r (says line))) (faults_after w j (n + 1) s (reading_with r (says line)) others) (at_none (line_at w j n) (said_faults s r (says line)) good)
+    ∙ first_none (at (line_at w j n) (said_faults s r (line_meaning line))) (faults_after w j (n + 1) s (reading_with r (line_meaning line)) others) (at_none (line_at w j n) (said_faults s r (line_meaning line)) good)
     ∙ ap (λ (p : Reading). first (faults_after w j (n + 1) s p others)) (sym more)
 
-pub line_read : (r q : Reading) (line : List ℕ) (left others : List (List ℕ)) → left ≡ line ∷ others → q ≡ reading_with r (says line) → reading_after r left ≡ reading_after q others
+pub line_read : (r q : Reading) (line : List ℕ) (left others : List (List ℕ)) → left ≡ line ∷ others → q ≡ reading_with r (line_meaning line) → reading_after r left ≡ reading_after q others
 line_read r q line left others is more = ap (λ (ls : List (List ℕ)). reading_after r ls) is ∙ ap (λ (p : Reading). reading_after p others) (sym more)

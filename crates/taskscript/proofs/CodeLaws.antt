@@ -5,14 +5,14 @@ use Rattle.std.proofs.lemmas.List.Elements.{All-nil, All-cons, All-head, All-tai
 use Rattle.std.proofs.lemmas.{Bool.and_parts, Bool.Decides.nat_tests, List.length-map, List.Folds.list_all-append}
 use Rattle.taskscript.specs.declared.fault.FileFault.TheVariants.{BadCommand, NotInInterrupt, TooMany}
 use Rattle.script.specs.declared.variable.Variable.TheVariants.{Private, Shared}
-use Rattle.taskscript.specs.Numbering.{Names, variable_in, argument_in, command_in, is_within, variables_of_target, variables_of_arguments, variables_of}
+use Rattle.taskscript.specs.Numbering.{Names, variable_in, argument_in, command_in, keeps_variable_limits, variables_of_target, variables_of_arguments, variables_of}
 use Rattle.script.specs.{declared.variable.Variable.Variable, Commands.CommandData, Commands.VariableFits, Commands.ArgumentFits, Commands.CommandFits}
-use Rattle.taskscript.specs.{declared.fault.FileFault.FileFault, Faults.check, Interrupting.Setting, Interrupting.may_stand, Interrupting.names_softints, Lines.NamedVariableData, Lines.NamedArgumentData, Lines.number, Lines.variable, Lines.label, Lines.quoted, Lines.NamedCommandData, Lines.LineData, Lines.label_line, Lines.command_line, Code.command_said, Code.commands_of, Code.labels_of, Code.place_of, Code.names_of, Code.line_faults, Code.lines_faults, Code.jumps_faults, Code.body_faults, Code.code_of, declared.place.Owner.Owner, Meaning.says, Places.at, Places.line_at}
+use Rattle.taskscript.specs.{declared.fault.FileFault.FileFault, Faults.check, Interrupting.Setting, Interrupting.may_stand, Interrupting.names_softints, Lines.NamedVariableData, Lines.NamedArgumentData, Lines.number, Lines.variable, Lines.label, Lines.quoted, Lines.NamedCommandData, Lines.LineData, Lines.label_line, Lines.command_line, Code.command_said, Code.commands_of, Code.labels_of, Code.place_of, Code.names_of, Code.line_faults, Code.lines_faults, Code.jumps_faults, Code.body_faults, Code.code_of, declared.place.Owner.Owner, Meaning.line_meaning, Places.at, Places.line_at}
 use Rattle.script.specs.Commands as numbered
 use Rattle.execlist.specs.Order.{first}
 use Rattle.taskscript.proofs.{Firsts.first_left, Firsts.first_right, Firsts.none_at, FirstSight.all_within}
 
-variable_fits : (n : Variable) → is_within n ≡ true → VariableFits n
+variable_fits : (n : Variable) → keeps_variable_limits n ≡ true → VariableFits n
 variable_fits (Private n) h = grind (arith, nat_tests)
 variable_fits (Shared n) h = grind (arith, nat_tests)
 
@@ -72,9 +72,9 @@ pub lines_stand : (w : Owner) (j n : ℕ) (s : Setting) (names : Names) (before 
 lines_stand w j n s names before [] h = All-nil (Stands s names)
 lines_stand w j n s names before (line ∷ others) h =
     let after = before ++ labels_of (line ∷ []) in
-    let here = at (line_at w j n) (line_faults s names before (says line)) in
+    let here = at (line_at w j n) (line_faults s names before (line_meaning line)) in
     let later = lines_faults w j (n + 1) s names after others in
-    said_stand s names before (says line) (commands_of others) (none_at (line_at w j n) (line_faults s names before (says line)) (first_left here later h)) (lines_stand w j (n + 1) s names after others (first_right here later h))
+    said_stand s names before (line_meaning line) (commands_of others) (none_at (line_at w j n) (line_faults s names before (line_meaning line)) (first_left here later h)) (lines_stand w j (n + 1) s names after others (first_right here later h))
 
 pub commands_stand : (w : Owner) (j : ℕ) (s : Setting) (shared lines : List (List ℕ)) → first (body_faults w j s shared lines) ≡ None → All (Stands s (names_of shared lines)) (commands_of lines)
 unfolding body_faults
@@ -100,7 +100,7 @@ both : (a b : Bool) → a ≡ true → b ≡ true → (a && b) ≡ true
 both a b h k = cc
 
 within-append : (names : Names) (vs ws : List NamedVariableData) → all_within names vs ≡ true → all_within names ws ≡ true → all_within names (vs ++ ws) ≡ true
-within-append names vs ws h k = list_all-append (λ v. is_within (variable_in names v)) vs ws ∙ both _ _ h k
+within-append names vs ws h k = list_all-append (λ v. keeps_variable_limits (variable_in names v)) vs ws ∙ both _ _ h k
 
 commands_within : (s : Setting) (names : Names) (cs : List NamedCommandData) → All (Stands s names) cs → all_within names (flat_map variables_of cs) ≡ true
 commands_within s names [] h = refl
@@ -116,7 +116,7 @@ count_more (Some c) others k h = omega arith
 
 count_commands : (lines : List (List ℕ)) → length (commands_of lines) ≤ length lines
 count_commands [] = omega arith
-count_commands (line ∷ others) = count_more (command_said (says line)) (commands_of others) (length others) (count_commands others)
+count_commands (line ∷ others) = count_more (command_said (line_meaning line)) (commands_of others) (length others) (count_commands others)
 
 pub length-code_of : (shared lines : List (List ℕ)) → length (code_of shared lines) ≤ length lines
 unfolding code_of

@@ -2,7 +2,8 @@
 use Rattle.std.proofs.Common.{◌≡◌, ℕ, ◌≤◌, Bool, true, false, ◌&&◌, nat_le, codes, if◌then◌else◌, List, [], ◌∷◌, drop, All, Option, Some, None, option_map, option_and_then, refl, arith, option_to_list}
 use Rattle.std.proofs.lemmas.{Bool.Decides.nat_tests, List.Elements.All-nil, List.Elements.All-cons, List.Elements.All-append}
 use Rattle.script.specs.declared.event.Event.TheVariants.{Run, Tick, Irq}
-use Rattle.script.specs.{declared.event.Event.Event, declared.source.Source.Source, Sources.requested_source_of, Events.turns}
+use Rattle.script.specs.{declared.event.Event.Event, Sources.requested_source_of, Events.turns}
+use Rattle.softint.specs.declared.source.Source.{Source}
 use Rattle.taskscript.specs.{Numbers.decimal_of, Events.in_turns, Events.turns_of, Events.begins_with, Events.event_of, Events.is_skipped, Events.events_on, Events.events_of}
 
 in_turns_some : (n k : ℕ) → in_turns n ≡ Some k → 1 ≤ k

@@ -3,7 +3,7 @@ use Rattle.std.proofs.Common.{◌≡◌, ℕ, ◌+◌, ◌≤◌, ◌<◌, Bool,
 use Rattle.std.proofs.lemmas.{List.drop_more, List.take_more, List.length-map, List.length_push, List.Sums.sum_by_push, Bool.Decides.nat_tests}
 use Rattle.std.proofs.Math.ListN.{get_or-map as default_map}
 use Rattle.taskscript.specs.declared.fault.EventFault.TheVariants.{BadLine, TooMany, OutOfMemory}
-use Rattle.script.specs.Events.{steps, ticks, are_within, is_within, AreWithin}
+use Rattle.script.specs.Events.{event_steps, event_ticks, are_within, is_within, AreWithin}
 use Rattle.taskscript.specs.Events.{event_of, is_skipped, events_on, events_of, event_line_faults, event_faults, text_lines, script_of, JudgesLines}
 use Rattle.script.specs.declared.event.Event.{Event}
 use Rattle.taskscript.specs.declared.fault.EventFault.{EventFault}
@@ -62,8 +62,8 @@ pub more_found : (ls : List (Bor (List ℕ))) (i : ℕ) (e : Event) (es : List E
 more_found ls i e es lt h some so_far = ap (λ (xs : List Event). xs ++ e ∷ []) so_far ∙ sym (event_found ls i e lt h some) ∙ sym (ap events_of (next_take ls i lt))
 
 -- the counters are the sums
-pub counted : (es : List Event) (e : Event) (s t : ℕ) → s ≡ sum_by steps es → t ≡ sum_by ticks es → are_within (s + steps e) (t + ticks e) (length es + 1) ≡ is_within (es ++ e ∷ [])
-counted es e s t p q = rw (sum_by_push steps es e, sum_by_push ticks es e, length_push es e, ← p, ← q)
+pub counted : (es : List Event) (e : Event) (s t : ℕ) → s ≡ sum_by event_steps es → t ≡ sum_by event_ticks es → are_within (s + event_steps e) (t + event_ticks e) (length es + 1) ≡ is_within (es ++ e ∷ [])
+counted es e s t p q = rw (sum_by_push event_steps es e, sum_by_push event_ticks es e, length_push es e, ← p, ← q)
 
 judged_here : (ls : List (Bor (List ℕ))) (i : ℕ) (e : Event) (es : List Event) (b : Bool) → i < length ls → is_skipped (text_at ls i) ≡ false → Some e ≡ event_of (text_at ls i) → es ≡ events_of (take i (texts ls)) → is_within (es ++ e ∷ []) ≡ b
     → event_line_faults (take i (texts ls)) (text_at ls i) ≡ (if b then [] else TooMany ∷ [])
@@ -82,7 +82,7 @@ pub limits : (s t n : ℕ) → are_within s t n ≡ true → (s ≤ 1000000) × 
 limits s t n h = (grind (arith, nat_tests), grind (arith, nat_tests), grind (arith, nat_tests))
 
 -- the events are within the limits if the counters are
-pub all_within : (es : List Event) (lines : List (List ℕ)) (s t : ℕ) → es ≡ events_of lines → s ≡ sum_by steps es → t ≡ sum_by ticks es → s ≤ 1000000 → t ≤ 1000000 → length es ≤ 100000 → AreWithin es
+pub all_within : (es : List Event) (lines : List (List ℕ)) (s t : ℕ) → es ≡ events_of lines → s ≡ sum_by event_steps es → t ≡ sum_by event_ticks es → s ≤ 1000000 → t ≤ 1000000 → length es ≤ 100000 → AreWithin es
 all_within es lines s t found p q few short count = record { some = rw found (events_some lines); steps = omega arith; ticks = omega arith; count = count }
 
 pub decided : (text : List ℕ) (ls : List (List ℕ)) (r : Result (List Event) EventFault) → ls ≡ text_lines text → JudgesLines r (event_faults [] ls) (λ v. v ≡ events_of ls)

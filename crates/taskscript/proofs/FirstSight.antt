@@ -3,7 +3,7 @@ use Rattle.std.proofs.Common.{◌≡◌, ℕ, ◌+◌, Bool, true, false, not, �
 use Rattle.std.specs.List.{list_any, list_all}
 use Rattle.std.proofs.lemmas.{Bool.cases_Bool, Slice.Eq.bytes_eq-Decides}
 use Rattle.script.specs.declared.variable.Variable.TheVariants.{Private, Shared}
-use Rattle.taskscript.specs.Numbering.{seen_after, number_in, Names, names_with, names_after, variable_in, is_within, have_room}
+use Rattle.taskscript.specs.Numbering.{seen_after, number_in, Names, names_with, names_after, variable_in, keeps_variable_limits, have_room}
 use Rattle.script.specs.declared.variable.Variable.{Variable}
 use Rattle.taskscript.specs.Lines.{NamedVariableData}
 
@@ -103,10 +103,10 @@ variable_first names v later = variable_after (names_with names v) v later (seen
 -- ---- variables in turn, and in the whole
 
 abbrev pub all_within : Names → List NamedVariableData → Bool
-all_within names vs = list_all (λ v. is_within (variable_in names v)) vs
+all_within names vs = list_all (λ v. keeps_variable_limits (variable_in names v)) vs
 
 pub room_whole : (names : Names) (vs later : List NamedVariableData) → have_room names vs ≡ all_within (names_after names (vs ++ later)) vs
 room_whole names [] later = refl
 room_whole names (v ∷ vs) later =
-    ap (λ (n : Variable). is_within n && have_room (names_with names v) vs) (sym (variable_first names v (vs ++ later)))
-    ∙ ap (λ (b : Bool). is_within (variable_in (names_after names (v ∷ (vs ++ later))) v) && b) (room_whole (names_with names v) vs later)
+    ap (λ (n : Variable). keeps_variable_limits n && have_room (names_with names v) vs) (sym (variable_first names v (vs ++ later)))
+    ∙ ap (λ (b : Bool). keeps_variable_limits (variable_in (names_after names (v ∷ (vs ++ later))) v) && b) (room_whole (names_with names v) vs later)

@@ -5,14 +5,14 @@ use Rattle.std.specs.List.{list_all, list_any, cons_option}
 use Rattle.std.proofs.lemmas.{Bool.and_parts, List.Elements.All-nil, List.Elements.All-cons}
 use Rattle.script.specs.declared.word.row.Kind.TheVariants.{Value, Label, Name, NameOrNone, Softint}
 use Rattle.script.specs.{declared.word.row.Kind.Kind, Commands.ArgumentData, Machines.IsShared, Machines.ReadsShared, Machines.IsOfInterrupt, Machines.softint_asked, Machines.softints_named, Machines.NamesSoftints, Words.kinds}
-use Rattle.taskscript.specs.{declared.place.Owner.Owner, Code.body_faults, Code.code_of, Interrupting.Setting, Interrupting.is_of_interrupt, Interrupting.softint_named, Interrupting.softints_among, Lines.NamedVariableData, Lines.NamedArgumentData, Lines.number, Lines.variable, Lines.label, Lines.quoted, Lines.NamedCommandData, Numbering.Names, Numbering.variable_in, Numbering.argument_in, Numbering.command_in, Numbering.variables_of_target, Numbering.variables_of_arguments}
+use Rattle.taskscript.specs.{declared.place.Owner.Owner, Code.body_faults, Code.code_of, Interrupting.Setting, Interrupting.is_of_interrupt, Interrupting.softint_argument, Interrupting.softints_among, Lines.NamedVariableData, Lines.NamedArgumentData, Lines.number, Lines.variable, Lines.label, Lines.quoted, Lines.NamedCommandData, Numbering.Names, Numbering.variable_in, Numbering.argument_in, Numbering.command_in, Numbering.variables_of_target, Numbering.variables_of_arguments}
 use Rattle.script.specs.Commands as numbered
 use Rattle.execlist.specs.Order.{first}
 use Rattle.taskscript.proofs.CodeLaws.{each_command}
 
 -- ---- the software interrupts that a command names
 
-asked : (names : Names) (places : List ℕ → ℕ) (k : Kind) (a : NamedArgumentData) → softint_asked k (argument_in names places a) ≡ softint_named k a
+asked : (names : Names) (places : List ℕ → ℕ) (k : Kind) (a : NamedArgumentData) → softint_asked k (argument_in names places a) ≡ softint_argument k a
 asked names places Value a = refl
 asked names places Label a = refl
 asked names places Name a = refl
@@ -27,7 +27,7 @@ all_asked names places [] found = refl
 all_asked names places (k ∷ ks) [] = refl
 all_asked names places (k ∷ ks) (a ∷ found) =
     ap (λ (o : Option (List ℕ)). cons_option o (softints_named ks (map (argument_in names places) found))) (asked names places k a)
-    ∙ ap (λ (others : List (List ℕ)). cons_option (softint_named k a) others) (all_asked names places ks found)
+    ∙ ap (λ (others : List (List ℕ)). cons_option (softint_argument k a) others) (all_asked names places ks found)
 
 all_true : (p : List ℕ → Bool) (ns : List (List ℕ)) → list_all p ns ≡ true → All (λ n. p n ≡ true) ns
 all_true p [] h = All-nil (λ n. p n ≡ true)

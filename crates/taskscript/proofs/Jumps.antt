@@ -3,7 +3,7 @@ use Rattle.std.proofs.Common.{◌≡◌, ℕ, zero, suc, ◌≤◌, List, [], �
 use Rattle.std.specs.List.{position_or_len, cons_option}
 use Rattle.std.proofs.lemmas.{List.length-map, List.Elements.All-nil, List.Elements.All-cons}
 use Rattle.script.specs.{Machines.JumpFits, Machines.JumpsFit}
-use Rattle.taskscript.specs.{Code.command_said, Code.commands_of, Code.is_label_of, Code.place_of, Code.names_of, Code.code_of, Meaning.says, Lines.NamedArgumentData, Lines.number, Lines.variable, Lines.label, Lines.quoted, Lines.NamedCommandData, Numbering.Names, Numbering.argument_in, Numbering.command_in}
+use Rattle.taskscript.specs.{Code.command_said, Code.commands_of, Code.is_label_of, Code.place_of, Code.names_of, Code.code_of, Meaning.line_meaning, Lines.NamedArgumentData, Lines.number, Lines.variable, Lines.label, Lines.quoted, Lines.NamedCommandData, Numbering.Names, Numbering.argument_in, Numbering.command_in}
 
 count_same : (o : Option NamedCommandData) (fewer more : List NamedCommandData) → length fewer ≤ length more → length (cons_option o fewer) ≤ length (cons_option o more)
 count_same None fewer more h = h
@@ -13,7 +13,7 @@ count_same (Some c) fewer more h = omega arith
 fewer_commands : (k : ℕ) (lines : List (List ℕ)) → length (commands_of (take k lines)) ≤ length (commands_of lines)
 fewer_commands zero lines = omega arith
 fewer_commands (suc k) [] = omega arith
-fewer_commands (suc k) (line ∷ lines) = count_same (command_said (says line)) (commands_of (take k lines)) (commands_of lines) (fewer_commands k lines)
+fewer_commands (suc k) (line ∷ lines) = count_same (command_said (line_meaning line)) (commands_of (take k lines)) (commands_of lines) (fewer_commands k lines)
 
 place_within : (lines : List (List ℕ)) (name : List ℕ) → place_of lines name ≤ length (commands_of lines)
 place_within lines name = fewer_commands (position_or_len (is_label_of name) lines) lines

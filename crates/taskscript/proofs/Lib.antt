@@ -8,6 +8,7 @@ pub mod Documents
 pub mod EventSizes
 pub mod EventTurns
 pub mod FirstSight
+pub mod Fed
 pub mod Firsts
 pub mod Fitting
 pub mod InterruptLaws

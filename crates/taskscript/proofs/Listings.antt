@@ -4,7 +4,7 @@ use Rattle.std.specs.List.{cons_option}
 use Rattle.toml.specs.declared.value.Value.{Value}
 use Rattle.toml.specs.View.{view, items_view}
 use Rattle.toml.specs.Data.{Items, Members}
-use Rattle.taskscript.specs.{Bodies.Reading, Bodies.nothing_read, Bodies.reading_after, Code.shared_after, File.code_lines, File.shared_after_bodies, File.shared_after_servers, File.shared_after_softints, File.servers_in, File.softints_in, File.tasks_in, File.with_bodies, Listings.BodyListingData, Listings.body_listing, Listings.command_lines, Listings.command_lines_from, Listings.listing_of, Listings.number_said, Listings.owner_listing, Meaning.says}
+use Rattle.taskscript.specs.{Bodies.Reading, Bodies.nothing_read, Bodies.reading_after, Code.shared_after, File.code_lines, File.shared_after_bodies, File.shared_after_servers, File.shared_after_softints, File.servers_in, File.softints_in, File.tasks_in, File.with_bodies, Listings.BodyListingData, Listings.body_listing, Listings.command_lines, Listings.command_lines_from, Listings.listing_of, Listings.number_said, Listings.owner_listing, Meaning.line_meaning}
 use Rattle.taskscript.proofs.{BodyReading.body_read, OwnerTurns.next_item}
 
 -- ---- one line more
@@ -13,11 +13,11 @@ one_more : (before : List ℕ) (o : Option ℕ) (rest : List ℕ) → before ++ 
 one_more before None rest = ap (λ (ns : List ℕ). ns ++ rest) (sym (append-nil before))
 one_more before (Some n) rest = sym (append_assoc before (n ∷ []) rest)
 
-pub lines_go_on : (i : ℕ) (before after : List ℕ) (line : List ℕ) (left others : List (List ℕ)) → left ≡ line ∷ others → after ≡ before ++ cons_option (number_said i (says line)) []
+pub lines_go_on : (i : ℕ) (before after : List ℕ) (line : List ℕ) (left others : List (List ℕ)) → left ≡ line ∷ others → after ≡ before ++ cons_option (number_said i (line_meaning line)) []
     → before ++ command_lines_from i left ≡ after ++ command_lines_from (i + 1) others
 lines_go_on i before after line left others is more =
     ap (λ (ls : List (List ℕ)). before ++ command_lines_from i ls) is
-    ∙ one_more before (number_said i (says line)) (command_lines_from (i + 1) others)
+    ∙ one_more before (number_said i (line_meaning line)) (command_lines_from (i + 1) others)
     ∙ ap (λ (ns : List ℕ). ns ++ command_lines_from (i + 1) others) (sym more)
 
 -- ---- a whole body

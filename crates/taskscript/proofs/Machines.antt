@@ -9,7 +9,7 @@ use Rattle.taskscript.specs.declared.fault.FileFault.TheVariants.{UnknownKey, Ba
 use Rattle.taskscript.specs.declared.place.Owner.TheVariants.{Softint, Server, Task}
 use Rattle.taskscript.specs.declared.place.TablePlace.TheVariants.{Top, Item}
 use Rattle.script.specs.File.{LibraryData, SoftintData, ServerData, TaskData, total_of, MachineData}
-use Rattle.taskscript.specs.File.{Judge, top_keys, library_keys, softint_keys, server_keys, task_keys, name_of, library_faults, softint_faults, server_faults, task_faults, named_faults, named_item_faults, item_names, libraries_in, libraries_faults, library_of, softints_in, servers_in, tasks_in, code_lines, setting_of, bodies_faults, with_bodies, shared_after_softints, shared_after_servers, names_before_servers, names_before_tasks, both_passes_faults, refusals, region_item_faults, regions_faults, regions_in, version_of, quantum_of, tick_micros_of, pool_of, settings_faults, softint_of, softints_of, server_of, servers_of, task_of, tasks_of, machine_of}
+use Rattle.taskscript.specs.File.{Judge, top_keys, library_keys, softint_keys, server_keys, task_keys, name_in_table, library_faults, softint_faults, server_faults, task_faults, named_faults, named_item_faults, item_names, libraries_in, libraries_faults, library_of, softints_in, servers_in, tasks_in, code_lines, setting_of, bodies_faults, with_bodies, shared_after_softints, shared_after_servers, names_before_servers, names_before_tasks, both_passes_faults, refusals, region_item_faults, regions_faults, regions_in, version_of, quantum_of, tick_micros_of, pool_of, settings_faults, softint_of, softints_of, server_of, servers_of, task_of, tasks_of, machine_of}
 use Rattle.script.specs.Machines.{IsCode, IsSoftintPri, IsLibrary, IsSoftint, IsServer, IsTask, IsMachine, library_names, softint_names, server_names, task_names}
 use Rattle.taskscript.specs.Tree.{required, optional, table_faults, keys_are_among, integer_faults, pri_faults, is_softint_pri, softint_pri_faults, source_faults, boolean_faults, name_faults, count_items, array_faults, are_strings, code_faults, integer_or, number_or, items_faults, of_items, string_or_nothing, items_or_none, members_or_none}
 use Rattle.script.specs.Names.{is_name}
@@ -178,10 +178,10 @@ length-lines_in : (ds : Items) → length (lines_in ds) ≡ count_items ds
 length-lines_in no_items = refl
 length-lines_in (item d ds) = rw (length-lines_in ds) (omega arith)
 
-is_fresh : (judge : Judge) → JudgesName judge → (a : Array) (n : ℕ) (before : List (List ℕ)) (d : Data) → first (named_item_faults judge a n before d) ≡ None → list_any (bytes_eq (name_of d)) before ≡ false
+is_fresh : (judge : Judge) → JudgesName judge → (a : Array) (n : ℕ) (before : List (List ℕ)) (d : Data) → first (named_item_faults judge a n before d) ≡ None → list_any (bytes_eq (name_in_table d)) before ≡ false
 is_fresh judge named a n before d h = (name_passes before (get_member (codes "name") (members_or_none d)) (named.name (Item a n) before (members_or_none d) (of_table (item_at a n) (judge (Item a n) before) d h))).1
 
-is_named : (judge : Judge) → JudgesName judge → (a : Array) (n : ℕ) (before : List (List ℕ)) (d : Data) → first (named_item_faults judge a n before d) ≡ None → is_name (name_of d) ≡ true
+is_named : (judge : Judge) → JudgesName judge → (a : Array) (n : ℕ) (before : List (List ℕ)) (d : Data) → first (named_item_faults judge a n before d) ≡ None → is_name (name_in_table d) ≡ true
 is_named judge named a n before d h = (name_passes before (get_member (codes "name") (members_or_none d)) (named.name (Item a n) before (members_or_none d) (of_table (item_at a n) (judge (Item a n) before) d h))).0
 
 is_short : (judge : Judge) → JudgesBoth judge → (a : Array) (n : ℕ) (before : List (List ℕ)) (d : Data) → first (named_item_faults judge a n before d) ≡ None → length (code_lines d) ≤ 1024
@@ -285,12 +285,12 @@ each_holds : {X : Type 0} (P : X → Type 0) (judge : Judge) (a : Array) (of : D
 each_holds P judge a of holds n before no_items h = All-nil P
 each_holds P judge a of holds n before (item d ds) h =
     All-cons P (of d) (of_items of ds) (holds n before d (first_left (named_item_faults judge a n before d) _ h))
-    (each_holds P judge a of holds (n + 1) (before ++ name_of d ∷ []) ds (first_right (named_item_faults judge a n before d) _ h))
+    (each_holds P judge a of holds (n + 1) (before ++ name_in_table d ∷ []) ds (first_right (named_item_faults judge a n before d) _ h))
 
-names-of_items : {X : Type 0} (of : Data → X) (name : X → List ℕ) → ((d : Data) → name (of d) ≡ name_of d) → (ds : Items) → map name (of_items of ds) ≡ item_names ds
+names-of_items : {X : Type 0} (of : Data → X) (name : X → List ℕ) → ((d : Data) → name (of d) ≡ name_in_table d) → (ds : Items) → map name (of_items of ds) ≡ item_names ds
 names-of_items of name same no_items = refl
 names-of_items of name same (item d ds) =
-    ap (λ (n : List ℕ). n ∷ map name (of_items of ds)) (same d) ∙ ap (λ (ns : List (List ℕ)). name_of d ∷ ns) (names-of_items of name same ds)
+    ap (λ (n : List ℕ). n ∷ map name (of_items of ds)) (same d) ∙ ap (λ (ns : List (List ℕ)). name_in_table d ∷ ns) (names-of_items of name same ds)
 
 all_hold : {X : Type 0} (P : X → Type 0) (judge : Judge) (a : Array) (w : Owner) (s : Setting) (of : List (List ℕ) → Data → X)
     → ((n : ℕ) (before shared : List (List ℕ)) (d : Data) → first (named_item_faults judge a n before d) ≡ None → first (body_faults w n s shared (code_lines d)) ≡ None → P (of shared d))
@@ -300,18 +300,18 @@ all_hold P judge a w s of holds n before shared (item d ds) h k =
     let after = shared_after shared (code_lines d) in
     All-cons P (of shared d) (with_bodies of after ds)
     (holds n before shared d (first_left (named_item_faults judge a n before d) _ h) (first_left (body_faults w n s shared (code_lines d)) _ k))
-    (all_hold P judge a w s of holds (n + 1) (before ++ name_of d ∷ []) after ds (first_right (named_item_faults judge a n before d) _ h) (first_right (body_faults w n s shared (code_lines d)) _ k))
+    (all_hold P judge a w s of holds (n + 1) (before ++ name_in_table d ∷ []) after ds (first_right (named_item_faults judge a n before d) _ h) (first_right (body_faults w n s shared (code_lines d)) _ k))
 
 length-with_bodies : {X : Type 0} (of : List (List ℕ) → Data → X) (shared : List (List ℕ)) (ds : Items) → length (with_bodies of shared ds) ≡ count_items ds
 length-with_bodies of shared no_items = refl
 length-with_bodies of shared (item d ds) = rw (length-with_bodies of (shared_after shared (code_lines d)) ds) (omega arith)
 
-names-with_bodies : {X : Type 0} (of : List (List ℕ) → Data → X) (name : X → List ℕ) → ((shared : List (List ℕ)) (d : Data) → name (of shared d) ≡ name_of d)
+names-with_bodies : {X : Type 0} (of : List (List ℕ) → Data → X) (name : X → List ℕ) → ((shared : List (List ℕ)) (d : Data) → name (of shared d) ≡ name_in_table d)
     → (shared : List (List ℕ)) (ds : Items) → map name (with_bodies of shared ds) ≡ item_names ds
 names-with_bodies of name same shared no_items = refl
 names-with_bodies of name same shared (item d ds) =
     ap (λ (n : List ℕ). n ∷ map name (with_bodies of (shared_after shared (code_lines d)) ds)) (same shared d)
-    ∙ ap (λ (ns : List (List ℕ)). name_of d ∷ ns) (names-with_bodies of name same (shared_after shared (code_lines d)) ds)
+    ∙ ap (λ (ns : List (List ℕ)). name_in_table d ∷ ns) (names-with_bodies of name same (shared_after shared (code_lines d)) ds)
 
 -- ---- names
 
@@ -323,7 +323,7 @@ AreNew before (n ∷ ns) = (list_any (bytes_eq n) before ≡ false) × AreNew (b
 names_new : (judge : Judge) → JudgesName judge → (a : Array) (n : ℕ) (before : List (List ℕ)) (ds : Items) → first (named_faults judge a n before ds) ≡ None → AreNew before (item_names ds)
 names_new judge named a n before no_items h = tt
 names_new judge named a n before (item d ds) h =
-    (is_fresh judge named a n before d (first_left (named_item_faults judge a n before d) _ h), names_new judge named a (n + 1) (before ++ name_of d ∷ []) ds (first_right (named_item_faults judge a n before d) _ h))
+    (is_fresh judge named a n before d (first_left (named_item_faults judge a n before d) _ h), names_new judge named a (n + 1) (before ++ name_in_table d ∷ []) ds (first_right (named_item_faults judge a n before d) _ h))
 
 new-append : (before ns ms : List (List ℕ)) → AreNew before ns → AreNew (before ++ ns) ms → AreNew before (ns ++ ms)
 new-append before [] ms h k = subst (λ (names : List (List ℕ)). AreNew names ms) (append-nil before) k

@@ -4,7 +4,7 @@ use Rattle.std.specs.List.{cons_option}
 use Rattle.std.proofs.lemmas.List.Elements.{All-nil, All-cons}
 use Rattle.script.specs.declared.word.row.Kind.TheVariants.{Value, Label, Name, NameOrNone, Softint}
 use Rattle.script.specs.{declared.word.row.Kind.Kind, Machines.IsOfKind, Machines.AreOfKinds, Machines.HasItsArguments, Words.kinds}
-use Rattle.taskscript.specs.{Code.command_said, Code.commands_of, Code.place_of, Code.names_of, Code.code_of, Lines.fields, Lines.NamedArgumentData, Lines.variable, Lines.number, Lines.label, Lines.quoted, Lines.NamedCommandData, Lines.LineData, Lines.label_line, Lines.command_line, Meaning.says, Numbering.Names, Numbering.argument_in, Numbering.command_in, Says.IsArgument, Says.AreArguments, Says.IsLine}
+use Rattle.taskscript.specs.{Code.command_said, Code.commands_of, Code.place_of, Code.names_of, Code.code_of, Lines.fields, Lines.NamedArgumentData, Lines.variable, Lines.number, Lines.label, Lines.quoted, Lines.NamedCommandData, Lines.LineData, Lines.label_line, Lines.command_line, Meaning.line_meaning, Numbering.Names, Numbering.argument_in, Numbering.command_in, Says.IsArgument, Says.AreArguments, Says.IsLine}
 use Rattle.taskscript.proofs.Readings.{is_said}
 
 argument_kind : (names : Names) (places : List ℕ → ℕ) (k : Kind) (f : List ℕ) (a : NamedArgumentData) → IsArgument k f a → IsOfKind k (argument_in names places a)
@@ -38,7 +38,7 @@ argument_kinds names places (k ∷ ks) [] found h = absurd h
 argument_kinds names places (k ∷ ks) (f ∷ fs) [] h = h
 argument_kinds names places (k ∷ ks) (f ∷ fs) (a ∷ found) h = (argument_kind names places k f a h.0, argument_kinds names places ks fs found h.1)
 
-command_has : (names : Names) (places : List ℕ → ℕ) (fs : List (List ℕ)) (c : NamedCommandData) → IsLine fs c → HasItsArguments (command_in names places c)
+pub command_has : (names : Names) (places : List ℕ → ℕ) (fs : List (List ℕ)) (c : NamedCommandData) → IsLine fs c → HasItsArguments (command_in names places c)
 command_has names places fs c l = argument_kinds names places (kinds c.word) l.after c.arguments l.arguments
 
 said_has : (names : Names) (places : List ℕ → ℕ) (o : Option LineData) (others : List NamedCommandData)
@@ -52,7 +52,7 @@ said_has names places (Some (command_line c)) others has rest =
 pub lines_have : (names : Names) (places : List ℕ → ℕ) (lines : List (List ℕ)) → All HasItsArguments (map (command_in names places) (commands_of lines))
 lines_have names places [] = All-nil HasItsArguments
 lines_have names places (line ∷ others) =
-    said_has names places (says line) (commands_of others) (λ c is. command_has names places (fields line) c (is_said line (command_line c) is))
+    said_has names places (line_meaning line) (commands_of others) (λ c is. command_has names places (fields line) c (is_said line (command_line c) is))
     (lines_have names places others)
 
 pub commands_have : (shared lines : List (List ℕ)) → All HasItsArguments (code_of shared lines)

@@ -7,7 +7,7 @@ use Rattle.toml.specs.View.{view, items_view}
 use Rattle.toml.specs.Data.{Data, Items, no_items, item}
 use Rattle.toml.proofs.Views.{items_view-drop}
 use Rattle.script.specs.Names.{texts}
-use Rattle.taskscript.specs.{declared.place.Array.Array, declared.place.Owner.Owner, declared.refused.Refused.Refused, Code.body_faults, Code.shared_after, Faults.IsFirst, File.Judge, File.name_of, File.named_faults, File.named_item_faults, File.item_names, File.code_lines, File.bodies_faults, File.shared_after_bodies, File.with_bodies, Interrupting.Setting, Tree.of_items, Tree.count_items}
+use Rattle.taskscript.specs.{declared.place.Array.Array, declared.place.Owner.Owner, declared.refused.Refused.Refused, Code.body_faults, Code.shared_after, Faults.IsFirst, File.Judge, File.name_in_table, File.named_faults, File.named_item_faults, File.item_names, File.code_lines, File.bodies_faults, File.shared_after_bodies, File.with_bodies, Interrupting.Setting, Tree.of_items, Tree.count_items}
 use Rattle.execlist.specs.Order.{first}
 use Rattle.taskscript.proofs.{Firsts.first_none, Firsts.first_some, Keys.count_items_view}
 
@@ -30,7 +30,7 @@ heads_stop judge a start before vs i v f lt is so_far h ne =
     sym so_far ∙ ap (λ (ds : Items). first (named_faults judge a i before ds)) (next_item vs i v lt is) ∙ first_some (named_item_faults judge a i before (view v)) _ f (h ne)
 
 pub heads_go_on : (judge : Judge) (a : Array) (before after : List (List ℕ)) (vs : List Value) (i : ℕ) (v : Value) → i < length vs → v ≡ get_or vs i v
-    → first (named_item_faults judge a i before (view v)) ≡ None → after ≡ before ++ name_of (view v) ∷ []
+    → first (named_item_faults judge a i before (view v)) ≡ None → after ≡ before ++ name_in_table (view v) ∷ []
     → first (named_faults judge a i before (items_view (drop i vs))) ≡ first (named_faults judge a (i + 1) after (items_view (drop (i + 1) vs)))
 heads_go_on judge a before after vs i v lt is good more =
     ap (λ (ds : Items). first (named_faults judge a i before ds)) (next_item vs i v lt is) ∙ first_none (named_item_faults judge a i before (view v)) _ good
@@ -41,11 +41,11 @@ pub heads_found : {H X : Type 0} (shown : H → X) (of : Data → X) (hs : List 
 heads_found shown of hs h vs i v lt is same =
     ap (λ (ds : Items). map shown hs ++ of_items of ds) (next_item vs i v lt is) ∙ kept_more shown hs h (of (view v)) (of_items of (items_view (drop (i + 1) vs))) same
 
-pub names_go_on : (before after : List (List ℕ)) (vs : List Value) (i : ℕ) (v : Value) → i < length vs → v ≡ get_or vs i v → after ≡ before ++ name_of (view v) ∷ []
+pub names_go_on : (before after : List (List ℕ)) (vs : List Value) (i : ℕ) (v : Value) → i < length vs → v ≡ get_or vs i v → after ≡ before ++ name_in_table (view v) ∷ []
     → before ++ item_names (items_view (drop i vs)) ≡ after ++ item_names (items_view (drop (i + 1) vs))
 names_go_on before after vs i v lt is more =
     let rest = item_names (items_view (drop (i + 1) vs)) in
-    ap (λ (ds : Items). before ++ item_names ds) (next_item vs i v lt is) ∙ sym (append_assoc before (name_of (view v) ∷ []) rest) ∙ ap (λ (ns : List (List ℕ)). ns ++ rest) (sym more)
+    ap (λ (ds : Items). before ++ item_names ds) (next_item vs i v lt is) ∙ sym (append_assoc before (name_in_table (view v) ∷ []) rest) ∙ ap (λ (ns : List (List ℕ)). ns ++ rest) (sym more)
 
 -- ---- heads and items side by side
 
@@ -81,14 +81,14 @@ take-texts (suc k) (n ∷ ns) = ap (λ (ts : List (List ℕ)). n.bytes ∷ ts) (
 pub front_names : {H X : Type 0} (shown : H → X) (of : Data → X) (hs : List H) (ds : Items) (ns : List ArrayString) (second third : List (List ℕ)) → map shown hs ≡ of_items of ds
     → texts ns ≡ item_names ds ++ second ++ third → texts (take (length hs) ns) ≡ item_names ds
 front_names shown of hs ds ns second third heads names =
-    let count : length hs ≡ length (item_names ds) = count_heads shown of hs ds heads ∙ sym (length-of_items name_of ds) in
+    let count : length hs ≡ length (item_names ds) = count_heads shown of hs ds heads ∙ sym (length-of_items name_in_table ds) in
     take-texts (length hs) ns ∙ ap (λ (ts : List (List ℕ)). take (length hs) ts) (names ∙ append_assoc (item_names ds) second third)
     ∙ ap (λ (n : ℕ). take n (item_names ds ++ (second ++ third))) count ∙ take-front (item_names ds) (second ++ third)
 
 pub front_fits : {H X : Type 0} (shown : H → X) (of : Data → X) (hs : List H) (ds : Items) (ns : List ArrayString) (second third : List (List ℕ)) → map shown hs ≡ of_items of ds
     → texts ns ≡ item_names ds ++ second ++ third → length hs ≤ length ns
 front_fits shown of hs ds ns second third heads names =
-    let count : length hs ≡ length (item_names ds) = count_heads shown of hs ds heads ∙ sym (length-of_items name_of ds) in
+    let count : length hs ≡ length (item_names ds) = count_heads shown of hs ds heads ∙ sym (length-of_items name_in_table ds) in
     let whole : length ns ≡ length (item_names ds ++ (second ++ third)) = sym (length-map ns (λ (n : ArrayString). n.bytes)) ∙ ap length (names ∙ append_assoc (item_names ds) second third) in
     omega (arith, count, whole, length-append (item_names ds) (second ++ third))
 

@@ -2,7 +2,7 @@
 use Rattle.std.specs.Prelude.{◌≡◌, ℕ, ◌+◌, not, is_some, List, [], ◌∷◌, ◌++◌, length, map, Option, Some, None, Result, fold}
 use Rattle.arrayvec.specs.ArrayString.{ArrayString}
 use Rattle.taskscript.specs.declared.fault.FileFault.TheVariants.{BadCommand, NotInInterrupt, BadLabel, TooMany}
-use Rattle.taskscript.specs.{declared.body.Body.Body, declared.fault.FileFault.FileFault, Faults.check, Faults.JudgesLine, declared.place.Owner.Owner, declared.refused.Refused.Refused, Places.at, Places.line_at, Interrupting.Setting, Interrupting.may_stand, Interrupting.names_softints, Labels.Mark, Labels.place_in, Labels.marks_view, Lines.NamedCommandData, Lines.LineData, Lines.label_line, Lines.command_line, Lines.named_command_view, Meaning.says, Numbering.Names, Numbering.names_after, Numbering.variables_of, Numbering.have_room, Numbering.names_view}
+use Rattle.taskscript.specs.{declared.body.Body.Body, declared.fault.FileFault.FileFault, Faults.check, Faults.JudgesLine, declared.place.Owner.Owner, declared.refused.Refused.Refused, Places.at, Places.line_at, Interrupting.Setting, Interrupting.may_stand, Interrupting.names_softints, Labels.Mark, Labels.place_in, Labels.marks_view, Lines.NamedCommandData, Lines.LineData, Lines.label_line, Lines.command_line, Lines.named_command_view, Meaning.line_meaning, Numbering.Names, Numbering.names_after, Numbering.variables_of, Numbering.have_room, Numbering.names_view}
 
 -- the commands, the names of variables and the labels so far
 pub record Reading : Type 0 where
@@ -23,7 +23,7 @@ reading_with r (Some (command_line c)) =
     record r { commands = r.commands ++ c ∷ []; names = names_after r.names (variables_of c) }
 
 abbrev pub reading_after : Reading → List (List ℕ) → Reading
-reading_after r lines = fold (λ before line. reading_with before (says line)) r lines
+reading_after r lines = fold (λ before line. reading_with before (line_meaning line)) r lines
 
 -- the faults of what one line says
 abbrev pub said_faults : Setting → Reading → Option LineData → List FileFault
@@ -39,7 +39,7 @@ said_faults setting r (Some (command_line c)) =
 abbrev pub faults_after : Owner → ℕ → ℕ → Setting → Reading → List (List ℕ) → List Refused
 faults_after owner item number setting r [] = []
 faults_after owner item number setting r (line ∷ others) =
-    at (line_at owner item number) (said_faults setting r (says line)) ++ faults_after owner item (number + 1) setting (reading_with r (says line)) others
+    at (line_at owner item number) (said_faults setting r (line_meaning line)) ++ faults_after owner item (number + 1) setting (reading_with r (line_meaning line)) others
 
 -- the body is read by what one line says, or the line has a fault
 abbrev pub ReadsOn : {X : Type 0} → Setting → Result X FileFault → Reading → Reading → Option LineData → Type 0

@@ -3,9 +3,9 @@ use Rattle.std.specs.Prelude.{ℕ, ◌+◌, Bool, false, not, nat_le, bytes_eq, 
 use Rattle.std.specs.{List.list_all, List.list_any, List.before_first, Option.option_map_or}
 use Rattle.toml.specs.Data.{Data, string, Items, no_items, item as an_item}
 use Rattle.taskscript.specs.declared.fault.FileFault.TheVariants.{BadCommand, NotInInterrupt, BadLabel, TooMany}
-use Rattle.taskscript.specs.Numbering.{Names, names_after, variable_in, command_in, is_within, variables_of, labels_of_arguments}
+use Rattle.taskscript.specs.Numbering.{Names, names_after, variable_in, command_in, keeps_variable_limits, variables_of, labels_of_arguments}
 use Rattle.script.specs.Commands.{CommandData}
-use Rattle.taskscript.specs.{declared.fault.FileFault.FileFault, declared.place.Owner.Owner, declared.refused.Refused.Refused, Places.at, Places.line_at, Faults.check, Lines.NamedCommandData, Lines.LineData, Lines.label_line, Lines.command_line, Interrupting.Setting, Interrupting.may_stand, Interrupting.names_softints, Meaning.says}
+use Rattle.taskscript.specs.{declared.fault.FileFault.FileFault, declared.place.Owner.Owner, declared.refused.Refused.Refused, Places.at, Places.line_at, Faults.check, Lines.NamedCommandData, Lines.LineData, Lines.label_line, Lines.command_line, Interrupting.Setting, Interrupting.may_stand, Interrupting.names_softints, Meaning.line_meaning}
 
 -- ---- lines
 
@@ -33,15 +33,15 @@ label_said _ = None
 
 -- the commands of those lines that are commands
 abbrev pub commands_of : List (List ℕ) → List NamedCommandData
-commands_of lines = filter_map (λ line. command_said (says line)) lines
+commands_of lines = filter_map (λ line. command_said (line_meaning line)) lines
 
 -- the labels of those lines that are labels
 abbrev pub labels_of : List (List ℕ) → List (List ℕ)
-labels_of lines = filter_map (λ line. label_said (says line)) lines
+labels_of lines = filter_map (λ line. label_said (line_meaning line)) lines
 
 -- a line is the label of a name
 abbrev pub is_label_of : List ℕ → List ℕ → Bool
-is_label_of name line = option_map_or (bytes_eq name) (label_said (says line)) false
+is_label_of name line = option_map_or (bytes_eq name) (label_said (line_meaning line)) false
 
 -- the place that a label names: as many commands are before it
 abbrev pub place_of : List (List ℕ) → List ℕ → ℕ
@@ -63,13 +63,13 @@ line_faults setting names before (Some (label_line name)) =
 line_faults setting names before (Some (command_line c)) =
     check (names_softints setting c) BadCommand
     ++ (check (may_stand setting c) NotInInterrupt
-    ++ check (list_all (λ v. is_within (variable_in names v)) (variables_of c)) TooMany)
+    ++ check (list_all (λ v. keeps_variable_limits (variable_in names v)) (variables_of c)) TooMany)
 
 -- the lines of the body of an item from that number on, each after the labels before it
 abbrev pub lines_faults : Owner → ℕ → ℕ → Setting → Names → List (List ℕ) → List (List ℕ) → List Refused
 lines_faults owner item number setting names before [] = []
 lines_faults owner item number setting names before (line ∷ others) =
-    at (line_at owner item number) (line_faults setting names before (says line))
+    at (line_at owner item number) (line_faults setting names before (line_meaning line))
     ++ lines_faults owner item (number + 1) setting names (before ++ labels_of (line ∷ [])) others
 
 -- a jump to a label that is not among these
@@ -85,7 +85,7 @@ jumps_said labels (Some c) = jump_faults labels c
 abbrev pub jumps_faults : Owner → ℕ → ℕ → List (List ℕ) → List (List ℕ) → List Refused
 jumps_faults owner item number labels [] = []
 jumps_faults owner item number labels (line ∷ others) =
-    at (line_at owner item number) (jumps_said labels (command_said (says line))) ++ jumps_faults owner item (number + 1) labels others
+    at (line_at owner item number) (jumps_said labels (command_said (line_meaning line))) ++ jumps_faults owner item (number + 1) labels others
 
 -- a body has at most 1,024 lines, and else its fault is at the line after them; then its lines in their order, and then its jumps in theirs
 unfoldable pub body_faults : Owner → ℕ → Setting → List (List ℕ) → List (List ℕ) → List Refused

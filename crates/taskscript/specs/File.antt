@@ -6,7 +6,7 @@ use Rattle.taskscript.specs.declared.fault.FileFault.TheVariants.{NotToml, Unkno
 use Rattle.taskscript.specs.declared.place.Owner.TheVariants.{Softint, Server, Task}
 use Rattle.taskscript.specs.declared.place.TablePlace.TheVariants.{Top, Item}
 use Rattle.taskscript.specs.Tree.{document_of, required, optional, table_faults, of_items, keys_are_among, integer_faults, pri_faults, softint_pri_faults, source_faults, boolean_faults, name_faults, array_faults, items_faults, code_faults, pri_in, source_in, number_or, boolean_or, string_or_nothing, items_or_none, members_or_none}
-use Rattle.script.specs.{declared.source.Source.Source}
+use Rattle.softint.specs.declared.source.Source.{Source}
 use Rattle.taskscript.specs.{declared.fault.FileFault.FileFault, declared.place.Array.Array, declared.place.Owner.Owner, declared.place.TablePlace.TablePlace, declared.refused.Refused.Refused, Faults.check, Interrupting.Setting, Places.array_at, Places.at, Places.item_at, Places.key_at, Places.refused, Places.unknown_key_at, Places.without_place, Code.lines_in, Code.body_faults, Code.code_of, Code.shared_after}
 use Rattle.taskscript.specs.declared.place.Array.TheVariants as array
 use Rattle.taskscript.specs.declared.place.Key.TheVariants as key
@@ -108,8 +108,8 @@ task_faults of before task =
     ++ at (key_at of key.Code) (required code_faults (get_member (codes "code") task)))))
 
 -- the name in a table
-abbrev pub name_of : Data → List ℕ
-name_of owner = string_or_nothing (get_member (codes "name") (members_or_none owner))
+abbrev pub name_in_table : Data → List ℕ
+name_in_table owner = string_or_nothing (get_member (codes "name") (members_or_none owner))
 
 -- the priority in a table, 0 if it has none
 abbrev pub pri_of : Data → ℤ
@@ -139,11 +139,11 @@ named_item_faults judge of number before = table_faults (item_at of number) (jud
 abbrev pub named_faults : Judge → Array → ℕ → List (List ℕ) → Items → List Refused
 named_faults judge of number before no_items = []
 named_faults judge of number before (item owner rest) =
-    named_item_faults judge of number before owner ++ named_faults judge of (number + 1) (before ++ name_of owner ∷ []) rest
+    named_item_faults judge of number before owner ++ named_faults judge of (number + 1) (before ++ name_in_table owner ∷ []) rest
 
 -- the names of the items
 abbrev pub item_names : Items → List (List ℕ)
-item_names owners = of_items name_of owners
+item_names owners = of_items name_in_table owners
 
 -- the quantum, 4 if the file has none
 abbrev pub quantum_of : Members → ℕ
@@ -194,7 +194,7 @@ libraries_faults tree = optional (array_faults array.Library (named_faults libra
 -- the library that a table is
 abbrev pub library_of : Data → LibraryData
 library_of library = record {
-  name = name_of library;
+  name = name_in_table library;
   version = number_or 0 (get_member (codes "version") (members_or_none library));
   size = number_or 0 (get_member (codes "size") (members_or_none library));
 }
@@ -280,7 +280,7 @@ refusals tree =
 
 -- a task, whose body is after those shared variables
 abbrev pub task_of : List (List ℕ) → Data → TaskData
-task_of shared task = record { name = name_of task; pri = pri_of task; start = start_of task; code = code_of shared (code_lines task) }
+task_of shared task = record { name = name_in_table task; pri = pri_of task; start = start_of task; code = code_of shared (code_lines task) }
 
 -- the tasks that an array is
 abbrev pub tasks_of : List (List ℕ) → Items → List TaskData
@@ -289,7 +289,7 @@ tasks_of shared tasks = with_bodies task_of shared tasks
 -- the software interrupt that a table is, after the shared variables that were seen before it
 abbrev pub softint_of : List (List ℕ) → Data → SoftintData
 softint_of shared softint = record {
-  name = name_of softint;
+  name = name_in_table softint;
   pri = pri_of softint;
   code = code_of shared (code_lines softint);
 }
@@ -301,7 +301,7 @@ softints_of shared softints = with_bodies softint_of shared softints
 -- the server that a table is
 abbrev pub server_of : List (List ℕ) → Data → ServerData
 server_of shared server = record {
-  name = name_of server;
+  name = name_in_table server;
   source = server_source_of server;
   pri = pri_of server;
   claim = claim_of server;

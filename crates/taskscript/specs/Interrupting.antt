@@ -24,13 +24,13 @@ may_stand setting c = not setting.of_interrupt || is_of_interrupt c
 -- ---- the software interrupts that a command names
 
 -- the name of a software interrupt that an argument of a kind is, if it is one
-abbrev pub softint_named : Kind → NamedArgumentData → Option (List ℕ)
-softint_named Softint (quoted name) = Some name
-softint_named _ _ = None
+abbrev pub softint_argument : Kind → NamedArgumentData → Option (List ℕ)
+softint_argument Softint (quoted name) = Some name
+softint_argument _ _ = None
 
 -- the names of software interrupts among the arguments, by the kinds that the word asks for
 abbrev pub softints_among : List Kind → List NamedArgumentData → List (List ℕ)
-softints_among (kind ∷ kinds) (a ∷ others) = cons_option (softint_named kind a) (softints_among kinds others)
+softints_among (kind ∷ kinds) (a ∷ others) = cons_option (softint_argument kind a) (softints_among kinds others)
 softints_among _ _ = []
 
 -- the names of software interrupts that a command has

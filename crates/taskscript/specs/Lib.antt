@@ -2,6 +2,7 @@ pub mod Bodies
 pub mod Code
 pub mod Events
 pub mod Faults
+pub mod Feeding
 pub mod File
 pub mod Identifiers
 pub mod Interrupting

@@ -2,7 +2,7 @@
 use Rattle.std.specs.Prelude.{ℕ, List, [], length, Option, option_map, filter_map, zip}
 use Rattle.std.specs.List.{range_with_len}
 use Rattle.toml.specs.Data.{Data, Members}
-use Rattle.taskscript.specs.{Code.command_said, Code.names_of, File.code_lines, File.shared_after_bodies, File.shared_after_servers, File.shared_after_softints, File.servers_in, File.softints_in, File.tasks_in, File.with_bodies, Lines.LineData, Meaning.says, Tree.document_of}
+use Rattle.taskscript.specs.{Code.command_said, Code.names_of, File.code_lines, File.shared_after_bodies, File.shared_after_servers, File.shared_after_softints, File.servers_in, File.softints_in, File.tasks_in, File.with_bodies, Lines.LineData, Meaning.line_meaning, Tree.document_of}
 
 -- a body: the number (from 0) of the line of each command, and the name of each private variable, both in the order of their numbers
 pub record BodyListingData : Type 0 where
@@ -26,7 +26,7 @@ numbered_from number lines = zip (range_with_len number (length lines)) lines
 
 -- the numbers of those lines that are commands
 abbrev pub command_lines_from : ℕ → List (List ℕ) → List ℕ
-command_lines_from number lines = filter_map (λ line. number_said line.0 (says line.1)) (numbered_from number lines)
+command_lines_from number lines = filter_map (λ line. number_said line.0 (line_meaning line.1)) (numbered_from number lines)
 
 -- the line of the k-th command of a body: the number (from 0) of the k-th line that is a command
 abbrev pub command_lines : List (List ℕ) → List ℕ

@@ -7,5 +7,5 @@ abbrev pub meaning : Meaning
 meaning = reader
 
 -- what a line says, if it says something
-abbrev pub says : List ℕ → Option LineData
-says line = meaning.answer (fields line)
+abbrev pub line_meaning : List ℕ → Option LineData
+line_meaning line = meaning.answer (fields line)

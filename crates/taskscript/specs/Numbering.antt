@@ -53,9 +53,9 @@ command_in names places c =
     record { word = c.word; target = option_map (variable_in names) c.target; arguments = map (argument_in names places) c.arguments }
 
 -- 32 private variables a body, 64 shared ones
-abbrev pub is_within : Variable → Bool
-is_within (Private n) = nat_lt n 32
-is_within (Shared n) = nat_lt n 64
+abbrev pub keeps_variable_limits : Variable → Bool
+keeps_variable_limits (Private n) = nat_lt n 32
+keeps_variable_limits (Shared n) = nat_lt n 64
 
 -- ---- the names of a command, in the order in which they are seen
 
@@ -89,7 +89,7 @@ labels_of_arguments (quoted n ∷ others) = labels_of_arguments others
 -- whether all these have room, if they come in turn
 abbrev pub have_room : Names → List NamedVariableData → Bool
 have_room names [] = true
-have_room names (v ∷ others) = is_within (variable_in names v) && have_room (names_with names v) others
+have_room names (v ∷ others) = keeps_variable_limits (variable_in names v) && have_room (names_with names v) others
 
 -- one name is seen: it has room, or it has none
 abbrev pub Sees : {X : Type 0} → Result X FileFault → Bool → Type 0

@@ -3,7 +3,7 @@ use Rattle.std.specs.Prelude.{◌≡◌, ℕ, List, [], ◌++◌, map, None}
 use Rattle.toml.specs.Data.{Data, Members}
 use Rattle.taskscript.specs.declared.fault.FileFault.TheVariants.{NotToml, OutOfMemory}
 use Rattle.script.specs.File.{SoftintData, ServerData, TaskData}
-use Rattle.taskscript.specs.File.{name_of, pri_of, server_source_of, start_of, claim_of, code_lines, softints_in, servers_in, tasks_in, item_names, names_before_tasks, shared_after_softints, shared_after_servers, softints_of, servers_of, tasks_of}
+use Rattle.taskscript.specs.File.{name_in_table, pri_of, server_source_of, start_of, claim_of, code_lines, softints_in, servers_in, tasks_in, item_names, names_before_tasks, shared_after_softints, shared_after_servers, softints_of, servers_of, tasks_of}
 use Rattle.script.specs.{Commands.CommandData, Names.texts}
 use Rattle.taskscript.specs.{declared.place.Place.TheVariants.File, declared.refused.Refused.Refused, declared.heads.SoftintHead.SoftintHead, declared.heads.ServerHead.ServerHead, declared.heads.TaskHead.TaskHead, declared.owners.Heads.Heads, declared.owners.Owners.Owners, declared.interrupting.Setting.Setting as CodeSetting, Code.code_of, Interrupting.Setting, Listings.listing_of, Places.refused, Tree.document_of, Tree.of_items}
 use Rattle.script.specs.Records.{softint_view, server_view, task_view}
@@ -25,11 +25,11 @@ task_head_view h = record { name = h.name.bytes; pri = h.pri; start = h.start; c
 
 -- what an item is with those commands
 abbrev pub softint_with : Data → List CommandData → SoftintData
-softint_with softint code = record { name = name_of softint; pri = pri_of softint; code = code }
+softint_with softint code = record { name = name_in_table softint; pri = pri_of softint; code = code }
 
 abbrev pub server_with : Data → List CommandData → ServerData
 server_with server code = record {
-  name = name_of server;
+  name = name_in_table server;
   source = server_source_of server;
   pri = pri_of server;
   claim = claim_of server;
@@ -37,7 +37,7 @@ server_with server code = record {
 }
 
 abbrev pub task_with : Data → List CommandData → TaskData
-task_with task code = record { name = name_of task; pri = pri_of task; start = start_of task; code = code }
+task_with task code = record { name = name_in_table task; pri = pri_of task; start = start_of task; code = code }
 
 -- its head
 abbrev pub softint_head_of : Data → SoftintData

@@ -4,7 +4,8 @@ use Rattle.std.specs.{List.list_any, Ordering.int_eq, Str.is_utf8}
 use Rattle.toml.specs.Data.{Data, string, integer, boolean, array, table, Items, no_items, item, Members, no_members, member, get_member}
 use Rattle.toml.specs.Parse.{parse_document}
 use Rattle.taskscript.specs.declared.fault.FileFault.TheVariants.{MissingKey, BadValue, NameTwice, TooMany}
-use Rattle.script.specs.{declared.source.Source.Source, declared.source.Source.TheVariants.Ports, Names.is_name, Sources.source_of}
+use Rattle.script.specs.Names.{is_name}
+use Rattle.softint.specs.{declared.source.Source.Source, declared.source.Source.TheVariants.Ports, Sources.source_of}
 use Rattle.taskscript.specs.{declared.fault.FileFault.FileFault, Faults.check, declared.place.Array.Array, declared.place.Place.Place, declared.refused.Refused.Refused, Places.array_at, Places.at, Places.limit, Places.refused}
 
 -- the tree of a text: none for bytes that are no UTF-8, and for a text that is no TOML document

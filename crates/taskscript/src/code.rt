@@ -4,7 +4,7 @@ ghost use Rattle.std.specs.List.{cons_option};
 ghost use Rattle.std.specs.Prelude.{◌≡◌, ◌<◌, ◌≤◌, ◌^◌, ◌+◌, ◌++◌, ◌∷◌, [], map, length, IfOk, OnOk, Some};
 ghost use Rattle.toml.specs.View.{view, items_view};
 ghost use Rattle.script.specs.{Commands.command_view, Names.texts};
-ghost use Rattle.taskscript.specs.{Bodies.nothing_read, Bodies.reading_view, Bodies.reading_after, Bodies.faults_after, Bodies.ReadsOn, Meaning.says, Code.line_in, Code.lines_in, Code.body_faults, Code.code_of, Code.shared_after, Faults.Judges, Listings.body_listing, Listings.command_lines, Listings.number_said, Lines.label_line, Lines.command_line, Lines.named_command_view, Records.setting_view};
+ghost use Rattle.taskscript.specs.{Bodies.nothing_read, Bodies.reading_view, Bodies.reading_after, Bodies.faults_after, Bodies.ReadsOn, Meaning.line_meaning, Code.line_in, Code.lines_in, Code.body_faults, Code.code_of, Code.shared_after, Faults.Judges, Listings.body_listing, Listings.command_lines, Listings.number_said, Lines.label_line, Lines.command_line, Lines.named_command_view, Records.setting_view};
 
 use crate::body::Body;
 use crate::fault::FileFault;
@@ -98,9 +98,9 @@ fn add_line(
     ensures judged { ReadsOn (setting_view setting.entry) result
         (reading_view body.old shared.old.keys)
         (reading_view body.new shared.new.keys)
-        (says line.now) }
+        (line_meaning line.now) }
     ensures commands { OnOk result (length body.new.commands.items ≤ length body.old.commands.items + 1) }
-    ensures lines { OnOk result (body.new.lines.items ≡ body.old.lines.items ++ cons_option (number_said number (says line.now)) []) }
+    ensures lines { OnOk result (body.new.lines.items ≡ body.old.lines.items ++ cons_option (number_said number (line_meaning line.now)) []) }
 {
     match read_line(alloc, line)? {
         Line::Label(name) => add_label(setting, body, name, shared),

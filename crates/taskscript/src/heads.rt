@@ -6,7 +6,7 @@ ghost use Rattle.toml.specs.View.{table_view, view, items_view};
 ghost use Rattle.script.specs.Records.{library_view, softint_view, server_view, task_view};
 ghost use Rattle.taskscript.specs.Records.{softint_head_view, server_head_view, task_head_view, softint_head_of, server_head_of, task_head_of, softint_with, server_with, task_with};
 ghost use Rattle.script.specs.{Commands.CommandData, Commands.command_view, File.LibraryData, File.SoftintData, File.ServerData, File.TaskData, Names.texts};
-ghost use Rattle.taskscript.specs.{Faults.Judges, File.library_faults, File.library_of, File.softint_faults, File.server_faults, File.task_faults, File.named_faults, File.named_item_faults, File.name_of, File.item_names, Tree.required, Tree.optional, Tree.name_faults, Tree.string_or_nothing, Tree.code_faults, Tree.array_faults, Tree.items_or_none, Tree.of_items, Places.array_key, Places.at, Places.key_at, declared.place.TablePlace.TablePlace, declared.refused.Refused.Refused};
+ghost use Rattle.taskscript.specs.{Faults.Judges, File.library_faults, File.library_of, File.softint_faults, File.server_faults, File.task_faults, File.named_faults, File.named_item_faults, File.name_in_table, File.item_names, Tree.required, Tree.optional, Tree.name_faults, Tree.string_or_nothing, Tree.code_faults, Tree.array_faults, Tree.items_or_none, Tree.of_items, Places.array_key, Places.at, Places.key_at, declared.place.TablePlace.TablePlace, declared.refused.Refused.Refused};
 ghost use Rattle.taskscript.specs.declared.place.Key.TheVariants as a_key;
 
 use crate::fault::FileFault;
@@ -40,7 +40,7 @@ pub trait Named: Copy {
     /// Judges the keys and the values of an item in their order, the name after those before it, and adds it to them.
     fn head_in(of: TablePlace, table: &Table, names: &mut Vec<Name>) -> Result<Self, Refused>
         ensures judged { Judges result (faults of (texts names.old.items) (table_view table.now)) (λ h. head_view h ≡ head_of (a_table (table_view table.now))) }
-        ensures names { OnOk result (texts names.new.items ≡ texts names.old.items ++ name_of (a_table (table_view table.now)) ∷ []) };
+        ensures names { OnOk result (texts names.new.items ≡ texts names.old.items ++ name_in_table (a_table (table_view table.now)) ∷ []) };
 }
 
 /// What the first pass keeps of an item that has a name and a code.
@@ -304,7 +304,7 @@ fn head_of<H: Named>(
     names: &mut Vec<Name>,
 ) -> Result<H, Refused>
     ensures judged { Judges result (named_item_faults H.faults of number (texts names.old.items) (view value.now)) (λ h. H.head_view h ≡ H.head_of (view value.now)) }
-    ensures names { OnOk result (texts names.new.items ≡ texts names.old.items ++ name_of (view value.now) ∷ []) }
+    ensures names { OnOk result (texts names.new.items ≡ texts names.old.items ++ name_in_table (view value.now) ∷ []) }
 {
     match value.as_table() {
         None => Err(no_table(of, number)),

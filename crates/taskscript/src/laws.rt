@@ -1,7 +1,7 @@
 //! Laws of lines: what a line says is one thing, by the relation `Says`, and the machine of a file is made of exactly that. The functions
 //! do nothing; their contracts are the laws.
 ghost use Rattle.std.specs.Prelude.{◌≡◌, ℕ, List, Some, None};
-ghost use Rattle.taskscript.specs.{Lines.LineData, Lines.NamedCommandData, Lines.fields, Meaning.says, Says.IsLine, Says.Says, Says.Meaning};
+ghost use Rattle.taskscript.specs.{Lines.LineData, Lines.NamedCommandData, Lines.fields, Meaning.line_meaning, Says.IsLine, Says.Says, Says.Meaning};
 
 /// A line has at most one command.
 pub fn one_command()
@@ -20,15 +20,15 @@ pub fn one_reading()
 
 /// What a line says is read from it.
 pub fn said_line_is_read()
-    ensures { (line : List ℕ) (x : LineData) → Says (fields line) x → says line ≡ Some x }
+    ensures { (line : List ℕ) (x : LineData) → Says (fields line) x → line_meaning line ≡ Some x }
 {}
 
 /// What is read from a line is what it says.
 pub fn read_line_is_said()
-    ensures { (line : List ℕ) (x : LineData) → says line ≡ Some x → Says (fields line) x }
+    ensures { (line : List ℕ) (x : LineData) → line_meaning line ≡ Some x → Says (fields line) x }
 {}
 
 /// A line that is refused says nothing.
 pub fn refused_line_says_nothing()
-    ensures { (line : List ℕ) (x : LineData) → says line ≡ None → ¬ Says (fields line) x }
+    ensures { (line : List ℕ) (x : LineData) → line_meaning line ≡ None → ¬ Says (fields line) x }
 {}

@@ -6,6 +6,7 @@ mod body;
 mod code;
 mod events;
 mod fault;
+mod feeding;
 mod heads;
 mod identifier;
 mod interrupting;
@@ -31,6 +32,7 @@ pub use accepted::{accepted_events_are_within, accepted_file_is_machine};
 pub use code::{LINE_LIMIT, line_in};
 pub use events::read_events;
 pub use fault::{EventFault, FileFault};
+pub use feeding::read_fed;
 pub use identifier::is_identifier;
 pub use label::label_in;
 pub use laws::{

@@ -1,6 +1,6 @@
 //! One line of a body: from its text to a label, or to a command with names for variables and labels.
 ghost use Rattle.std.specs.Prelude.{◌≡◌, length, map, IfOk, option_map};
-ghost use Rattle.taskscript.specs.{Lines.fields, Lines.quoted, Lines.Reads, Lines.line_view, Lines.named_argument_view, Lines.named_command_view, Lines.named_variable_view, Meaning.says, Parsing.argument_of, Parsing.arguments_of, Parsing.with_word, Parsing.command_of, Parsing.label_of, Parsing.quoted_in, Parsing.target_of};
+ghost use Rattle.taskscript.specs.{Lines.fields, Lines.quoted, Lines.Reads, Lines.line_view, Lines.named_argument_view, Lines.named_command_view, Lines.named_variable_view, Meaning.line_meaning, Parsing.argument_of, Parsing.arguments_of, Parsing.with_word, Parsing.command_of, Parsing.label_of, Parsing.quoted_in, Parsing.target_of};
 
 use crate::fault::FileFault;
 use crate::identifier::identifier_of;
@@ -155,7 +155,7 @@ fn label_of(fields: &[&str]) -> Option<LabelName>
 /// `LABEL:` or `[TARGET = ]WORD{ ARGUMENT}` with single spaces (project rule).
 #[tactic(auto, using(crate::proofs::Readings::says_is_read))]
 pub fn read_line(alloc: Global, line: &str) -> Result<Line, FileFault>
-    ensures { Reads result line_view (says line.now) }
+    ensures { Reads result line_view (line_meaning line.now) }
 {
     let all = fields_of(alloc, line)?;
     match label_of(&all) {

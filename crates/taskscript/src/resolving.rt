@@ -75,8 +75,8 @@ fn name_among(named: &[NamedArgument]) -> Name
     Name::new()
 }
 
-// A command with numbers and places for its names, or BadLabel if it jumps to a label that is not among these.
-fn command_in(
+/// A command with numbers and places for its names, or BadLabel if it jumps to a label that is not among these.
+pub fn command_in(
     named: &NamedCommand,
     private: &IndexSet<VariableName>,
     shared: &IndexSet<VariableName>,

@@ -1,7 +1,8 @@
 -- The text of a way.
 use Rattle.std.specs.Prelude.{ℕ, ◌++◌, List, [], ◌∷◌, codes, decimal, flat_map}
 use Rattle.script.specs.declared.event.Event.TheVariants.{Run, Tick, Irq}
-use Rattle.script.specs.{Sources.source_text, declared.event.Event.Event}
+use Rattle.script.specs.declared.event.Event.{Event}
+use Rattle.softint.specs.Sources.{source_text}
 
 -- an event, as an event text has it
 abbrev pub event_text : Event → List ℕ

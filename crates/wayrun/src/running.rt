@@ -1,7 +1,7 @@
 //! One way, run from the first state of its machine, of which what is seen is kept. The machine is kept from way to way, and reset before each.
 ghost use Rattle.std.specs.Prelude.{◌≡◌, ◌≤◌, ◌++◌, [], false, IfOk, OnOk, sum_by};
 ghost use Rattle.exectrace.specs.declared.sinks.SinkState.{SinkState};
-ghost use Rattle.script.specs.Events.{ticks as ticks_of};
+ghost use Rattle.script.specs.Events.{event_ticks};
 ghost use Rattle.execmodel.specs.{State.booted, Step.run};
 ghost use Rattle.execsim.specs.{Agreement.Agrees, Headline.flow_of, Standing.standing_text, Time.HasTimeFor};
 ghost use Rattle.wayrun.specs.Seen.{ending, seen_of, stops};
@@ -38,7 +38,7 @@ fn run_on(
 ) -> Result<Flow, AllocError>
     requires good { look.old.room.state ≡ SinkState.Good }
     requires empty { look.old.room.bytes.items ≡ [] }
-    requires time { sum_by ticks_of way.now ≤ 1000000 }
+    requires time { sum_by event_ticks way.now ≤ 1000000 }
     requires going { machine.old.failed ≡ false }
     requires agrees { Agrees machine.old.seen (booted _file.now) }
     requires enough { HasTimeFor 1000000 machine.old.seen }
@@ -108,7 +108,7 @@ pub fn run_way(
     see: See,
     kept: &mut Vec<u8>,
 ) -> Result<Flow, AllocError>
-    requires { sum_by ticks_of way.now ≤ 1000000 }
+    requires { sum_by event_ticks way.now ≤ 1000000 }
     ensures kept { OnOk result (kept.new.items ≡ seen_of see file.now way.now) }
     ensures flow { IfOk result (λ flow. flow ≡ flow_of (run file.now way.now).state.stopped) }
 {

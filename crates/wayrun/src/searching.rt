@@ -1,6 +1,6 @@
 //! The search: each way of a part is run from the first state of the machine, and what is seen of it is noted.
 ghost use Rattle.std.specs.Prelude.{◌≡◌, ◌≤◌, ◌+◌, [], true, IfOk, OnOk, List, ℕ, length, sum_by};
-ghost use Rattle.script.specs.Events.{ticks as ticks_of};
+ghost use Rattle.script.specs.Events.{event_ticks};
 ghost use Rattle.ways.specs.{Ways.ways as ways_of, Ways.part_of, Tables.number_where, Tables.table_of};
 ghost use Rattle.wayrun.specs.Seen.{is_alerted, seen_of, stops};
 
@@ -17,7 +17,7 @@ const MOST_TICKS: u32 = 1_000_000;
 
 /// The ticks of an event.
 fn ticks_in(event: Event) -> u32
-    ensures { result ≡ ticks_of event }
+    ensures { result ≡ event_ticks event }
 {
     match event {
         Event::Run(_) | Event::Irq(_) => 0,
@@ -27,7 +27,7 @@ fn ticks_in(event: Event) -> u32
 
 /// Whether a way has no more ticks than it may have.
 fn has_time(way: &[Event]) -> bool
-    ensures { result ≡ true → sum_by ticks_of way.now ≤ 1000000 }
+    ensures { result ≡ true → sum_by event_ticks way.now ≤ 1000000 }
 {
     let mut left = MOST_TICKS;
     for event in way {

@@ -1,7 +1,8 @@
 -- Two events one after the other.
 use Rattle.std.proofs.Common.{◌≡◌, ℕ, ◌+◌, List, [], ◌∷◌, refl, ap, arith}
 use Rattle.script.specs.declared.event.Event.TheVariants.{Run, Tick, Irq}
-use Rattle.script.specs.{declared.event.Event.Event, declared.source.Source.Source}
+use Rattle.script.specs.declared.event.Event.{Event}
+use Rattle.softint.specs.declared.source.Source.{Source}
 use Rattle.ways.specs.Grouping.{joined}
 
 pub runs_join : (n more : ℕ) (rest : List Event) → joined (Run n) (joined (Run more) rest) ≡ joined (Run (n + more)) rest

@@ -1,137 +1,108 @@
-"""Lays out Python expressions in lines of at most 120 columns."""
+"""Lays out Python: expressions in lines of at most 120 columns."""
+import re
 import textwrap
 
 WIDTH = 120
-ATOM, TIGHT = 20, 19
-LEVEL = {"or": 1, "and": 2, "not ": 3, "==": 4, "!=": 4, "<": 4, "<=": 4, "|": 5, "^": 6, "&": 7, "+": 8, "-": 8, "*": 9, "//": 9, "%": 9, "**": 11}
+PIECE = re.compile(r"""'(?:\\.|[^'\\])*'|"(?:\\.|[^"\\])*"|.""")
+# Where an expression is broken that stands in brackets, from what binds least on.
+BREAKS = [re.compile(it) for it in (" (?=for )", " (?=if |else )", " (?=or )", " (?=and )", " (?=(?:[=!]=|<=?) )", r" (?=[+|-] )")]
 
 
-class Doc:
-    """An expression: what it is in one line, how tightly it binds, and how it is broken."""
-    level = ATOM
-
-    def within(self, level):
-        return self if self.level >= level else Bracket("(", [self], ")")
+LEVELS = {"lambda": 0, "if": 0, "or": 1, "and": 2, "not": 3, "==": 4, "!=": 4, "<": 4, "<=": 4, "|": 5, "^": 6, "&": 7,
+          "+": 8, "-": 8, "*": 9, "//": 9, "%": 9, "**": 11}
+ATOM = 20
 
 
-class Plain(Doc):
-    def __init__(self, text, level=ATOM):
-        self.flat, self.level = text, level
+class Code(str):
+    """An expression with the sign that joins its parts. What is a plain text binds most tightly."""
 
-    def broken(self, indent):
-        return [self.flat]
-
-
-class Bracket(Doc):
-    """A call, a list or a pair."""
-
-    def __init__(self, start, items, end):
-        self.start, self.items, self.end = start, items, end
-        self.flat = start + ", ".join(it.flat for it in items) + end
-
-    def broken(self, indent):
-        if not self.items:
-            return [self.flat]
-        found = [self.start]
-        lone = len(self.items) == 1 and (self.start == "(" or isinstance(self.items[0], Each))
-        row = ", ".join(it.flat for it in self.items)
-        if indent + 4 + len(row) < WIDTH and len(self.items) > 1 and not any(isinstance(it, Function) for it in self.items[:-1]) and "=" not in row:
-            return found + [" " * (indent + 4) + row, " " * indent + self.end]
-        for it in self.items:
-            lines = lay(it, indent + 4, 1)
-            found += [" " * (indent + 4) + lines[0], *lines[1:]]
-            found[-1] += "" if lone else ","
-        return found + [" " * indent + self.end]
-
-
-class Chain(Doc):
-    """Operands with a sign between them."""
-
-    def __init__(self, sign, items):
-        self.sign, self.level = sign, LEVEL[sign]
-        associative = sign in ("and", "or", "+", "*", "|", "&")
-        flat = []
-        for number, it in enumerate(items):
-            same = isinstance(it, Chain) and it.sign == sign and associative
-            if sign == "or" and isinstance(it, Chain) and it.sign == "and":
-                it = Bracket("(", [it], ")")
-            flat += it.items if same else [it.within(self.level + (0 if number == 0 and sign not in ("**", "==", "!=", "<", "<=") else 1))]
-        self.items = flat
-        self.flat = f" {sign} ".join(it.flat for it in flat)
-
-    def broken(self, indent):
-        found = []
-        for number, it in enumerate(self.items):
-            lines = lay(it, indent, 0, len(self.sign) + 1 if number else 0)
-            found += [(" " * indent + self.sign + " " if number else "") + lines[0], *lines[1:]]
+    def __new__(cls, sign, text, item=None):
+        found = super().__new__(cls, text)
+        found.sign, found.item = sign, item
         return found
 
 
-class Prefix(Doc):
-    def __init__(self, sign, item):
-        self.sign, self.item, self.level = sign, item.within(LEVEL[sign]), LEVEL[sign]
-        self.flat = sign + self.item.flat
-
-    def broken(self, indent):
-        lines = lay(self.item, indent, 0, len(self.sign))
-        return [self.sign + lines[0], *lines[1:]]
+def within(code, level):
+    """An expression, in parentheses if it binds less tightly."""
+    return code if LEVELS.get(getattr(code, "sign", None), ATOM) >= level else f"({code})"
 
 
-class Function(Doc):
-    """A lambda."""
-    level = 0
-
-    def __init__(self, parameters, body):
-        self.head, self.body = f"lambda {', '.join(parameters)}: ".replace("lambda :", "lambda:"), body
-        self.flat = self.head + body.flat
-
-    def broken(self, indent):
-        body = self.body if isinstance(self.body, (Bracket, Function)) else Bracket("(", [self.body], ")")
-        lines = lay(body, indent, 2, len(self.head))
-        return [self.head + lines[0], *lines[1:]]
+def chain(sign, first, second):
+    """Two operands with a sign between them. Where it makes no difference which are taken first they stand in a row."""
+    own, is_one_way = LEVELS[sign], sign in ("**", "==", "!=", "<", "<=")
+    is_same = sign in ("and", "or", "+", "*", "|", "&") and getattr(second, "sign", None) == sign
+    mixed = [f"({it})" if sign == "or" and getattr(it, "sign", None) == "and" else it for it in (first, second)]
+    return Code(sign, f"{within(mixed[0], own + is_one_way)} {sign} {within(mixed[1], own + (not is_same))}")
 
 
-class Choice(Doc):
-    """A conditional expression."""
-    level = 0.5
-
-    def __init__(self, yes, test, no):
-        self.items = [yes.within(1), test.within(1), no]
-        self.flat = f"{self.items[0].flat} if {self.items[1].flat} else {no.flat}"
-
-    def broken(self, indent):
-        found = []
-        for word, it in zip(("", "if ", "else "), self.items):
-            lines = lay(it, indent, 0, len(word))
-            found += [(" " * indent if word else "") + word + lines[0], *lines[1:]]
-        return found
+def choice(test, yes, no):
+    return Code("if", f"{within(yes, 1)} if {within(test, 1)} else {no}")
 
 
-class Each(Doc):
-    """What stands between the brackets of a comprehension."""
-    level = 0
-
-    def __init__(self, value, name, items, test=None):
-        self.value, self.rest = value, [f"for {name} in {items.within(1).flat}"] + ([f"if {test.within(1).flat}"] if test else [])
-        self.flat = " ".join([value.flat, *self.rest])
-
-    def broken(self, indent):
-        return [*lay(self.value, indent, 0), *(" " * indent + it for it in self.rest)]
+def negated(code):
+    return code.item if getattr(code, "sign", None) == "not" else Code("not", f"not {within(code, 3)}", within(code, 3))
 
 
-def lay(doc, indent, after=0, before=0):
-    """The lines of an expression: the first goes on where it stands, `before` columns after the margin; `after` columns follow the last."""
-    if indent + before + len(doc.flat) + after <= WIDTH:
-        return [doc.flat]
-    return doc.broken(indent)
+def masked(text):
+    """A text with `_` in the place of all that is in brackets or quotes."""
+    found, deep = [], 0
+    for it in PIECE.findall(text):
+        deep -= it in ")]"
+        found.append(it if deep == 0 and len(it) == 1 else "_" * len(it))
+        deep += it in "(["
+    return "".join(found)
 
 
-def statement(word, doc, indent):
-    """A statement that ends with an expression."""
-    if indent + len(word) + len(doc.flat) > WIDTH and not isinstance(doc, (Bracket, Plain, Function)):
-        doc = Bracket("(", [doc], ")")
-    lines = lay(doc, indent, 0, len(word))
-    return [" " * indent + word + lines[0], *lines[1:]]
+def split(pattern, text, mask):
+    """The parts of a text between those places that a pattern finds outside brackets."""
+    cuts = [it.start() for it in re.finditer(pattern, mask)]
+    return [text[start:end].strip(", ") for start, end in zip([0, *cuts], [*cuts, len(text)])]
+
+
+def lay(text, indent, before=0, after=0):
+    """The lines of an expression in brackets: the first goes on where it stands, `before` columns after the margin;
+    `after` columns follow the last."""
+    if indent + before + len(text) + after <= WIDTH:
+        return [text]
+    mask, margin = masked(text), " " * indent
+    if mask.startswith("lambda"):
+        cut = mask.index(": ") + 2
+        first, *more = lay(bracketed(text[cut:]), indent, before + cut, after)
+        return [text[:cut] + first, *more]
+    for pattern in BREAKS:
+        if pattern.search(mask):
+            first, *more = [line for it in split(pattern, text, mask) for line in under(it, indent)]
+            return [first.strip(), *more]
+    groups = list(re.finditer(r"[(\[](_*)[)\]]", mask))
+    if not groups:
+        return [text]
+    start, end = max((it.span(1) for it in groups), key=lambda it: it[1] - it[0])
+    inside = text[start:end]
+    inner = masked(inside)
+    items = [inside] if " for " in inner else split(", ", inside, inner)
+    is_lone = len(items) == 1 and (text[:start] == "(" or " for " in inner)
+    comma = "" if is_lone else ","
+    is_row = len(items) > 1 and len(margin) + 4 + len(inside) < WIDTH and not re.search(r"=|\blambda .*, ", inner)
+    rows = [f"{margin}    {inside}"] if is_row else [it for x in items for it in under(x, indent + 4, "", comma)]
+    return [text[:start], *rows, margin + text[end:]]
+
+
+def under(text, indent, word="", end=""):
+    """The lines of an expression with what stands before and after it."""
+    first, *more = lay(text, indent, len(word), len(end))
+    found = [" " * indent + word + first, *more]
+    return [*found[:-1], found[-1] + end]
+
+
+def bracketed(text):
+    """An expression that may be broken: in parentheses, if it has no brackets of its own around it."""
+    mask = masked(text)
+    return f"({text})" if not mask.startswith("lambda") and any(it.search(mask) for it in BREAKS) else text
+
+
+def statement(word, text, indent, end=""):
+    """The lines of a statement that ends with an expression."""
+    return under(text if indent + len(word + text + end) <= WIDTH else bracketed(text), indent, word, end)
 
 
 def comment(text, indent=0):

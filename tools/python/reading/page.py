@@ -1,7 +1,6 @@
 """Writes docs/DEFINITIONS.md: the definitions as they stand in their files, in the order of the Python file."""
 from reading.file import PARTS
-from reading.language import Type
-from reading.project import RustModule
+from reading.language import Definition, Module
 
 HEAD = """# Definitions
 
@@ -17,32 +16,26 @@ nothing proves it.
 
 def source_of(entity):
     """A definition as it stands in its file."""
-    lines = [f"-- {it}" for it in entity.comment]
-    if isinstance(entity, Type):
-        return lines + entity.item.lines
-    lines += entity.signature.lines
-    for item, _ in entity.items:
+    lines = [*(f"-- {it}" for it in entity.comment), *entity.item.lines]
+    for item, _ in entity.items if isinstance(entity, Definition) else ():
         lines += ["-- " + it for it in item.comment] + item.lines
     return [it.rstrip() for it in lines]
 
 
 def section(module, entities):
-    title = " ".join(module.comment).split(". ")[0].rstrip(".:")
-    found = [f"### {title}", "", *([" ".join(module.comment), ""] if len(" ".join(module.comment)) > len(title) + 1 else []),
-             f"`{'/'.join(module.path.parts[-3:]) if module.path.parts[-2] == 'specs' else module.path.name}`", "", "```"]
-    for it in entities:
-        found += [*source_of(it), ""]
-    return found[:-1] + ["```", ""]
+    said = " ".join(module.comment)
+    title = said.split(". ")[0].rstrip(".:")
+    place = "/".join(module.path.parts[-3:]) if module.path.parts[-2] == "specs" else module.path.name
+    lines = [line for it in entities for line in [*source_of(it), ""]]
+    return [f"### {title}", "", *([said, ""] if len(said) > len(title) + 1 else []), f"`{place}`", "", "```", *lines[:-1], "```", ""]
 
 
 def page_of(file):
-    parts = [(PARTS[place], module, [*types, *definitions]) for place, module, types, definitions in file.order if not isinstance(module, RustModule)]
-    parts = [it for it in parts if it[1].path.is_relative_to(file.project.top)]
-    left = {}
-    for it, _ in file.left_out:
-        if not isinstance(it.module, RustModule):
-            left.setdefault(it.module.name, (it.module, []))[1].append(it)
-    parts += [("Agreement and the headline", module, sorted(them, key=lambda it: it.line)) for module, them in left.values()]
+    own = [it for it in file.order if isinstance(it[1], Module) and it[1].path.is_relative_to(file.project.top)]
+    parts = [(PARTS[place], module, [*types, *definitions]) for place, module, types, definitions in own]
+    for module in dict.fromkeys(it.module for it in file.left_out):
+        them = sorted((it for it in file.left_out if it.module is module), key=lambda it: it.line)
+        parts.append(("Agreement and the headline", module, them))
     names = list(dict.fromkeys(it[0] for it in parts))
     lines = [f"- [{it}](#{it.lower().replace(' ', '-')})" for it in names] + [""]
     for name in names:

@@ -1,952 +1,615 @@
 """Writes definitions as Python."""
-import ast
 import builtins
-import collections
 import contextlib
+import functools
+import inspect
+import itertools
 import keyword
-import pathlib
 import re
 
-from reading.language import (Apply, Definition, arguments_of, Elim, If, Lambda, Let, Name, Number, Operator, Pair, Field, Record, Refused, Text, Type, Typed, parts)
-from reading.layout import Bracket, Chain, Choice, Each, Function, Plain, Prefix, comment, lay, statement, WIDTH
-from reading.project import Constructor, Library, Meaning, identity
+from reading import words
+from reading.language import (NUMERAL, Apply, Definition, Elim, Field, Given, If, Lambda, Let, Literal, Name, Operator, Placed,
+                              Record, Refused, Type, Typed, applied, before_arrow, changed, parts, refusal, spine, substituted)
+from reading.layout import ATOM, WIDTH, Code, chain, choice, comment, negated, statement, within
+from reading.project import Constructor, Library
 
-WORDS = (pathlib.Path(__file__).parent / "words.py").read_text(encoding="utf-8")
-CONSTANTS = {"true": "True", "false": "False", "zero": "0", "[]": "[]", "None": "None", "tt": "()", "w8": "8", "w16": "16", "w32": "32", "w64": "64", "nat_cmp": "nat_cmp"}
-SIGNS = {"+": "+", "*": "*", "++": "+", "==": "==", "&&": "and", "||": "or", "+ℤ": "+", "-ℤ": "-", "*ℤ": "*", "^": "**", "<ℤ": "<"}
-OFTEN = {"Some", "Ok", "Err", "NoCase", "codes", "partial", "replace", "monus", "quotient", "remainder", "option_and_then", "option_to_list", "pairs", "splits"}
+CONSTANTS = {"true": "True", "false": "False", "zero": "0", "[]": "[]", "None": "None", "tt": "()", "w8": "8", "w16": "16",
+             "w32": "32", "w64": "64"}
+SIGNS = {"+": "+", "*": "*", "++": "+", "==": "==", "&&": "and", "||": "or", "+ℤ": "+", "-ℤ": "-", "*ℤ": "*", "^": "**",
+         "<ℤ": "<"}
 RELATIONS = {"≡": "==", "≢": "!=", "≤": "<=", "<": "<", "≤ℤ": "<=", "<ℤ": "<"}
-INFIX = {"nat_eq": "==", "nat_lt": "<", "nat_le": "<=", "int_eq": "==", "int_lt": "<", "int_le": "<=", "bytes_eq": "==", "eqb": "==", "bit_and": "&", "bit_or": "|", "bit_xor": "^"}
-OPERATORS = {"-": "monus", "/": "quotient", "%": "remainder", ">>=": "bind"}
-EACH = {"map": ("[", "]"), "list_any": ("any(", ")"), "list_all": ("all(", ")"), "sum_by": ("sum(", ")")}
-BUILTIN = set(dir(builtins))
+CALLS = {"-": "monus({}, {})", "/": "quotient({}, {})", "%": "remainder({}, {})", ">>=": "option_and_then({1}, {0})",
+         ",": "({}, {})"}
+DIVISIONS = {"/": "//", "%": "%"}  # by what is above 0
+INFIX = {"nat_eq": "==", "nat_lt": "<", "nat_le": "<=", "int_eq": "==", "int_lt": "<", "int_le": "<=", "bytes_eq": "==",
+         "eqb": "==", "bit_and": "&", "bit_or": "|", "bit_xor": "^"}
+
+
+def itself(code):
+    return code
+
+
+def ordering(order, less, same, more):
+    return choice(chain("<", order, "0"), less, choice(chain("==", order, "0"), same, more))
+
+
+# Words that are written otherwise than as a call of their name, with that many arguments.
+INLINE = {("not", 1): negated, ("length", 1): "len({})".format, ("pos", 1): itself, ("to_nat", 1): itself, ("id", 1): itself,
+          ("cond", 3): choice, ("match_ordering", 4): ordering, ("fst", 1): lambda pair: within(pair, ATOM) + "[0]",
+          ("snd", 1): lambda pair: within(pair, ATOM) + "[1]",
+          **{(word, 2): functools.partial(chain, sign) for word, sign in INFIX.items()}}
+# What is asked of each item of a list: {0} is what is asked, {1} the item, {2} the list.
+EACH = {"map": "[{0} for {1} in {2}]", "list_any": "any({0} for {1} in {2})", "list_all": "all({0} for {1} in {2})",
+        "sum_by": "sum({0} for {1} in {2})", "filter": "[{1} for {1} in {2} if {0}]"}
+NUMERIC = ("zero", "suc", "pos", "negsuc")
+# No variable has the name of one of these.
+OFTEN = {"Some", "Ok", "Err", "NoCase", "codes", "partial", "replace", "monus", "quotient", "remainder", "option_and_then",
+         "option_to_list", "pairs", "splits", "all", "any", "len"}
 
 
 def py(name):
     """A name as Python may have it: one that it keeps for itself gets `_`."""
-    name = {f"◌{sign}◌": it for sign, it in OPERATORS.items()}.get(name, name).replace("'", "_").replace("-", "_")
+    name = {"◌>>=◌": "bind"}.get(name, name).replace("'", "_").replace("-", "_")
     if not name.isidentifier():
         raise Refused(f"the name `{name}` is none in Python")
-    return name + "_" if keyword.iskeyword(name) or name in BUILTIN or name in ("match", "case") else name
+    return name + "_" if keyword.iskeyword(name) or hasattr(builtins, name) or name in ("match", "case") else name
 
 
-class Words:
-    """The words of the standard library, written by hand in words.py: the text of each, how many arguments it takes, and which others it uses."""
-
-    def __init__(self):
-        self.texts, self.counts, self.uses = {}, {}, {}
-        lines, last = WORDS.split("\n"), 0
-        for it in ast.parse(WORDS).body:
-            if not isinstance(it, (ast.FunctionDef, ast.ClassDef, ast.Assign)):
-                last = it.end_lineno
-                continue
-            name = it.targets[0].id if isinstance(it, ast.Assign) else it.name
-            self.texts[name] = "\n".join(it for it in lines[last:it.end_lineno] if not it.startswith("# ----")).strip("\n")
-            self.counts[name] = len(it.args.args) if isinstance(it, ast.FunctionDef) else 1
-            self.uses[name] = {x.id for x in ast.walk(it) if isinstance(x, ast.Name)} - {name}
-            last = it.end_lineno
-
-    def name(self, word):
-        if "FinMap" in word.path:
-            return "finmap_" + word.name
-        return next((it for it in (word.name, word.name + "_", word.name.replace("_ℤ", "")) if it in self.texts), None)
-
-    def used(self, names):
-        found, open_ = set(), set(names)
-        while open_:
-            it = open_.pop()
-            if it in self.texts and it not in found:
-                found.add(it)
-                open_ |= self.uses[it]
-        return [it for it in self.texts if it in found]
+def word_of(library):
+    """The name of a word of the standard library in words.py, if it has one there."""
+    name = {"◌==◌": "nat_eq"}.get(library.name, library.name)
+    names = [f"finmap_{name}"] if "FinMap" in library.path else [name, f"{name}_", name.replace("_ℤ", "")]
+    return next((it for it in names if hasattr(words, it)), None)
 
 
 class Python:
-    """The writer: all that definitions rest on, as Python."""
+    """All that some definitions rest on, as Python."""
 
     def __init__(self, project, roots):
-        self.project, self.words = project, Words()
-        self.names, self.doubles, self.kept = {}, [], set()
-        self.texts, self.types, self.library = {}, {}, {"NoCase"}
-        self.give_names(roots)
-        open_ = list(roots)
-        while open_:
-            it = open_.pop(0)
-            if identity(it) not in self.texts:
-                self.texts[identity(it)] = None
-                written = Written(self, it)
-                self.texts[identity(it)] = written
-                open_ += written.rests
-
-    def give_names(self, roots):
-        seen, open_ = {}, list(roots)
-        while open_:
-            it = open_.pop()
-            if identity(it) in seen:
-                continue
-            seen[identity(it)] = it
-            open_ += [x for x in self.project.cites(it) if not (isinstance(x, Definition) and self.project.is_type(x))]
-        holders = collections.defaultdict(list)
-        for it in seen.values():
-            holders[py(it.name)].append(it)
-        for name, them in holders.items():
-            for it in them:
-                crate, *_, tail = it.module.name.split(".")
-                alone = len([x for x in them if x.module.name.split(".")[-1] == tail]) == 1
-                own = len(them) == 1 and name not in self.words.texts
-                self.names[identity(it)] = name if own else f"{name}_in_{tail}" if alone else f"{name}_in_{crate}_{tail}"
-            if len(them) > 1:
-                self.doubles.append(name)
+        self.project, self.names, self.types, self.written, self.kept = project, {}, {}, {}, set()
+        self.defined, open_ = {name for it in project.modules() for name in it.definitions}, list(roots)
+        for it in open_:  # which grows on the way
+            if it not in self.written:
+                self.written[it] = Written(self, it)
+                open_ += self.written[it].rests
 
     def name(self, entity):
+        """The name of a definition or a type. Two of one name are refused."""
+        name = py(entity.name)
+        other = self.names.setdefault(name, entity)
+        if other is not entity or hasattr(words, name):
+            place = f"{other.module.place}:{other.line}" if other is not entity else "words.py"
+            raise refusal(entity, f"`{entity.name}` means another thing in {place}")
         if isinstance(entity, Type) and not self.project.states(entity):
-            self.types.setdefault(identity(entity), entity)
-        if identity(entity) not in self.names:
-            name = py(entity.name)
-            self.names[identity(entity)] = name if name not in self.names.values() else f"{name}_in_{entity.module.name.replace('.', '_')}"
-        return self.names[identity(entity)]
+            self.types[entity] = None
+        return name
 
-    def parameters(self, definition):
-        if isinstance(definition, Type):  # a statement
-            rows = [Operator("→", it, it) for it in definition.parameters]
-            return [Meaning(type, definition.module) for it in rows for _, type in arguments_of(it)], None
-        if not hasattr(definition, "arrows"):
-            types, result = self.project.arrows(self.project.meaning_of(definition))
-            count = len(self.project.clauses(definition)[0][1])
-            definition.arrows = types + [None] * (count - len(types)), result
-        return definition.arrows
+    @functools.cache
+    def parameters(self, entity):
+        """The types of a definition's arguments, and that of its result."""
+        if isinstance(entity, Type):
+            return [type for row in entity.parameters for _, type in before_arrow(row)], None
+        types, result = self.project.arrows(entity.type)
+        return types + [None] * (len(entity.clauses[0][1]) - len(types)), result
 
     def type_lines(self, entity):
-        """A record or data, with a line for each field or constructor."""
-        name = self.name(entity)
-        found = comment(" ".join(entity.comment)) + self.origin(entity)
+        """A record or data, with a line for each field or constructor that has a comment."""
+        head = f"{self.name(entity)} = "
         if entity.kind == "record":
-            members = [(py(it[0]), " ".join(it[2]), it[1]) for it in self.project.fields(entity)]
-            found.append(f"{name} = record({name!r}")
-            found += [line for member, said, _ in members for line in [*comment(said, 4), f"    {member!r},"]]
+            members = [(repr(py(it)), said) for it, _, said in self.project.fields(entity)]
         else:
-            found.append(f"{name} = data({name!r}")
-            for member, arguments, said in entity.members:
-                fields = " ".join(py(it) if it else f"a{number}" for number, (it, _) in enumerate(arguments))
-                found += [*comment(" ".join(said), 4), f"    {py(member)}={fields!r},"]
-        start = next(number for number, it in enumerate(found) if it.startswith(f"{name} = "))
-        if not any("#" in it for it in found[start:]):  # in one line, if it fits
-            items = [Plain(it.strip()[:-1]) for it in found[start + 1:]]
-            return found[:start] + statement(f"{name} = ", Bracket(f"{entity.kind}(", [Plain(repr(name)), *items], ")"), 0)
-        found[start] += ","
-        return found + [")"]
+            members = [(f"{py(it)}={' '.join(py(x) if x else f'a{n}' for n, (x, _) in enumerate(arguments))!r}", said)
+                       for it, arguments, said in entity.members]
+        start, rows = f"{entity.kind}({entity.name!r}", [it for it, _ in members]
+        if any(said for _, said in members):
+            rows = [line for it, said in members for line in [*comment(" ".join(said), 4), f"    {it},"]]
+            return self.above(entity) + [f"{head}{start},", *rows, ")"]
+        return self.above(entity) + statement(head, ", ".join([start, *rows]) + ")", 0)
 
-    def origin(self, entity):
-        """Where the original stands, with its type."""
-        place = self.project.place(entity.module.path, entity.line).removeprefix("crates/")
-        if isinstance(entity, Type):
-            return comment(f"[{place}]")
-        text = " ".join(entity.signature.text().split())
-        text = re.sub(r"^((abbrev|unfoldable|pub) )+", "", text)
-        return comment(f"{text}  [{place}]")
+    def above(self, entity):
+        """The comment, and where the original stands, with its type."""
+        place = f"[{entity.module.place.removeprefix('crates/')}:{entity.line}]"
+        text = "" if isinstance(entity, Type) else " ".join(entity.item.text().split()) + "  "
+        return comment(" ".join(entity.comment)) + comment(re.sub(r"^((abbrev|unfoldable|pub) )+", "", text) + place)
 
 
 class Written:
-    """A definition as a function of Python, and what it rests on."""
+    """A definition as a function of Python, and what it rests on. A scope says what each variable there is in Python."""
 
-    def __init__(self, python, definition):
-        self.python, self.project, self.definition = python, python.project, definition
-        self.module = definition.module
-        self.lines, self.rests, self.taken, self.line = [], [], set(), definition.line
+    def __init__(self, python, entity):
+        self.python, self.project, self.entity, self.at = python, python.project, entity, entity
+        self.lines, self.indent, self.rests, self.inners = [], 0, {}, 0
         try:
             self.write()
+        except Placed:
+            raise
         except Refused as why:
-            if str(why).startswith(self.project.place(self.module.path)):
-                raise
-            raise self.project.refusal(self.module, self.line, f"`{definition.name}`: {why}") from None
+            raise refusal(self.at, f"`{entity.name}`: {why}") from None
 
-    # ---- names
+    # ---- names and lines
 
-    def fresh(self, name):
-        base = py(name) if name and name != "_" else "x"
-        if base != name and base == f"{name}_":
-            self.python.kept.add(base)
-        found, count = base, 1
-        while found in self.taken or found in self.banned:
-            count += 1
-            found = f"{base}{count}"
-        self.taken.add(found)
-        return found
+    def fresh(self, name, scope):
+        """A name for a variable, which nothing else has there."""
+        base = py(name) if name != "_" else "x"
+        self.python.kept |= {base} & {f"{name}_"}
+        taken = self.banned | set(scope.values())
+        return next(it for it in (base + str(number or "") for number in (0, *range(2, 99))) if it not in taken)
 
-    def again(self, source, environment):
-        """A name for the parameter of an inner function: that of the variable which it hides, if it hides one."""
-        hidden = environment.get(source, ("", None))[0]
-        return hidden if hidden.isidentifier() else self.fresh(source)
+    def bind(self, pattern, scope, hides=True):
+        """A variable: its name in Python, and the scope with it. It may have the name of what it hides in a function of
+        its own, but not in one that goes on, nor of a function, of which the type is known."""
+        source = source_of(pattern)
+        hides = hides and not self.taken_by(scope.get(source))
+        name = self.fresh(source, {it: x for it, x in scope.items() if it != source} if hides else scope)
+        return name, {**scope, source: name}
+
+    def emit(self, word, value="", end=""):
+        self.lines += statement(word, value, self.indent, end)
 
     @contextlib.contextmanager
-    def scope(self):
-        """Names that are given within are free again after it."""
-        kept = set(self.taken)
+    def block(self, word, value="", may_join=False):
+        """What stands beneath a line; in one line with it, if both are one and fit."""
+        start = len(self.lines)
+        self.emit(word, value, ":")
+        mark, self.indent = len(self.lines), self.indent + 4
         yield
-        self.taken = kept
+        self.indent -= 4
+        joined = f"{self.lines[start]} {self.lines[-1].strip()}"
+        if may_join and [start + 1, mark + 1] == [mark, len(self.lines)] and len(joined) <= WIDTH:
+            self.lines[start:] = [joined]
 
-    def emit(self, indent, *lines):
-        self.lines += [" " * indent + it for it in lines]
+    def find(self, tree):
+        """What a tree names, if it is a name."""
+        return self.project.find(tree.module, tree.text) if isinstance(tree, Name) else None
 
     # ---- a definition
 
     def write(self):
-        definition, project = self.definition, self.project
-        types, result = self.python.parameters(definition)
-        if isinstance(definition, Type):
-            told = [it for it in definition.members if project.is_statement(Meaning(it[1], definition.module))]
-            parts_of = [it[0] for it in definition.members if it not in told]
-            clauses = [([], [it for row in definition.parameters for it in named_by(row)], split_by(parts_of, [it[1] for it in told]))]
-        else:
-            clauses = project.clauses(definition)
-        self.is_statement = isinstance(definition, Type) or project.is_type(definition)
-        cited = list(project.cites(definition))
-        self.banned = {"all", "any", "len"} | {self.python.names.get(identity(it), py(it.name)) for it in cited if not (isinstance(it, Definition) and project.is_type(it))}
-        self.banned |= OFTEN | {word for it in parts(project.trees(definition)) if isinstance(it, Name) for word in (it.text, it.text + "_") if word in self.python.words.texts}
-        self.banned.add(self.python.name(definition))
-        head, patterns = self.python.name(definition), [it[1] for it in clauses]
-        names = []
-        for number in range(len(types)):
-            name = self.parameter_name(number, patterns, types)
-            names.append(self.fresh(name if py(name) not in self.taken else f"other_{name}"))
+        entity, project = self.entity, self.project
+        (types, result), name = self.python.parameters(entity), self.python.name(entity)
+        self.result, self.is_statement = result, isinstance(entity, Type) or project.is_type(entity)
+        texts = [it.text for it in parts(project.trees(entity)) if isinstance(it, Name)]
+        self.banned = {name, *OFTEN, *(py(it.name) for it in project.cites(entity) if not project.is_type(it)),
+                       *(it for text in texts for it in (text, text + "_") if hasattr(words, it))}
+        clauses = [] if isinstance(entity, Type) else entity.clauses
+        sources = [Name(it) for row in entity.parameters for it in row.names] if isinstance(entity, Type) else clauses[0][1]
+        self.types = {}  # of the parameters
+        for number, type in enumerate(types):
+            patterns = [patterns[number] for _, patterns, _ in clauses if number < len(patterns)] or sources[number:]
+            wanted = self.parameter_name(patterns, type)
+            wanted = wanted if py(wanted) not in self.types else f"other_{wanted}"
+            self.types[self.fresh(wanted, dict(zip(self.types, self.types)))] = type
+        names = list(self.types)
         if not types or self.is_of_text(types, result):
-            self.emit(0, "@once" if not types else "@kept")
-            self.python.library.add("once" if not types else "kept")
-        self.emit(0, f"def {head}({', '.join(names)}):")
-        if not self.loop(clauses, names, types, result):
-            count = len(patterns[0])
-            if len(types) > count:
-                clauses = [(said, it, applied(body, [Given(x) for x in names[count:]])) for said, it, body in clauses]
-            self.match(4, names[:count], types[:count], [(it, body, said) for said, it, body in clauses], {}, result)
-        self.rests = list({identity(it): it for it in self.rests}.values())
+            self.emit("@kept" if types else "@once")
+        with self.block(f"def {name}({', '.join(names)})"):
+            if isinstance(entity, Type):
+                self.emit("return ", self.truth_of_record({it.text: name for it, name in zip(sources, names)}))
+            elif not self.loop(names):
+                more = [Given(it) for it in names[len(sources):]]
+                cases = [(it, applied(body, more) if more else body, said) for said, it, body in clauses]
+                self.match(names[:len(sources)], cases, {})
 
     def is_of_text(self, types, result):
         """Whether this is what a text says, if it says something: the definitions ask that of one line again and again."""
-        shown = [it.tree for it in (*types, result) if it and isinstance(it.tree, Apply) and isinstance(it.tree.head, Name)]
-        return len(types) == 1 and [(it.head.text, getattr(it.arguments[0], "text", "")) for it in shown][:1] == [("List", "ℕ")] and [it.head.text for it in shown][1:] == ["Option"]
+        heads = [it and spine(it)[0] for it in (*types, result)]
+        return heads == [Name("List"), Name("Option")] and spine(types[0])[1] == [Name("ℕ")]
 
-    def parameter_name(self, number, patterns, types):
+    def parameter_name(self, patterns, type):
+        """A name for a parameter: that of a variable in the definition, or else that of its type."""
         for it in patterns:
-            if number < len(it) and isinstance(it[number], (Name, Typed)):
-                name = it[number].text if isinstance(it[number], Name) else it[number].names[0]
-                if name != "_" and not self.is_constant(name):
-                    return name
-        inner = {it[number].arguments[0].text for it in patterns if number < len(it) and isinstance(it[number], Apply) and it[number].head.text == "Some"
-                 and isinstance(it[number].arguments[0], Name) and it[number].arguments[0].text[0].islower() and not self.is_constant(it[number].arguments[0].text)}
-        if len(inner) == 1 and "." not in min(inner):
+            match it:
+                case Name(name) | Typed([name, *_]) if name != "_" and not self.is_constant(it): return name
+        inner = {it.arguments[0].text for it in patterns if isinstance(it, Apply) and it.head == Name("Some")
+                 and isinstance(it.arguments[0], Name) and re.fullmatch("[a-z_]+", it.arguments[0].text)}
+        if len(inner) == 1:
             return inner.pop()
-        tree = types[number].tree if types[number] else None
-        if isinstance(tree, Apply) and isinstance(tree.head, Name) and tree.head.text == "List":
-            return "items"
-        if isinstance(tree, Apply):
-            tree = tree.arguments[-1] if isinstance(tree.head, Name) and tree.head.text in ("List", "Option") else tree.head
+        match type:
+            case Apply(Name("List")): return "items"
+            case Apply(Name("Option"), [tree]) | Apply(tree): pass
+            case tree: pass
         name = re.sub(r"(?<!^)(?=[A-Z])", "_", tree.text.split(".")[-1]).lower() if isinstance(tree, Name) else ""
+        name = f"this_{name}" if name in self.python.defined else name
         return name if name.isidentifier() and len(name) > 1 else {"ℕ": "number", "ℤ": "number"}.get(name, "value")
 
     def is_constant(self, name):
-        if NUMERAL.fullmatch(name) or name in CONSTANTS:
-            return True
-        found = self.project.find(self.module, name, set())
-        return isinstance(found, Constructor) or isinstance(found, Library) and found.name in CONSTANTS
+        found = self.find(name)
+        is_word = isinstance(found, Library) and found.name in CONSTANTS
+        return name.text in CONSTANTS or is_word or isinstance(found, Constructor) or bool(NUMERAL.fullmatch(name.text))
 
-    def loop(self, clauses, names, types, result):
-        """A definition by zero and suc that calls itself below with all else the same is a loop from zero on: Python's calls end where they are deep."""
-        if len(clauses) != 2 or not clauses[0][1]:
+    def loop(self, names):
+        """A definition by zero and suc that calls itself below with all else the same is a loop from zero on: Python's
+        calls end where they are deep."""
+        match [it[1:] for it in self.entity.clauses]:
+            case [(first, base), (second, body)] if Name("zero") in first: at = first.index(Name("zero"))
+            case _: return False
+        match second[at]:
+            case Apply(Name("suc"), [Name() as below]): variables = [*second[:at], below, *second[at + 1:]]
+            case _: return False
+        own = Name(self.entity.name)
+        call = Apply(own, variables)
+        ways = [it for it in (body, self.inlined(body)) if [x for x in parts(it) if x in (call, own)] == [call, own]]
+        if not ways or not all(isinstance(it, Name) for it in variables):
             return False
-        (_, first, base), (_, second, body) = clauses
-        places = [it for it in range(len(first)) if isinstance(first[it], Name) and first[it].text == "zero" and isinstance(second[it], Apply) and second[it].head == Name("suc", second[it].head.line)]
-        if len(places) != 1 or not all(isinstance(it, Name) for number, it in enumerate(second) if number not in places) or not isinstance(second[places[0]].arguments[0], Name):
-            return False
-        at, own = places[0], self.definition.name
-        variables = [it.arguments[0].text if number == at else it.text for number, it in enumerate(second)]
-        for body in (body, self.inlined(body, own)):
-            calls = [it for it in parts(body) if isinstance(it, Apply) and isinstance(it.head, Name) and it.head.text == own]
-            alone = [it for it in parts(body) if isinstance(it, Name) and it.text == own]
-            if len(calls) == len(alone) == 1 and [it.text if isinstance(it, Name) else None for it in calls[0].arguments] == variables:
-                break
-        else:
-            return False
-        outcome, count = self.fresh("so_far"), self.fresh(variables[at])
-        environment = {it.text: (names[number], types[number]) for number, it in enumerate(first) if number != at}
-        self.indent = 4
-        self.lines += statement(f"{outcome} = ", self.doc(base, environment, result), 4)
-        environment = {it: (count if number == at else names[number], types[number]) for number, it in enumerate(variables)}
-        self.emit(4, f"for {count if any(isinstance(it, Name) and it.text == variables[at] for it in parts(replace_calls(body, calls[0]))) else '_'} in range({names[at]}):")
-        body = replace_calls(body, calls[0], Given(outcome, result))
-        while isinstance(body, Let):
-            environment = self.bind_let(8, body, environment)
-            body = body.body
-        self.indent = 8
-        self.lines += statement(f"{outcome} = ", self.doc(body, environment, result), 8)
-        self.emit(4, f"return {outcome}")
+        scope = {it.text: name for it, name in zip(first, names) if it != Name("zero")}
+        so_far = self.fresh("so_far", scope)
+        self.emit(f"{so_far} = ", self.value(base, scope))
+        scope = {"=": so_far, **{it.text: name for it, name in zip(variables, names) if it != below}}
+        count, scope = self.bind(below, scope)
+        body = changed(ways[0], lambda it: Given(so_far) if it == call else None)
+        with self.block(f"for {count if below in list(parts(body)) else '_'} in range({names[at]})"):
+            while isinstance(body, Let):
+                body, scope = body.body, self.let(body, scope)
+            self.emit(f"{so_far} = ", self.value(body, scope))
+        self.emit(f"return {so_far}")
         return True
 
-    def inlined(self, body, own):
-        """A body whose head is a definition by one clause, and which gets a part of its own definition as a value: what that clause says."""
-        if not isinstance(body, Apply) or not any(isinstance(it, Apply) and isinstance(it.head, Name) and it.head.text == own for it in body.arguments):
-            return body
-        found = self.project.find(self.module, body.head.text, set())
-        if not isinstance(found, Definition) or found.name == own:
-            return body
-        clauses = self.project.clauses(found)
-        if len(clauses) != 1 or len(clauses[0][1]) != len(body.arguments):
-            return body
-        inner = substituted(clauses[0][2], {it.text: x for it, x in zip(clauses[0][1], body.arguments)})
-        return inner
+    def inlined(self, body):
+        """A body whose head is a definition by one clause, which gets this one but for an argument: what that clause says."""
+        head, arguments = spine(body)
+        found = self.find(head)
+        if any(spine(it)[0] == Name(self.entity.name) for it in arguments) and isinstance(found, Definition):
+            (_, patterns, inner), *more = found.clauses
+            if found is not self.entity and not more and len(patterns) == len(arguments):
+                return substituted(inner, {it.text: x for it, x in zip(patterns, arguments)})
+        return body
 
-    # ---- statements
+    # ---- statements of Python
 
-    def bind_let(self, indent, let, environment):
-        self.indent = indent
-        value, meaning = self.doc(let.value, environment, None), self.infer(let.value, environment)
-        if isinstance(let.pattern, (Name, Typed)):
-            source = let.pattern.text if isinstance(let.pattern, Name) else let.pattern.names[0]
-            if isinstance(let.pattern, Typed):
-                meaning = Meaning(let.pattern.type, self.module)
-            name = self.fresh(source)
-            self.lines += statement(f"{name} = ", value, indent)
-            return {**environment, source: (name, meaning)}
-        environment, guards, binds = dict(environment), [], []
-        pattern = self.pattern(let.pattern, environment, guards, binds, meaning)
-        if guards or binds:
-            raise Refused("a pattern of `let` that is more than a pair")
-        self.lines += statement(f"{pattern} = ", value, indent)
-        return environment
-
-    def tail(self, indent, tree, environment, expected):
-        """What a function returns."""
-        self.indent = indent
-        if isinstance(tree, Let):
-            self.tail(indent, tree.body, self.bind_let(indent, tree, environment), expected)
-        elif isinstance(tree, Elim):
-            subject = self.doc(tree.subject, environment, None)
-            self.match(indent, [subject.flat], [self.infer(tree.subject, environment)], [([it], body, []) for it, body in tree.cases], environment, expected)
-        elif isinstance(tree, If):
-            mark = len(self.lines)
-            if all(self.is_plain(it) for it in (tree.test, tree.yes, tree.no)) and not isinstance(tree.no, If):
-                whole = self.doc(tree, environment, expected)
-                if len(whole.flat) + indent <= 90:
-                    self.emit(indent, f"return {whole.flat}")
-                    return
-                del self.lines[mark:]
-            test = self.doc(tree.test, environment, None)
-            self.branch(indent, "if ", test, tree.yes, environment, expected)
-            self.tail(indent, tree.no, environment, expected)
+    def let(self, tree, scope):
+        """Binds what `let` binds: the scope there is then."""
+        value = self.value(tree.value, scope)
+        if isinstance(tree.pattern, (Name, Typed)):
+            pattern, scope = self.bind(tree.pattern, scope, hides=False)
         else:
-            doc = self.truth(tree, environment) if self.is_statement else self.doc(tree, environment, expected)
-            self.lines += statement("return ", doc, indent)
+            scope, self.guards, self.binds = dict(scope), [], []
+            pattern = self.pattern(tree.pattern, scope)
+            if self.guards or self.binds:
+                raise Refused("a pattern of `let` that is more than a pair")
+        self.emit(f"{pattern} = ", value)
+        return scope
 
-    # ---- statements as truth values
+    def tail(self, tree, scope):
+        """What a function returns."""
+        match tree:
+            case Let(_, _, body): self.tail(body, self.let(tree, scope))
+            case Elim(subject, cases):
+                self.match([self.value(subject, scope)], [([it], body, []) for it, body in cases], scope)
+            case If(test, yes, no):
+                if is_plain([test, yes, no]) and not isinstance(no, If):
+                    whole = self.value(tree, scope)
+                    if len(whole) + self.indent <= 90:
+                        return self.emit("return ", whole)
+                with self.block("if ", self.value(test, scope), may_join=True):
+                    self.tail(yes, scope)
+                self.tail(no, scope)
+            case _: self.emit("return ", self.truth(tree, scope) if self.is_statement else self.value(tree, scope))
+        return None
 
-    def truth(self, tree, environment):
+    def match(self, subjects, cases, scope):
+        """A definition by clauses, or an `elim`. A column that has variables alone needs no pattern."""
+        numbers = range(len(subjects))
+        plain = [n for n in numbers if subjects[n].isidentifier() and all(self.is_variable(it[n]) for it, _, _ in cases)]
+        columns = [it for it in numbers if it not in plain]
+        numeric = [subjects[it] for it in columns if any(is_numeric(patterns[it]) for patterns, _, _ in cases)]
+        rows = []
+        for patterns, body, said in cases:
+            own = {source_of(patterns[it]): subjects[it] for it in plain if source_of(patterns[it]) != "_"}
+            rows.append((patterns, body, " ".join(said), {**scope, **{f"={it}": it for it in numeric}, **own}))
+        if not columns:
+            self.lines += comment(rows[0][2], self.indent) if len(cases) > 1 else []
+            return self.tail(rows[0][1], rows[0][3])
+        with self.block(f"match {', '.join(subjects[it] for it in columns)}"):
+            for patterns, body, said, scope in rows:
+                self.guards, self.binds = [], []
+                shown = ", ".join(self.pattern(patterns[it], scope, subjects[it]) for it in columns)
+                is_open = self.guards or not all(self.is_total(patterns[it]) for it in columns)
+                self.lines += comment(said, self.indent)
+                with self.block(f"case {shown}" + (f" if {' and '.join(self.guards)}" if self.guards else ""), may_join=True):
+                    for name, value in self.binds:
+                        self.emit(f"{name} = {value}")
+                    self.tail(body, scope)
+            if is_open:
+                self.emit(f"case _: raise NoCase({self.python.name(self.entity)!r})")
+        return None
+
+    # ---- statements of the definitions as truth values
+
+    def truth(self, tree, scope):
         """Whether a statement holds, if that can be computed."""
-        if isinstance(tree, Typed):
-            return self.truth(tree.type, environment)
-        if isinstance(tree, Operator):
-            if tree.sign == "≡" and isinstance(tree.right, Name) and tree.right.text in ("true", "false"):
-                value = self.doc(tree.left, environment, None)
-                return value if tree.right.text == "true" else value.item if isinstance(value, Prefix) else Prefix("not ", value)
-            if tree.sign in RELATIONS:
-                return Chain(RELATIONS[tree.sign], [self.doc(it, environment, None) for it in (tree.left, tree.right)])
-            if tree.sign in ("×", "⊎") and not isinstance(tree.left, Typed):
-                return Chain({"×": "and", "⊎": "or"}[tree.sign], [self.truth(it, environment) for it in (tree.left, tree.right)])
-            if tree.sign == "→" and isinstance(tree.left, Typed):
-                return self.for_all(tree.left, tree.right, environment)
-            if tree.sign == "→":
-                premise = self.truth(tree.left, environment)
-                return Chain("or", [premise.item if isinstance(premise, Prefix) else Prefix("not ", premise), self.truth(tree.right, environment)])
-        head, arguments = (tree.head, tree.arguments) if isinstance(tree, Apply) else (tree, [])
-        found = self.project.find(self.module, head.text, set()) if isinstance(head, Name) else None
-        if isinstance(found, (Definition, Type)):
-            self.rests.append(found)
-            return Bracket(f"{self.python.name(found)}(", [self.doc(it, environment, None) for it in arguments], ")")
-        word = head.text if isinstance(head, Name) else ""
-        if word == "SPLIT":
-            self.python.library.add("splits")
-            whole = self.doc(arguments[0], environment, None)
-            with self.scope():
-                names = [self.fresh(it.text) for it in arguments[1:3]]
-                inner = {**environment, **{it.text: (name, None) for it, name in zip(arguments[1:3], names)}}
-                return Bracket("any(", [Each(self.truth(arguments[3], inner), ", ".join(names), Bracket("splits(", [whole], ")"))], ")")
-        if word in ("All", "Any", "AllPairs"):
-            items = self.doc(arguments[1], environment, None)
-            with self.scope():
-                holds = arguments[0] if isinstance(arguments[0], Lambda) else Lambda([Name("one"), Name("other")][:1 + (word == "AllPairs")], None)
-                given = [variable(it, None, self.module) for it in holds.parameters]
-                names = [self.fresh(it) for it, _ in given]
-                inner = {**environment, **{it: (name, meaning) for (it, meaning), name in zip(given, names)}}
-                body = holds.body if holds.body is not None else applied(arguments[0], [Given(it) for it in names])
-                value = self.truth(body, inner)
-            if word == "AllPairs":
-                self.python.library.add("pairs")
-                items = Bracket("pairs(", [items], ")")
-            return Bracket("any(" if word == "Any" else "all(", [Each(value, ", ".join(names), items)], ")")
-        if word in ("⊥", "Unit", "⊤"):
-            return Plain(str(word != "⊥"))
+        match tree:
+            case Typed(_, type): return self.truth(type, scope)
+            case Operator("≡", left, Name("true")): return self.value(left, scope)
+            case Operator("≡", left, Name("false")): return negated(self.value(left, scope))
+            case Operator(sign, left, right) if sign in RELATIONS:
+                return chain(RELATIONS[sign], self.value(left, scope), self.value(right, scope))
+            case Operator("×" | "⊎" as sign, left, right) if not isinstance(left, Typed):
+                return chain("and" if sign == "×" else "or", self.truth(left, scope), self.truth(right, scope))
+            case Operator("→", Typed([name], type), rest): return self.for_all(Name(name), type, rest, scope)
+            case Operator("→", left, right): return chain("or", negated(self.truth(left, scope)), self.truth(right, scope))
+        head, arguments = spine(tree)
+        if isinstance(found := self.find(head), (Definition, Type)):
+            self.rests[found] = None
+            return f"{self.python.name(found)}({', '.join(self.values(arguments, scope))})"
+        match head, arguments:
+            case Name("All" | "Any" | "AllPairs" as word), [holds, items]:
+                items = f"pairs({self.value(items, scope)})" if word == "AllPairs" else within(self.value(items, scope), 1)
+                if not isinstance(holds, Lambda):
+                    names = [Name("one"), Name("other")][:2 if word == "AllPairs" else 1]
+                    holds = Lambda(names, applied(holds, names))
+                names = []
+                for it in holds.parameters:
+                    name, scope = self.bind(it, scope, hides=False)
+                    names.append(name)
+                value = self.truth(holds.body, scope)
+                return f"{'any' if word == 'Any' else 'all'}({value} for {', '.join(names)} in {items})"
+            case Name("⊥" | "Unit" | "⊤" as word), []: return str(word != "⊥")
         raise Refused("a statement that is not computed")
 
-    def for_all(self, one, rest, environment):
+    def for_all(self, variable, type, rest, scope):
         """A statement of all values: of the one that an option has, or of each constructor of a kind of data."""
-        name = one.names[0]
-        with self.scope():
-            shown = self.fresh(name)
-            inner = {**environment, name: (shown, Meaning(one.type, self.module))}
-            premise = rest.left if isinstance(rest, Operator) and rest.sign == "→" else None
-            if isinstance(premise, Operator) and premise.sign == "≡" and isinstance(premise.right, Apply) and premise.right.arguments == [Name(name, premise.right.arguments[0].line)]:
-                option = self.doc(premise.left, environment, None)
-                self.python.library.add("option_to_list")
-                return Bracket("all(", [Each(self.truth(rest.right, inner), shown, Bracket("option_to_list(", [option], ")"))], ")")
-            found = self.project.find(self.module, one.type.text, set()) if isinstance(one.type, Name) else None
-            if isinstance(found, Type) and found.kind == "data" and not any(it[1] for it in found.members):
-                values = Bracket("[", [Plain(f"{self.python.name(found)}.{py(it[0])}") for it in found.members], "]")
-                return Bracket("all(", [Each(self.truth(rest, inner), shown, values)], ")")
+        shown, inner = self.bind(variable, scope, hides=False)
+        match rest:
+            case Operator("→", Operator("≡", option, Apply(_, [it])), then) if it == variable:
+                return f"all({self.truth(then, inner)} for {shown} in option_to_list({self.value(option, scope)}))"
+        found = self.project.entity(type)
+        if isinstance(found, Type) and found.kind == "data" and not any(it[1] for it in found.members):
+            values = ", ".join(f"{self.python.name(found)}.{py(it[0])}" for it in found.members)
+            return f"all({self.truth(rest, inner)} for {shown} in [{values}])"
         raise Refused("a statement of all values of a type")
 
-    def branch(self, indent, word, test, tree, environment, expected):
-        lines = statement(word, test.within(1), indent)
-        lines[-1] += ":"
-        mark = len(self.lines)
-        with self.scope():
-            self.tail(indent + 4, tree, environment, expected)
-        self.indent = indent
-        new = self.lines[mark:]
-        del self.lines[mark:]
-        if len(lines) == 1 and len(new) == 1 and len(lines[0]) + len(new[0].strip()) + 1 <= WIDTH:
-            lines = [lines[0] + " " + new[0].strip()]
-            new = []
-        self.lines += lines + new
-
-    def match(self, indent, subjects, types, cases, environment, expected):
-        """A definition by clauses, or an `elim`. A column that has variables alone needs no pattern."""
-        plain = [number for number in range(len(subjects)) if NUMERAL.sub("", subjects[number]).isidentifier() and all(self.is_variable(it[number]) for it, _, _ in cases)]
-        columns = [number for number in range(len(subjects)) if number not in plain]
-        if columns:
-            self.emit(indent, f"match {', '.join(subjects[it] for it in columns)}:")
-        is_open = True
-        for patterns, body, said in cases:
-            inner, guards, binds = dict(environment), [], []
-            for number in plain:
-                name, meaning = variable(patterns[number], types[number], self.module)
-                if name != "_":
-                    inner[name] = (subjects[number], meaning)
-            if not columns:
-                self.lines += comment(" ".join(said), indent) if said is not self.definition.comment and len(cases) > 1 else []
-                self.tail(indent, body, inner, expected)
-                return
-            with self.scope():
-                # a part may have the name of the whole, which has none in the original
-                self.taken -= {subjects[it] for it in columns if not any(is_numeric(patterns[it]) for patterns, _, _ in cases)}
-                shown = [self.pattern(patterns[it], inner, guards, binds, types[it], subjects[it]) for it in columns]
-                is_open = bool(guards) or any(not is_total(patterns[it], self) for it in columns)
-                head = f"case {', '.join(shown)}" + (f" if {' and '.join(guards)}" if guards else "") + ":"
-                self.lines += comment(" ".join(said), indent + 4)
-                mark = len(self.lines)
-                for name, value in binds:
-                    self.emit(indent + 8, f"{name} = {value}")
-                self.tail(indent + 8, body, inner, expected)
-                new = self.lines[mark:]
-                del self.lines[mark:]
-            if len(new) == 1 and indent + 4 + len(head) + len(new[0].strip()) + 1 <= WIDTH:
-                self.emit(indent + 4, f"{head} {new[0].strip()}")
-            else:
-                self.emit(indent + 4, head)
-                self.lines += new
-        if is_open:
-            self.emit(indent + 4, f"case _: raise NoCase({self.python.name(self.definition)!r})")
-
-    def is_variable(self, pattern):
-        if isinstance(pattern, Typed):
-            return True
-        return isinstance(pattern, Name) and not self.is_constant(pattern.text)
+    def truth_of_record(self, scope):
+        """The statements of a record together. One that says of two lists, which the record has, that they stand around an
+        item is of each way to split the whole."""
+        names = [it for it, _, _ in self.project.fields(self.entity)]
+        told, start, end = [it for name, it, _ in self.entity.members if name not in names], "", ""
+        for it in told if names else ():
+            match it:
+                case Operator("≡", whole, Operator("++", Name(before), Operator("∷", _, Name(after)))) if [before, after] == names:
+                    whole = self.value(whole, scope)
+                    before, scope = self.bind(Name(before), scope)
+                    after, scope = self.bind(Name(after), scope)
+                    start, end = "any(", f" for {before}, {after} in splits({whole}))"
+        if names and not start:
+            raise Refused("a statement that something is there, which is not computed")
+        holds = functools.reduce(functools.partial(chain, "and"), [self.truth(it, scope) for it in told])
+        return f"{start}{holds}{end}" if start else holds
 
     # ---- patterns
 
-    def pattern(self, tree, environment, guards, binds, meaning, subject=None):
-        if isinstance(tree, Typed):
-            meaning, tree = Meaning(tree.type, self.module), Name(tree.names[0])
-        if isinstance(tree, Number):
-            return str(tree.value)
-        if isinstance(tree, Pair):
-            left, right = self.sides(meaning)
-            return f"({self.pattern(tree.first, environment, guards, binds, left)}, {self.pattern(tree.second, environment, guards, binds, right)})"
-        if isinstance(tree, Operator) and tree.sign == "∷":
-            item = self.pattern(tree.left, environment, guards, binds, self.item(meaning))
-            rest = self.pattern(tree.right, environment, guards, binds, meaning)
-            if rest == "[]":
-                return f"[{item}]"
-            return f"[{item}, {rest[1:-1] if rest[0] == '[' else '*' + rest}]"
-        head, arguments = (tree.head, tree.arguments) if isinstance(tree, Apply) else (tree, [])
+    def is_variable(self, pattern):
+        return isinstance(pattern, Typed) or isinstance(pattern, Name) and not self.is_constant(pattern)
+
+    def is_total(self, pattern):
+        match pattern:
+            case Operator(",", left, right): return self.is_total(left) and self.is_total(right)
+        return self.is_variable(pattern)
+
+    def pattern(self, tree, scope, subject=None):
+        """A pattern. What it binds gets into the scope, what else it asks into the guards."""
+        head, arguments = spine(tree)
+        match tree:
+            case Literal(int(value)): return str(value)
+            case Operator(",", left, right): return f"({self.pattern(left, scope)}, {self.pattern(right, scope)})"
+            case Operator("∷", left, right):
+                item, rest = self.pattern(left, scope), self.pattern(right, scope)
+                return f"[{item}]" if rest == "[]" else f"[{item}, {rest[1:-1] if rest[0] == '[' else '*' + rest}]"
+            case Name("_"): return "_"
+            case Typed([name], _): return self.variable(Name(name, tree.module, tree.line), scope)
         if not isinstance(head, Name):
             raise Refused("a pattern of a kind that is not known")
-        if head.text in ("suc", "pos", "negsuc") or head.text == "zero":
-            return self.numeric(tree, environment, guards, binds, subject)
-        if not arguments and head.text == "_":
-            return "_"
-        found = self.project.find(self.module, head.text, set())
-        if isinstance(found, Library) and found.name in CONSTANTS or head.text in ("[]", "tt"):
-            return CONSTANTS[found.name if isinstance(found, Library) else head.text]
-        if isinstance(found, Library) and found.name in ("Some", "Ok", "Err"):
-            self.python.library.add(found.name)
-            return f"{found.name}({self.pattern(arguments[0], environment, guards, binds, self.item(meaning, found.name))})"
+        if head.text in NUMERIC:
+            return self.numeric(tree, scope, subject)
+        found = self.find(head)
+        word = found.name if isinstance(found, Library) else head.text
+        if word in CONSTANTS and (isinstance(found, Library) or word in ("[]", "tt")):
+            return CONSTANTS[word]
+        shown = ", ".join(self.pattern(it, scope) for it in arguments)
+        if isinstance(found, Library) and word in ("Some", "Ok", "Err"):
+            return f"{word}({shown})"
         if isinstance(found, Constructor):
-            name = f"{self.python.name(found.type)}.{py(found.name)}"
             if len(arguments) != len(found.arguments):
                 raise Refused(f"`{found.name}` has {len(found.arguments)} arguments, and its pattern {len(arguments)}")
-            types = next(it[1] for it in found.type.members if it[0] == found.name)
-            shown = [self.pattern(it, environment, guards, binds, Meaning(type, found.type.module)) for it, (_, type) in zip(arguments, types)]
-            return f"{name}({', '.join(shown)})" if shown else name
-        self.line = head.line or self.line
-        if arguments or not head.text[0].islower() or "." in head.text:
-            raise Refused(f"`{head.text}` is no constructor that is known")
-        name = self.fresh(head.text)
-        environment[head.text] = (name, meaning)
+            return f"{self.python.name(found.type)}.{py(found.name)}" + (f"({shown})" if shown else "")
+        return self.variable(tree, scope)
+
+    def variable(self, tree, scope):
+        self.at = spine(tree)[0]
+        if not isinstance(tree, Name) or not tree.text[0].islower() or "." in tree.text:
+            raise Refused(f"`{self.at.text}` is no constructor that is known")
+        name, inner = self.bind(tree, scope, hides=False)
+        scope |= inner
         return name
 
-    def numeric(self, tree, environment, guards, binds, subject):
-        """A number by zero and suc, or by pos and negsuc."""
-        if tree == Name("zero", getattr(tree, "line", 0)):
-            return "0"
-        value, constant = "", self.constant(tree)
-        if constant is not None:
-            return str(constant)
-        whole = subject if subject and subject.isidentifier() else self.fresh("number")
-        add, inner, is_negative = 0, tree, False
-        while isinstance(inner, Apply):
-            if inner.head.text == "suc":
-                add += 1
-            elif inner.head.text == "negsuc":
-                is_negative = True
-            inner = inner.arguments[0]
-        guards.append(f"{whole} < {-add}" if is_negative else f"{whole} > {add - 1}" if add else f"{whole} >= 0")
-        value = (f"-{whole} - {add + 1}" if is_negative else f"{whole} - {add}" if add else whole)
-        if isinstance(inner, Name) and inner.text != "_":
-            name = self.fresh(inner.text)
-            environment[inner.text] = (name, None)
-            binds.append((name, value))
+    def numeric(self, tree, scope, subject):
+        """A number by zero and suc, or by pos and negsuc: one that is known, or one of which a variable is a part."""
+        heads = []
+        while isinstance(tree, Apply):
+            heads.append(tree.head.text)
+            (tree,) = tree.arguments
+        add, is_negative = heads.count("suc"), "negsuc" in heads
+        if isinstance(tree, Literal) or tree == Name("zero"):
+            known = add + (tree.value if isinstance(tree, Literal) else 0)
+            return str(-known - 1 if is_negative else known)
+        whole = subject
+        if not (subject or "").isidentifier():
+            whole = self.fresh("number", scope)
+            scope["=number"] = whole
+        self.guards.append(f"{whole} < {-add}" if is_negative else f"{whole} > {add - 1}" if add else f"{whole} >= 0")
+        if tree != Name("_"):
+            name = self.variable(tree, scope)
+            self.binds.append((name, f"-{whole} - {add + 1}" if is_negative else f"{whole} - {add}" if add else whole))
         return "_" if whole == subject else whole
-
-    def constant(self, tree):
-        if isinstance(tree, Number):
-            return tree.value
-        if isinstance(tree, Name):
-            return 0 if tree.text == "zero" else None
-        below = self.constant(tree.arguments[0]) if tree.head.text in ("suc", "pos", "negsuc") else None
-        return None if below is None else {"suc": below + 1, "pos": below, "negsuc": -below - 1}[tree.head.text]
-
-    # ---- types
-
-    def item(self, meaning, constructor="Some"):
-        """The type of the items of a list, or of what an option or a result holds."""
-        meaning = meaning and self.project.opened(meaning)
-        if meaning and isinstance(meaning.tree, Apply) and isinstance(meaning.tree.head, Name) and meaning.tree.head.text in ("List", "Option", "Result"):
-            return Meaning(meaning.tree.arguments[1 if constructor == "Err" else 0], meaning.module)
-        return None
-
-    def sides(self, meaning):
-        meaning = meaning and self.project.opened(meaning)
-        if meaning and isinstance(meaning.tree, Operator) and meaning.tree.sign == "×":
-            return Meaning(meaning.tree.left, meaning.module), Meaning(meaning.tree.right, meaning.module)
-        return None, None
-
-    def infer(self, tree, environment):
-        """The type of an expression, if it is known."""
-        if isinstance(tree, Given):
-            return tree.meaning
-        if isinstance(tree, Name):
-            head, *fields = tree.text.split(".")
-            if head in environment:
-                return self.of_fields(environment[head][1], fields)
-            found = self.project.find(self.module, tree.text, set())
-            if isinstance(found, Definition):
-                return self.project.meaning_of(found)
-            return None
-        if isinstance(tree, Field):
-            return self.of_fields(self.infer(tree.of, environment), [tree.field])
-        if isinstance(tree, Apply):
-            meaning = self.infer(tree.head, environment)
-            if meaning:
-                types, result = self.project.arrows(meaning)
-                return result if len(types) == len(tree.arguments) else None
-        if isinstance(tree, Record) and tree.base:
-            return self.infer(tree.base, environment)
-        return None
-
-    def of_fields(self, meaning, fields):
-        for field in fields:
-            if meaning is None:
-                return None
-            if field in ("0", "1"):
-                meaning = self.sides(meaning)[int(field)]
-                continue
-            record = self.project.record_of(meaning)
-            member = next((it for it in record.members if it[0] == field), None) if record else None
-            meaning = Meaning(member[1], record.module) if member else None
-        return meaning
-
-    def count(self, meaning):
-        return len(self.project.arrows(meaning)[0]) if meaning else None
 
     # ---- expressions
 
-    def is_plain(self, tree):
-        """Whether an expression needs no statements of its own."""
-        return not any(isinstance(it, (Let, Elim)) or isinstance(it, Lambda) and not all(isinstance(x, (Name, Typed)) for x in it.parameters) for it in parts(tree))
+    def values(self, trees, scope, types=()):
+        return [self.value(it, scope, type) for it, type in itertools.zip_longest(trees, types[:len(trees)])]
 
-    def doc(self, tree, environment, expected):
-        if isinstance(expected, Returning) and not isinstance(tree, Lambda):
-            expected = None
-        if isinstance(tree, Given):
-            return Plain(tree.text)
-        if isinstance(tree, Number):
-            return Plain(str(tree.value) if tree.value < 65536 else f"{tree.value:_}")
-        if isinstance(tree, Text):
-            return Plain(repr(tree.value))
-        if isinstance(tree, Pair):
-            left, right = self.sides(expected)
-            return Bracket("(", [self.doc(tree.first, environment, left), self.doc(tree.second, environment, right)], ")")
-        if isinstance(tree, Field):
-            of = self.doc(tree.of, environment, None).within(TIGHT)
-            return Plain(of.flat + field_text(tree.field))
-        if isinstance(tree, (Name, Apply)):
-            head, arguments = tree, []
-            while isinstance(head, Apply):
-                head, arguments = head.head, head.arguments + arguments
-            return self.call(head, arguments, environment, expected)
-        if isinstance(tree, Operator):
-            return self.operator(tree, environment, expected)
-        if isinstance(tree, If):
-            return Choice(self.doc(tree.yes, environment, expected), self.doc(tree.test, environment, None), self.doc(tree.no, environment, expected))
-        if isinstance(tree, Record):
-            return self.record(tree, environment, expected)
-        if isinstance(tree, Lambda):
-            return self.function(tree, environment, expected)
-        if isinstance(tree, (Let, Elim)):
-            name = self.inner([], lambda indent: self.tail(indent, tree, environment, expected))
-            return Plain(f"{name}()")
+    def value(self, tree, scope, expected=None):
+        """An expression. The type that is expected tells one record from another."""
+        match tree:
+            case Given(text): return text
+            case Literal(value): return repr(value) if isinstance(value, str) or value < 65536 else f"{value:_}"
+            case Field(of, field): return within(self.value(of, scope), ATOM) + field_text(field)
+            case Name() | Apply(): return self.call(*spine(tree), scope)
+            case Operator("∷"): return self.listed(tree, scope, expected)
+            case Operator(): return self.operator(tree, scope)
+            case If(test, yes, no): return choice(*self.values([test, yes, no], scope))
+            case Record(None, _): return self.record(tree, scope, expected)
+            case Record(base, fields):
+                found = self.find(base)
+                record = self.project.record_of(found.type) if isinstance(found, Definition) else None
+                return f"replace({self.value(base, scope)}, {self.named(fields, scope, record)})"
+            case Lambda(parameters, body): return self.function(parameters, body, scope)
+            case Let() | Elim(): return self.inner([], lambda: self.tail(tree, scope)) + "()"
         raise Refused(f"{type(tree).__name__} in an expression")
 
     def inner(self, parameters, write):
         """An inner function, before the statement that needs it."""
-        indent, name = self.indent, self.fresh("inner")
-        self.emit(indent, f"def {name}({', '.join(parameters)}):")
-        write(indent + 4)
-        self.indent = indent
+        self.inners += 1
+        name = f"inner{self.inners if self.inners > 1 else ''}"
+        with self.block(f"def {name}({', '.join(parameters)})"):
+            write()
         return name
 
-    def operator(self, tree, environment, expected):
-        sign, self.line = tree.sign, tree.line or self.line
-        if sign == "∷":
-            return self.listed(tree, environment, expected)
-        own = self.project.find(self.module, f"◌{sign}◌", set())
-        if isinstance(own, Definition):
-            return self.call(Name(f"◌{sign}◌", tree.line), [tree.left, tree.right], environment, expected)
-        same = expected if sign in ("++",) else None
-        left, right = self.doc(tree.left, environment, same), self.doc(tree.right, environment, same)
-        if sign in SIGNS:
-            return Chain(SIGNS[sign], [left, right])
-        if sign in ("/", "%") and nonzero(tree.right):
-            return Chain({"/": "//", "%": "%"}[sign], [left, right])
-        if sign not in OPERATORS:
+    def operator(self, tree, scope):
+        sign, self.at = tree.sign, tree
+        own = Name(f"◌{sign}◌", tree.module, tree.line)
+        if isinstance(self.find(own), Definition):
+            return self.call(own, [tree.left, tree.right], scope)
+        values = self.values([tree.left, tree.right], scope)
+        if sign in DIVISIONS and is_above_zero(tree.right) or sign in SIGNS:
+            return chain((DIVISIONS | SIGNS)[sign], *values)
+        if sign not in CALLS:
             raise Refused(f"the operator {sign} is not known")
-        if OPERATORS[sign] == "bind":
-            left, right = right, left
-        return self.word({"bind": "option_and_then"}.get(OPERATORS[sign], OPERATORS[sign]), [left, right])
+        return CALLS[sign].format(*values)
 
-    def listed(self, tree, environment, expected):
-        items, item = [], self.item(expected)
+    def listed(self, tree, scope, expected):
+        items, (_, [item, *_]) = [], spine(self.project.opened(expected)) if isinstance(expected, Apply) else (None, [None])
         while isinstance(tree, Operator) and tree.sign == "∷":
-            items.append(self.doc(tree.left, environment, item))
+            items.append(self.value(tree.left, scope, item))
             tree = tree.right
-        rest = self.doc(tree, environment, expected)
-        if rest.flat != "[]":
-            items.append(Plain("*" + rest.within(5).flat))
-        return Bracket("[", items, "]")
+        rest = self.value(tree, scope)
+        return f"[{', '.join(items + ([] if rest == '[]' else ['*' + within(rest, 5)]))}]"
 
-    def word(self, name, arguments):
-        self.python.library.add(name)
-        return Bracket(f"{name}(", arguments, ")")
-
-    def call(self, head, arguments, environment, expected):
-        if not isinstance(head, Name):
-            meaning = self.infer(head, environment)
-            return self.applied(self.doc(head, environment, None), self.count(meaning), arguments, environment, self.types_of(meaning))
-        if isinstance(head, Name):
-            self.line = head.line or self.line
-            first, *fields = head.text.split(".")
-            if first in environment:
-                text, meaning = environment[first]
-                meaning = self.of_fields(meaning, fields)
-                return self.applied(Plain(text + "".join(map(field_text, fields))), self.count(meaning), arguments, environment, self.types_of(meaning))
-        found = self.project.find(self.module, head.text, set())
+    def call(self, head, arguments, scope):
+        first, *fields = head.text.split(".") if isinstance(head, Name) else [None]
+        if first is None or first in scope:
+            text = scope[first] if first in scope else self.value(head, scope)
+            types = self.taken_by(text) if not fields else []
+            return self.applied(text + "".join(map(field_text, fields)), types, arguments, scope)
+        self.at, found = head, self.find(head)
         if found is None and fields:
-            inner = Name(first, head.line)
-            for it in fields:
-                inner = Field(inner, it)
-            return self.call(inner, arguments, environment, expected)
-        if found is None and head.text not in CONSTANTS:
-            found = self.project.resolve(self.module, head.text, self.line)
-        if found is None or isinstance(found, Library):
-            return self.of_library(found.name if found else head.text, found, arguments, environment, expected)
-        name = self.python.name(found.type if isinstance(found, Constructor) else found)
-        if isinstance(found, Constructor):
-            types = [Meaning(it, found.type.module) for _, it in next(it[1] for it in found.type.members if it[0] == found.name)]
-            head = Plain(f"{name}.{py(found.name)}")
-            return head if not types and not arguments else self.applied(head, len(types), arguments, environment, types)
-        if isinstance(found, Type):
-            raise Refused(f"the type `{found.name}` stands where a value is expected")
-        self.rests.append(found)
+            place = head.module, head.line
+            inner = functools.reduce(lambda of, it: Field(of, it, *place), fields, Name(first, *place))
+            return self.call(inner, arguments, scope)
+        word = head.text if found is None else found.name if isinstance(found, Library) else None
+        if word in CONSTANTS and not arguments:
+            return CONSTANTS[word]
+        match found or self.project.meaning(head):
+            case Library(): return self.of_library(found, arguments, scope)
+            case Type(): raise Refused(f"the type `{found.name}` stands where a value is expected")
+            case Constructor(type_, name, taken):
+                return self.applied(f"{self.python.name(type_)}.{py(name)}", [it for _, it in taken], arguments, scope)
+        self.rests[found] = None
         types, _ = self.python.parameters(found)
-        if not types:
-            return self.applied(Plain(f"{name}()"), 0, arguments, environment, [])
-        return self.applied(Plain(name), len(types), arguments, environment, types)
+        return self.applied(self.python.name(found) + ("" if types else "()"), types, arguments, scope)
 
-    def types_of(self, meaning):
-        return self.project.arrows(meaning)[0] if meaning else []
+    def taken_by(self, name):
+        """The types of what a parameter takes, if it is a function."""
+        return self.project.arrows(self.types[name])[0] if self.types.get(name) else []
 
-    def applied(self, head, count, arguments, environment, types):
+    def applied(self, head, types, arguments, scope):
         """A call: a value that gets fewer arguments than it takes waits for the others."""
-        types = list(types) + [None] * len(arguments)
-        docs = [self.doc(it, environment, type) for it, type in zip(arguments, types)]
-        if not docs:
-            return head
-        head = head.within(TIGHT)
-        if count is None or count == len(docs):
-            return Bracket(head.flat + "(", docs, ")")
-        if len(docs) < count:
-            self.python.library.add("partial")
-            return Bracket("partial(", [head, *docs], ")")
-        if count == 0:
-            return Bracket(head.flat + "(", docs, ")")
-        return Bracket(Bracket(head.flat + "(", docs[:count], ")").flat + "(", docs[count:], ")")
+        values, head = self.values(arguments, scope, types), within(head, ATOM) if arguments else head
+        if 0 < len(values) < len(types):
+            return f"partial({', '.join([head, *values])})"
+        count = len(types) or len(values)
+        return head + "".join(f"({', '.join(some)})" for some in (values[:count], values[count:]) if some)
 
-    def of_library(self, name, found, arguments, environment, expected):
-        if name in CONSTANTS and not arguments:
-            self.python.library.add(CONSTANTS[name])
-            return Plain(CONSTANTS[name])
-        if name in INFIX and len(arguments) == 2:
-            return Chain(INFIX[name], [self.doc(it, environment, None) for it in arguments])
-        if name == "not" and len(arguments) == 1:
-            return Prefix("not ", self.doc(arguments[0], environment, None))
-        if name == "length" and len(arguments) == 1:
-            return Bracket("len(", [self.doc(arguments[0], environment, None)], ")")
-        if name in ("pos", "to_nat", "id") and len(arguments) == 1:
-            return self.doc(arguments[0], environment, None)
-        if name == "cond" and len(arguments) == 3:
-            return Choice(self.doc(arguments[1], environment, expected), self.doc(arguments[0], environment, None), self.doc(arguments[2], environment, expected))
-        if name == "match_ordering" and len(arguments) == 4:
-            order, *answers = self.doc(arguments[0], environment, None), *(self.doc(it, environment, expected) for it in arguments[1:])
-            after = Choice(answers[1], Chain("==", [order, Plain("0")]), answers[2])
-            return Choice(answers[0], Chain("<", [order, Plain("0")]), after)
-        if name == "negsuc" and len(arguments) == 1 and isinstance(arguments[0], Number):
-            return Plain(str(-arguments[0].value - 1))
-        if name == "fst" and len(arguments) == 1 or name == "snd" and len(arguments) == 1:
-            return self.doc(Field(arguments[0], "0" if name == "fst" else "1"), environment, None)
-        if name in EACH and len(arguments) == 2 and found and "FinMap" not in found.path:
-            return self.each(name, arguments, environment, expected)
-        if name == "filter" and len(arguments) == 2:
-            return self.each(name, arguments, environment, expected)
-        word = self.python.words.name(found) if found else None
-        if name[0] == "◌" and name[1:-1] in SIGNS:
-            word = {"==": "nat_eq", "+": "plus", "&&": "both", "++": "joined"}.get(name[1:-1])
+    def of_library(self, found, arguments, scope):
+        name = found.name
+        if write := INLINE.get((name, len(arguments))):
+            return write(*self.values(arguments, scope))
+        if name == "negsuc" and isinstance(arguments[0], Literal):
+            return str(-arguments[0].value - 1)
+        if name in EACH and len(arguments) == 2 and "FinMap" not in found.path:
+            return self.each(name, *arguments, scope)
+        word = word_of(found)
         if word is None:
-            raise Refused(f"the word `{name}` of the standard library ({found.path if found else ''}) is not among those of words.py")
-        self.python.library.add(word)
-        inner = [None] * len(arguments)
-        if name in ("Some", "Ok", "Err"):
-            inner = [self.item(expected, name)]
-        elif name in ("option_map", "option_and_then") and expected:
-            inner = [Returning(self.item(expected) if name == "option_map" else expected), None]
-        elif name in ("unwrap_or", "slice_index_or", "cond"):
-            inner = [None] * (len(arguments) - 1) + [expected]
-        return self.applied(Plain(word), self.python.words.counts[word], arguments, environment, inner)
+            raise Refused(f"the word `{name}` of the standard library ({found.path}) is not among those of words.py")
+        return self.applied(word, [None] * len(inspect.signature(getattr(words, word)).parameters), arguments, scope)
 
-    def each(self, name, arguments, environment, expected):
+    def each(self, name, function, items, scope):
         """What `map` and its like do, as a comprehension."""
-        function, items = arguments[0], self.doc(arguments[1], environment, None)
-        item = self.item(self.infer(arguments[1], environment))
-        result = self.item(expected) if name == "map" else None
-        with self.scope():
-            if isinstance(function, Lambda) and len(function.parameters) == 1 and isinstance(function.parameters[0], (Name, Typed)) and self.is_plain(function.body):
-                source, meaning = variable(function.parameters[0], item, self.module)
-                shown = self.again(source, environment)
-                value = self.doc(function.body, {**environment, source: (shown, meaning)}, result)
-            else:
-                shown = self.fresh("each")
+        items = within(self.value(items, scope), 1)
+        match function:
+            case Lambda([Name() | Typed() as parameter], body) if is_plain(body):
+                shown, inner = self.bind(parameter, scope)
+                value = self.value(body, inner)
+            case _:
+                shown = self.fresh("each", scope)
+                inner = {**scope, "=each": shown}
                 if isinstance(function, Lambda):
-                    value = Bracket(f"{self.doc(function, environment, None).flat}(", [Plain(shown)], ")")
+                    value = f"{self.value(function, scope)}({shown})"
                 else:
-                    value = self.doc(applied(function, [Given(shown, item)]), environment, result)
-        if name == "filter":
-            return Bracket("[", [Each(Plain(shown), shown, items, value)], "]")
-        start, end = EACH[name]
-        return Bracket(start, [Each(value, shown, items)], end)
+                    value = self.value(applied(function, [Given(shown)]), inner)
+        return EACH[name].format(within(value, 1) if name == "filter" else value, shown, items)
 
-    def function(self, tree, environment, expected):
-        while isinstance(tree.body, Lambda):
-            tree = Lambda(tree.parameters + tree.body.parameters, tree.body.body)
-        types, result = ([], expected.result) if isinstance(expected, Returning) else self.project.arrows(expected) if expected else ([], None)
-        types = list(types) + [None] * len(tree.parameters)
-        if len(types) - len(tree.parameters) != len(tree.parameters):
-            result = result if isinstance(expected, Returning) else None
-        inner, names = dict(environment), []
-        if all(isinstance(it, (Name, Typed)) for it in tree.parameters):
-            with self.scope():
-                for it, type in zip(tree.parameters, types):
-                    source, meaning = variable(it, type, self.module)
-                    names.append(self.again(source, environment))
-                    inner[source] = (names[-1], meaning)
-                if self.is_plain(tree.body):
-                    return Function(names, self.doc(tree.body, inner, result))
-            self.taken |= set(names)
-            return Plain(self.inner(names, lambda indent: self.tail(indent, tree.body, inner, result)))
-        names = [self.fresh(it.text) if isinstance(it, Name) else self.fresh("x") for it in tree.parameters]
-        return Plain(self.inner(names, lambda indent: self.match(indent, names, types, [(tree.parameters, tree.body, [])], environment, result)))
+    def function(self, parameters, body, scope):
+        names, inner = [], scope
+        for it in parameters:
+            name, inner = self.bind(it if isinstance(it, (Name, Typed)) else Name("_"), inner)
+            names.append(name)
+        if not are_names(parameters):
+            return self.inner(names, lambda: self.match(names, [(parameters, body, [])], scope))
+        if is_plain(body):
+            return Code("lambda", f"lambda{' ' if names else ''}{', '.join(names)}: {self.value(body, inner)}")
+        return self.inner(names, lambda: self.tail(body, inner))
 
-    def record(self, tree, environment, expected):
-        self.line = tree.line
-        if tree.base:
-            base = self.infer(tree.base, environment) or expected
-            record = self.project.record_of(base) if base else None
-            types = {it[0]: Meaning(it[1], record.module) for it in record.members} if record else {}
-            self.python.library.add("replace")
-            fields = [(name, self.doc(value, environment, types.get(name))) for name, value in tree.fields]
-            return Bracket("replace(", [self.doc(tree.base, environment, None), *(Keyword(name, it) for name, it in fields)], ")")
-        record = self.type_of_record(tree, expected)
-        kept = [it[0] for it in self.project.fields(record)]
-        types = {it[0]: Meaning(it[1], record.module) for it in record.members}
-        return Bracket(f"{self.python.name(record)}(", [Keyword(name, self.doc(value, environment, types[name])) for name, value in tree.fields if name in kept], ")")
+    def named(self, fields, scope, record):
+        types = {it: type for it, type, _ in record.members} if record else {}
+        return ", ".join(f"{py(it)}={self.value(value, scope, types.get(it))}" for it, value in fields)
 
-    def type_of_record(self, tree, expected):
-        names = {it for it, _ in tree.fields}
-        if expected and not isinstance(expected, Returning):
-            record = self.project.record_of(expected)
-            if record and {it[0] for it in record.members} == names:
-                return record
-            if record:
-                raise Refused(f"a record with the fields {', '.join(sorted(names))} stands where `{record.name}` is expected")
-        known = {}
-        for path, name in self.module.imports.values():
-            found = self.project.at(path, name, set()) if not path.startswith(("std.", "core.")) else None
-            if isinstance(found, Type):
-                known[identity(found)] = found
-        known.update({identity(it): it for it in self.module.types.values()})
-        for pool in (known, self.python.types):
-            found = [it for it in pool.values() if it.kind == "record" and {x[0] for x in it.members} == names]
-            if len(found) == 1:
-                return found[0]
-            if len(found) > 1:
-                raise Refused(f"a record with the fields {', '.join(sorted(names))} may be {' or '.join(it.name for it in found)}")
-        raise Refused(f"no record with the fields {', '.join(sorted(names))} is known here")
-
-
-class Returning:
-    """The type of a function of which only the result is known."""
-
-    def __init__(self, result):
-        self.result = result
-
-
-class Given:
-    """What stands for itself in Python."""
-    __slots__ = ("text", "meaning")
-
-    def __init__(self, text, meaning=None):
-        self.text, self.meaning = text, meaning
-
-
-class Keyword(Plain):
-    def __init__(self, name, doc):
-        super().__init__(f"{py(name)}={doc.flat}")
-        self.name, self.doc = py(name), doc
-
-    def broken(self, indent):
-        lines = lay(self.doc, indent, 1, len(self.name) + 1)
-        return [f"{self.name}={lines[0]}", *lines[1:]]
-
-
-NUMERAL = re.compile(r"\d+|0x[0-9a-fA-F]+")
-TIGHT = 20
+    def record(self, tree, scope, expected):
+        """A record: it is told by what is expected, by the result of the definition, or by what its file knows."""
+        self.at, names = tree, {it for it, _ in tree.fields}
+        known = [*(self.project.at(*it) for it in tree.module.imports.values()), *tree.module.types.values()]
+        pools = [self.project.record_of(expected)], [self.project.record_of(self.result)], known
+        fits = ([it for it in pool if isinstance(it, Type) and {x[0] for x in it.members} == names] for pool in pools)
+        found, said = [*dict.fromkeys(next(filter(None, fits), []))], ", ".join(sorted(names))
+        if len(found) != 1:
+            names = " or ".join(it.name for it in found) or "none that is known here"
+            raise Refused(f"a record with the fields {said} may be {names}")
+        kept = {it for it, _, _ in self.project.fields(found[0])}
+        return f"{self.python.name(found[0])}({self.named([it for it in tree.fields if it[0] in kept], scope, found[0])})"
 
 
 def field_text(field):
     return f"[{field}]" if field in ("0", "1") else f".{py(field)}"
 
 
-def variable(pattern, meaning, module):
-    if isinstance(pattern, Typed):
-        return pattern.names[0], Meaning(pattern.type, module)
-    return pattern.text, meaning
+def source_of(pattern):
+    """The name of a variable in the original."""
+    return pattern.names[0] if isinstance(pattern, Typed) else pattern.text
 
 
-def named_by(row):
-    """The names that a parameter of a record has, as patterns."""
-    return [Name(it) for it in row.names] if isinstance(row, Typed) else []
+def is_plain(tree):
+    """Whether an expression needs no statements of its own."""
+    return not any(isinstance(it, (Let, Elim)) or isinstance(it, Lambda) and not are_names(it.parameters) for it in parts(tree))
 
 
-def split_by(names, statements):
-    """The statements of a record together. One that says of two lists that they stand around an item is of each way to split the whole."""
-    if not names:
-        return conjunction(statements)
-    for it in statements:
-        row = it.right if isinstance(it, Operator) and it.sign == "≡" else None
-        if isinstance(row, Operator) and row.sign == "++" and isinstance(row.right, Operator) and row.right.sign == "∷":
-            if [row.left.text if isinstance(row.left, Name) else "", row.right.right.text if isinstance(row.right.right, Name) else ""] == names:
-                return Apply(Name("SPLIT"), [it.left, Name(names[0]), Name(names[1]), conjunction(statements)])
-    raise Refused("a statement that something is there, which is not computed")
-
-
-def conjunction(statements):
-    found = statements[-1]
-    for it in reversed(statements[:-1]):
-        found = Operator("×", it, found)
-    return found
+def are_names(patterns):
+    return all(isinstance(it, (Name, Typed)) for it in patterns)
 
 
 def is_numeric(pattern):
-    return any(isinstance(it, Name) and it.text in ("suc", "pos", "negsuc") for it in parts(pattern))
+    return any(isinstance(it, Name) and it.text in NUMERIC[1:] for it in parts(pattern))
 
 
-def applied(tree, arguments):
-    return Apply(tree.head, tree.arguments + arguments) if isinstance(tree, Apply) else Apply(tree, arguments)
-
-
-def nonzero(tree):
-    return isinstance(tree, Number) and tree.value > 0 or isinstance(tree, Operator) and tree.sign == "^" and nonzero(tree.left)
-
-
-def is_total(pattern, function):
-    return function.is_variable(pattern) or isinstance(pattern, Pair) and is_total(pattern.first, function) and is_total(pattern.second, function)
-
-
-def replace_calls(tree, call, value=None):
-    if tree is call:
-        return value
-    if isinstance(tree, list):
-        return [replace_calls(it, call, value) for it in tree]
-    if isinstance(tree, tuple):
-        return tuple(replace_calls(it, call, value) for it in tree)
-    if hasattr(tree, "__dataclass_fields__"):
-        return type(tree)(*[replace_calls(getattr(tree, it), call, value) for it in tree.__slots__])
-    return tree
-
-
-def substituted(tree, values):
-    """A body with its arguments in it; a part of a definition that gets its last argument is whole again."""
-    if isinstance(tree, Apply) and isinstance(tree.head, Name) and tree.head.text in values:
-        arguments = [substituted(it, values) for it in tree.arguments]
-        return applied(values[tree.head.text], arguments)
-    if isinstance(tree, Name):
-        head, *fields = tree.text.split(".")
-        if head in values:
-            found = values[head]
-            for it in fields:
-                found = Field(found, it)
-            return found
-        return tree
-    if isinstance(tree, list):
-        return [substituted(it, values) for it in tree]
-    if isinstance(tree, tuple):
-        return tuple(substituted(it, values) for it in tree)
-    if hasattr(tree, "__dataclass_fields__"):
-        return type(tree)(*[it if isinstance(it, (str, int)) or it is None else substituted(it, values) for it in (getattr(tree, x) for x in tree.__slots__)])
-    return tree
+def is_above_zero(tree):
+    match tree:
+        case Literal(value): return value > 0
+        case Operator("^", left, _): return is_above_zero(left)
+    return False

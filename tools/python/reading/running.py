@@ -13,6 +13,7 @@ import textwrap
 import threading
 import time
 import tomllib
+from functools import reduce
 
 LIMIT = 4_194_304
 
@@ -21,34 +22,23 @@ class _Unread(Exception):
     """A file that cannot be read."""
 
 
-def _name_of(value):
-    return type(value).__name__
-
-
 def _data_of(value):
     """The data of a TOML value."""
-    if isinstance(value, bool):
-        return Data.boolean(value)
-    if isinstance(value, int):
-        return Data.integer(value)
-    if isinstance(value, float):
-        return Data.float_(value)
-    if isinstance(value, str):
-        return Data.string(codes(value))
-    if isinstance(value, list):
-        items = Items.no_items
-        for it in reversed(value):
-            items = Items.item(_data_of(it), items)
-        return Data.array(items)
-    return Data.table(_members_of(value)) if isinstance(value, dict) else Data.datetime(value)
+    match value:
+        case bool(): return Data.boolean(value)
+        case int(): return Data.integer(value)
+        case float(): return Data.float_(value)
+        case str(): return Data.string(codes(value))
+        case list():
+            return Data.array(reduce(lambda rest, it: Items.item(_data_of(it), rest), reversed(value), Items.no_items))
+        case dict(): return Data.table(_members_of(value))
+    return Data.datetime(value)
 
 
 def _members_of(table):
     """The members of a TOML table, in the order of their keys."""
-    members = Members.no_members
-    for key in sorted(table, key=str.encode, reverse=True):
-        members = Members.member(codes(key), _data_of(table[key]), members)
-    return members
+    keys = sorted(table, key=str.encode, reverse=True)
+    return reduce(lambda members, it: Members.member(codes(it), _data_of(table[it]), members), keys, Members.no_members)
 
 
 def _float_of(digits):
@@ -80,11 +70,11 @@ def _outcome(machine, events):
     """The status of a run, what is printed, the line of a refusal, and all that came of it."""
     file = MACHINE_OF(machine)
     if isinstance(file, Err):
-        return 1, b"", f"execsim: machine: {_name_of(file.fault.fault)}", None
+        return 1, b"", f"execsim: machine: {type(file.fault.fault).__name__}", None
     script = EVENTS_OF(list(events))
     if isinstance(script, Err):
         fault = script.fault
-        said = [_name_of(fault), *(str(getattr(fault, it)) for it in getattr(fault, "__slots__", ()))]
+        said = [type(fault).__name__, *(str(getattr(fault, it)) for it in getattr(fault, "__slots__", ()))]
         return 1, b"", f"execsim: events: {' '.join(said)}", None
     done = RUN(file.value, script.value)
     return 3 if done.state.stopped else 0, bytes(PRINTED(done.lines)), "", (file.value, script.value, done)
@@ -95,8 +85,8 @@ def _read(path):
         with open(path, "rb") as file:
             text = file.read(LIMIT + 1)
     except OSError:
-        raise _Unread(f"execsim: cannot read {path}") from None
-    if len(text) > LIMIT:
+        text = None
+    if text is None or len(text) > LIMIT:
         raise _Unread(f"execsim: cannot read {path}")
     return text
 
@@ -105,26 +95,27 @@ def _watch(name, before):
     """Has a function called before each call of a definition."""
     inner = globals()[name]
 
-    def watched(*arguments):
+    def _watched(*arguments):
         before()
         return inner(*arguments)
 
-    globals()[name] = watched
+    globals()[name] = _watched
 
 
 def _show_progress(name, what):
     """Says on a terminal, once a second, how often a definition was used."""
     if not sys.stderr.isatty():
         return
-    state = {"count": 0, "next": time.monotonic() + 2}
+    count, last = 0, time.monotonic() + 1
 
-    def before():
-        state["count"] += 1
-        if time.monotonic() >= state["next"]:
-            state["next"] += 1
-            print(f"\r{state['count']} {what}", end="", file=sys.stderr, flush=True)
+    def _before():
+        nonlocal count, last
+        count += 1
+        if time.monotonic() >= last + 1:
+            last += 1
+            print(f"\r{count} {what}", end="", file=sys.stderr, flush=True)
 
-    _watch(name, before)
+    _watch(name, _before)
 
 
 def _run_files(machine, events):
@@ -174,8 +165,8 @@ def _difference(got, wanted):
 
 
 def _check(project, first=False, seconds=0, part="0/1", only=""):
-    """Runs all that is stored, or each Nth of it, or the runs of some names. Laws are asked of each too, unless the first
-    is sought that differs."""
+    """Runs all that is stored, or each Nth of it, or the runs of some names. Laws are asked of each too, unless the
+    first is sought that differs."""
     counts, wrong, begun = [0, 0], 0, time.monotonic()
     if not first:
         _check_lines()
@@ -188,7 +179,7 @@ def _check(project, first=False, seconds=0, part="0/1", only=""):
             *got, whole = _outcome(machine, events)
             told = _difference(got, (status, trace, said)) or (_broken_law(*whole) if whole and not first else "")
         except Exception as why:  # a mutant may break anything
-            told = f"{_name_of(why)}: {why}"
+            told = f"{type(why).__name__}: {why}"
         counts[name.startswith("recording")] += 1
         if told:
             wrong += 1
@@ -210,7 +201,7 @@ def _check_lines():
     name = LAWS["says"].__name__
     says, asked = LAWS["says"], set()
 
-    def checked(line):
+    def _checked(line):
         found = says(line)
         if found is not None and tuple(line) not in asked:
             asked.add(tuple(line))
@@ -218,7 +209,7 @@ def _check_lines():
                 raise NoCase(f"{bytes(line)} does not say {found.value}")
         return found
 
-    globals()[name] = checked
+    globals()[name] = _checked
 
 
 def _broken_law(file, script, done):
@@ -299,39 +290,36 @@ def _why(number, machine, events):
         return status if said else 2
     made = []
 
-    def definitions_at_work():
+    def _at_work():
         frame, names = sys._getframe(2), []
         while frame:
-            function = globals().get(frame.f_code.co_name)
-            if getattr(getattr(function, "__wrapped__", function), "__code__", None) is frame.f_code:
-                names.append(frame.f_code.co_name)
+            names += [frame.f_code.co_name] if frame.f_globals is globals() and frame.f_code.co_name in OWN else []
             frame = frame.f_back
-        return [it for it in names if it in OWN]
+        return names[::-1]
 
     # a line is made as its class is called; of one that is always the same value, as an outcome has it alone
-    def watched_class(kind, line_of):
+    def watch_class(kind, line_of):
         begin = kind.__init__
 
-        def watched(whole, *arguments, **named):
+        def _watched(whole, *arguments, **named):
             begin(whole, *arguments, **named)
-            line = line_of(whole)
-            if line is not None:
-                made.append((line, definitions_at_work()))
+            if (line := line_of(whole)) is not None:
+                made.append((line, _at_work()))
 
-        kind.__init__ = watched
+        kind.__init__ = _watched
 
     def lone_value(outcome):
         return outcome.lines[0] if len(outcome.lines) == 1 and not type(outcome.lines[0]).__slots__ else None
 
     for kind in {type(it) for it in done.lines if type(it).__slots__}:
-        watched_class(kind, lambda line: line)
-    watched_class(type(done), lone_value)
+        watch_class(kind, lambda line: line)
+    watch_class(type(done), lone_value)
     lines = RUN(MACHINE_OF(machine).value, EVENTS_OF(list(events)).value).lines
     line = lines[number - 1]
     print(bytes(PRINTED([line])).decode(errors="replace"), end="")
     before = sum(it is line for it in lines[:number - 1])
     names = ([names for it, names in made if it is line] + [[]] * number)[before if not type(line).__slots__ else 0]
-    for it in reversed(names):
+    for it in names:
         said = " ".join(part[2:] for part in _text_of(it) if part.startswith("# "))
         said = re.sub(r" *[^ ]+ : [^.]*\[[^\[]*$", "", said)
         print(f"  {it:24} {textwrap.shorten(said, 120)}")
@@ -370,7 +358,7 @@ def _begin():
     """Runs in a thread whose calls may go deep. Ctrl-C ends it."""
     ended = [4]
 
-    def inside():
+    def _inside():
         try:
             ended[0] = _main(sys.argv[1:])
         except _Unread as why:
@@ -382,7 +370,7 @@ def _begin():
 
     sys.setrecursionlimit(10_000_000)
     threading.stack_size(1 << 29)
-    thread = threading.Thread(target=inside, daemon=True)
+    thread = threading.Thread(target=_inside, daemon=True)
     thread.start()
     try:
         while thread.is_alive():

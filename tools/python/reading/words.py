@@ -1,3 +1,9 @@
+from dataclasses import make_dataclass
+from functools import cache, partial, wraps
+
+IMPORTED = set(globals())
+
+
 # What the records and the kinds of data of the definitions are in Python.
 class NoCase(Exception):
     """No case of a definition is met: this is a mistake of the translator."""
@@ -23,9 +29,7 @@ def replace(whole, **new):
     return kind(*[new[it] if it in new else getattr(whole, it) for it in kind.__slots__])
 
 
-def once(function):
-    """A definition without arguments: its value is made once."""
-    return cache(function)
+once = cache  # a definition without arguments: its value is made once
 
 
 def kept(function):
@@ -63,37 +67,19 @@ def quotient(a, b): return a // b if b else 0  # to divide by 0 gives 0
 def remainder(a, b): return a % b if b else a  # and leaves the number
 def max_(a, b): return a if a > b else b  # the greater of two
 def min_(a, b): return a if a < b else b  # the lesser of two
-def not_(a): return not a
 def nat_eq(a, b): return a == b
-def nat_lt(a, b): return a < b
-def nat_le(a, b): return a <= b
-def int_eq(a, b): return a == b
-def int_le(a, b): return a <= b
-def plus(a, b): return a + b
-def both(a, b): return a and b
-def bit_and(a, b): return a & b
-def bit_or(a, b): return a | b
-def bit_xor(a, b): return a ^ b
 def bit_not(width, a): return ((1 << width) - 1) ^ a  # of a number of that many bits
 def cast_signed(width, n): return n - (1 << width) if n >> (width - 1) else n  # a word that is read as one with a sign
 def cast_unsigned(width, n): return n % (1 << width)  # and back
 def unsigned_abs(n): return abs(n)  # the number without its sign
 def neg(n): return -n  # the number with the other sign
 def suc(n): return n + 1  # the number after
-def negsuc(n): return -1 - n  # the integer below 0 of that number
-def cond(test, yes, no): return yes if test else no  # the first if the test is true, else the second
-def length(items): return len(items)
 def take(n, items): return items[:n]  # the first n items
 def drop(n, items): return items[n:]  # the items after these
 def find(test, items): return next((Some(it) for it in items if test(it)), None)  # the first item that meets a test
 def flat_map(f, items): return [it for each in items for it in f(each)]  # what f gives of each item, in a row
 def filter_map(f, items): return [it.value for it in map(f, items) if it is not None]  # what f gives, if it does
-def count_by(test, items): return sum(1 for it in items if test(it))  # how many items meet a test
-def list_any(test, items): return any(test(it) for it in items)  # whether one does
-def list_all(test, items): return all(test(it) for it in items)  # whether all do
 def replicate(n, item): return [item] * n  # an item n times
-def reverse(items): return items[::-1]
-def zip_(a, b): return list(zip(a, b))  # pairs of the items at one place
 def range_with_len(start, n): return list(range(start, start + n))  # n numbers from that one on
 def slice_get(items, place): return Some(items[place]) if place < len(items) else None  # the item at a place from 0
 def slice_index(items, place): return items[place] if place < len(items) else 0  # that number, or 0
@@ -104,7 +90,6 @@ def position_from(test, start, items): return next((Some(start + n) for n, it in
 def before_first(test, items): return items[:position_or_len(test, items)]  # the items before one that meets a test
 def pointwise(same, a, b): return len(a) == len(b) and all(same(x, y) for x, y in zip(a, b))  # whether two are the same
 def bytes_eq(a, b): return a == b
-def last(items): return Some(items[-1]) if items else None  # the last item
 def splits(items): return [(items[:n], items[n + 1:]) for n in range(len(items))]  # what is before and after each item
 def pairs(items): return [(one, two) for n, one in enumerate(items) for two in items[n + 1:]]  # each with each after it
 def option_map(f, option): return None if option is None else Some(f(option.value))
@@ -118,8 +103,6 @@ def is_some(option): return option is not None
 def is_none(option): return option is None
 def nat_cmp(a, b): return (a > b) - (a < b)  # an order is -1, 0 or 1
 def slice_cmp(order, a, b): return (a > b) - (a < b)  # that of the first items that differ; a beginning comes first
-def is_eq(order): return order == 0
-def is_lt(order): return order < 0
 def finmap_find(order, key, pairs): return next((Some(value) for it, value in pairs if it == key), None)  # in a map
 def finmap_where_key(order, test, pairs): return [it for it in pairs if test(it[0])]  # a part of a map
 def digits_value(radix, digits): return int(bytes(digits).decode(), radix)  # the number that digits are

@@ -59,7 +59,7 @@ impl<S: ListSpace> Objects<S> {
     /// Source: autodoc exec.library/RemLibrary.
     pub fn remove_library(&mut self, i: LibId, base: u32)
         requires { base_at i self.old.table.libs ≡ Some base }
-        ensures { shown_memory self.new ≡ model.removed base (shown_memory self.old) }
+        ensures { shown_memory self.new ≡ model.after_expunge base (shown_memory self.old) }
     {
         let _ = base;
         self.table.remove_library(i);
@@ -130,7 +130,7 @@ impl<S: ListSpace> Heap<S> {
     /// rule.
     pub fn remove_library(&mut self, base: u32) -> Result<(), Refusal>
         ensures alert { alert_of result ≡ model.library_alert base self.old.heap }
-        ensures next { OnOk result (self.new ≡ model.removed base self.old) }
+        ensures next { OnOk result (self.new ≡ model.after_expunge base self.old) }
         ensures kept { OnErr result (self.new ≡ self.old) }
     {
         let i = self.objects.library_at(base)?;

@@ -2,7 +2,7 @@
 ghost use Rattle.std.specs.Prelude.{◌≡◌, ◌<◌, ◌≤◌, not, [], None, Some, IfSome, IsSome, IsTrue, ◌≢◌, IfOk, option_map, OnErr, OnOk, find};
 ghost use Rattle.execlist.specs.{Order.first, Lists.home, Pool.slot};
 ghost use Rattle.msgport.specs.Ports.{has_messages, is_message, is_port, is_public, message_at, messages_of, new_message, port_at, made_private, made_public, nt_freemsg, nt_message, nt_replymsg, posted, taken_off, typed, with_message, with_port};
-ghost use Rattle.msgport.specs.Port.{acting, new_port};
+ghost use Rattle.msgport.specs.Port.{arrival_action, new_port};
 ghost use Rattle.execmodel.specs.{State.Message, State.MsgPort, State.on_heap, Memory.freed, Memory.placed, GivingWay.after_asking_for_object, Objects.place_for_object, Lists.or_none};
 ghost use Rattle.execheap.specs.{Numbered.message_places, Numbered.places, Numbered.shown_memory, Numbered.IsKnown, Numbered.address_in, Numbered.shown_heap, Changes.on_ports, Refusals.alert_of, Listing.listed, Listing.replied_by, Listing.replying};
 ghost use Rattle.std.specs.Option.{ForSome};
@@ -118,7 +118,7 @@ impl<S: ListSpace> Objects<S> {
         requires port { IsTrue (is_port p self.old.ports) }
         requires message { IsSome (slot (places variant.Message self.old) m) }
         requires loose { home self.old.ports.places m ≡ None }
-        ensures answer { result ≡ acting (port_at p self.old.ports) }
+        ensures answer { result ≡ arrival_action (port_at p self.old.ports) }
         ensures next { self.new ≡ on_ports (posted nt_message p m) self.old }
     {
         self.table.facts();
@@ -132,7 +132,7 @@ impl<S: ListSpace> Objects<S> {
         requires port { IsTrue (is_port p self.old.ports) }
         requires message { IsSome (slot (places variant.Message self.old) m) }
         requires loose { home self.old.ports.places m ≡ None }
-        ensures answer { result ≡ acting (port_at p self.old.ports) }
+        ensures answer { result ≡ arrival_action (port_at p self.old.ports) }
         ensures next { self.new ≡ on_ports (posted nt_replymsg p m) self.old }
     {
         self.table.facts();
@@ -505,7 +505,7 @@ impl<S: ListSpace> Heap<S> {
     /// Gives a message another word. It is refused if no message begins at the address (Handle). Project rule.
     pub fn set_word(&mut self, message: u32, word: u32) -> Result<(), Refusal>
         ensures alert { alert_of result ≡ model.message_alert message self.old.heap }
-        ensures next { OnOk result (self.new ≡ on_heap (model.with_word message word) self.old) }
+        ensures next { OnOk result (self.new ≡ on_heap (model.with_message_word message word) self.old) }
         ensures kept { OnErr result (self.new ≡ self.old) }
     {
         let m = self.objects.message_at(message)?;
@@ -530,7 +530,7 @@ impl<S: ListSpace> Heap<S> {
     /// Autodoc exec.library/PutMsg; the refusals: project rule.
     pub fn put_message(&mut self, port: u32, message: u32) -> Result<Action, Refusal>
         ensures alert { alert_of result ≡ model.put_alert port message self.old.heap }
-        ensures answer { IfOk result (λ action. action ≡ acting (model.port_of port self.old.heap)) }
+        ensures answer { IfOk result (λ action. action ≡ arrival_action (model.port_of port self.old.heap)) }
         ensures next { OnOk result (self.new ≡ on_heap (model.posted nt_message port message) self.old) }
         ensures kept { OnErr result (self.new ≡ self.old) }
     {

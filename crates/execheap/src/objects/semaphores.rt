@@ -1,7 +1,7 @@
 //! Semaphores: by number, with the blocks in which they live; how they are found by address; and the calls by address.
 ghost use Rattle.std.specs.Prelude.{◌≡◌, ◌<◌, not, [], None, Some, IsTrue, IfOk, OnErr, OnOk};
 ghost use Rattle.execlist.specs.{Pool.slot, Answers.fault_or, Answers.kept_or};
-ghost use Rattle.sigsem.specs.Semaphores.{attempted, deep_fault, dropped, free_sem, heir, is_open, is_owned, is_sem, let_go, obtained, outcome_for, release_fault, sem_at, waits_at};
+ghost use Rattle.sigsem.specs.Semaphores.{attempted, deep_fault, dropped, free_sem, heir, is_free_for, is_owned, is_sem, let_go, obtained, outcome_for, release_fault, sem_at, waits_at};
 ghost use Rattle.execmodel.specs.{State.Semaphore, State.on_heap, Memory.freed, Memory.placed, GivingWay.after_asking_for_object, Objects.place_for_object, Agreement.WaitsForNone};
 ghost use Rattle.execheap.specs.{Numbered.places, Numbered.shown_memory, Numbered.IsKnown, Numbered.shown_heap, Changes.on_semaphores, Refusals.alert_of};
 ghost use Rattle.execheap.specs.declared.tag.Kind.TheVariants as variant;
@@ -56,7 +56,7 @@ impl<S: ListSpace> Objects<S> {
     /// Source: autodoc exec.library/AttemptSemaphore.
     pub fn attempt(&mut self, n: SemId, t: TaskId) -> Result<bool, SemFault>
         requires { IsTrue (is_sem n self.old.sems) }
-        ensures answer { result ≡ fault_or (deep_fault n t self.old.sems) (is_open t (sem_at n self.old.sems)) }
+        ensures answer { result ≡ fault_or (deep_fault n t self.old.sems) (is_free_for t (sem_at n self.old.sems)) }
         ensures next { self.new ≡ on_semaphores (λ m. kept_or (deep_fault n t m) m (attempted n t m)) self.old }
     {
         self.sems.attempt(n, t)
@@ -168,7 +168,7 @@ impl<S: ListSpace> Heap<S> {
     /// Autodoc exec.library/AttemptSemaphore; the refusals: project rule.
     pub fn attempt_semaphore(&mut self, task: TaskId, semaphore: u32) -> Result<bool, Refusal>
         ensures alert { alert_of result ≡ model.obtain_alert task semaphore self.old.heap }
-        ensures answer { IfOk result (λ has. has ≡ is_open task (model.sem_of semaphore self.old.heap)) }
+        ensures answer { IfOk result (λ has. has ≡ is_free_for task (model.sem_of semaphore self.old.heap)) }
         ensures next { OnOk result (self.new ≡ on_heap (model.attempted semaphore task) self.old) }
         ensures kept { OnErr result (self.new ≡ self.old) }
     {

@@ -208,7 +208,7 @@ impl<S: ListSpace> Machine<S> {
 
 impl<S: ListSpace> Kernel<S> {
     /// Whether a software interrupt runs before any task's command.
-    fn is_softint_due(&self) -> bool
+    pub(super) fn is_softint_due(&self) -> bool
         ensures { result ≡ is_some (softint_seen self.now) }
     {
         if self.sched.may_interrupt() {

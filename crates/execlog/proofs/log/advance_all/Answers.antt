@@ -1,7 +1,7 @@
 -- The proof of `advance_all`: does some events, one step and one tick at a time.
 use Rattle.std.proofs.Common.{ℕ, refl, subst, ◌∙◌, ap, arith}
 use Rattle.std.proofs.lemmas.List.Sums.{sum_by-drop_more}
-use Rattle.script.specs.Events.{ticks as ticks_of}
+use Rattle.script.specs.Events.{event_ticks}
 use Rattle.execsim.specs.Time.{HasTimeFor}
 use Rattle.execlog.proofs.Logging.{few_turns, logs_next, logs_none, logs_turn, time_for_one, turns_more}
 use Rattle.execlog.proofs.log.advance_all.Goals as goal
@@ -32,6 +32,6 @@ loop-one-preserved g c = record {
   number = turns_more c.args.list.now c.loop-one.one-index _ c.loop-one-test.true c.args.log.now.number c.loop-one.log.number _ c.loop-one.invariant.number c.in_ok-advance_event.ensures.number;
   form = c.in_ok-advance_event.ensures.form ∙ c.loop-one.invariant.form;
   time = c.in_ok-advance_event.ensures.time _
-      (subst (λ (n : ℕ). HasTimeFor n c.loop-one.machine.seen) (sum_by-drop_more ticks_of c.args.list.now c.loop-one.one-index _ c.loop-one-test.true)
+      (subst (λ (n : ℕ). HasTimeFor n c.loop-one.machine.seen) (sum_by-drop_more event_ticks c.args.list.now c.loop-one.one-index _ c.loop-one-test.true)
       c.loop-one.invariant.time);
 }

@@ -1,7 +1,7 @@
 -- The rows of each event so far were put.
 use Rattle.std.proofs.Common.{◌≡◌, ◌+◌, false, take, drop, sum_by}
 use Rattle.exectrace.specs.declared.sinks.SinkState.TheVariants.{Good}
-use Rattle.script.specs.Events.{ticks as ticks_of}
+use Rattle.script.specs.Events.{event_ticks}
 use Rattle.execsim.specs.Time.{HasTimeFor}
 use Rattle.execlog.specs.{Log.turns, Log.units, Runs.Logs}
 use Rattle.execlog.proofs.log.advance_all.Given as goal
@@ -13,5 +13,5 @@ invariant-loop-one g l = record {
   good : l.log.text.state ≡ Good;
   number : l.log.number ≡ l.initial.log.number + sum_by turns (take l.one-index l.list);
   form : l.log.form ≡ l.initial.log.form;
-  time : HasTimeFor (sum_by ticks_of (drop l.one-index l.list)) l.machine.seen;
+  time : HasTimeFor (sum_by event_ticks (drop l.one-index l.list)) l.machine.seen;
 }

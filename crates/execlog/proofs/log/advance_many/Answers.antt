@@ -1,6 +1,6 @@
 -- The proof of `advance_many`: does one step, tick or request that many times.
 use Rattle.std.proofs.Common.{◌+◌, ◌*◌, ◌≤◌, ℕ, ap, refl, subst, ◌∙◌, arith, mul-le-mul_right}
-use Rattle.script.specs.Events.{ticks as ticks_of}
+use Rattle.script.specs.Events.{event_ticks}
 use Rattle.execsim.specs.Time.{HasTimeFor}
 use Rattle.execsim.proofs.Clock.{time_for_fewer}
 use Rattle.execlog.proofs.Logging.{logs_again, logs_next, logs_none, more_time}
@@ -13,7 +13,7 @@ loop-turn-init g c = record {
   good = c.requires.good;
   number = omega arith;
   form = refl;
-  time = λ ticks enough. time_for_fewer ticks (0 * ticks_of c.args.one + ticks) c.args.machine.now.seen (omega arith) enough;
+  time = λ ticks enough. time_for_fewer ticks (0 * event_ticks c.args.one + ticks) c.args.machine.now.seen (omega arith) enough;
 }
 
 pub advance-requires-clause-number : goal.advance-requires-clause-number
@@ -21,7 +21,7 @@ advance-requires-clause-number g c = omega (arith, c.requires.number, c.loop-tur
 
 pub advance-requires-clause-time : goal.advance-requires-clause-time
 advance-requires-clause-time g c =
-    let k = ticks_of c.args.one in
+    let k = event_ticks c.args.one in
     let j = c.loop-turn._turn in
     let more : j + 1 ≤ c.args.many = omega (arith, c.loop-turn-test.true) in
     let most : j * k + k ≤ c.args.many * k = omega (arith, mul-le-mul_right k more, more_time j k 0) in
@@ -29,7 +29,7 @@ advance-requires-clause-time g c =
 
 pub loop-turn-preserved : goal.loop-turn-preserved
 loop-turn-preserved g c =
-    let k = ticks_of c.args.one in
+    let k = event_ticks c.args.one in
     let j = c.loop-turn._turn in
     record {
       logs = logs_again _ c.args.log.now.number j c.args.one c.loop-turn.invariant.logs

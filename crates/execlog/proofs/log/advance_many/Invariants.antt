@@ -1,7 +1,7 @@
 -- The rows of each event so far were put.
 use Rattle.std.proofs.Common.{◌≡◌, ◌+◌, ◌*◌, ℕ, false, replicate}
 use Rattle.exectrace.specs.declared.sinks.SinkState.TheVariants.{Good}
-use Rattle.script.specs.Events.{ticks as ticks_of}
+use Rattle.script.specs.Events.{event_ticks}
 use Rattle.execsim.specs.Time.{HasTimeFor}
 use Rattle.execlog.specs.Runs.{Logs}
 use Rattle.execlog.proofs.log.advance_many.Given as goal
@@ -13,5 +13,5 @@ invariant-loop-turn g l = record {
   good : l.log.text.state ≡ Good;
   number : l.log.number ≡ l.initial.log.number + l._turn;
   form : l.log.form ≡ l.initial.log.form;
-  time : (ticks : ℕ) → HasTimeFor (l._turn * ticks_of l.one + ticks) l.initial.machine.seen → HasTimeFor ticks l.machine.seen;
+  time : (ticks : ℕ) → HasTimeFor (l._turn * event_ticks l.one + ticks) l.initial.machine.seen → HasTimeFor ticks l.machine.seen;
 }

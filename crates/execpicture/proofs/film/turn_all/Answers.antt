@@ -1,7 +1,7 @@
 -- The proof of `turn_all`: each event takes its own time.
 use Rattle.std.proofs.Common.{ℕ, subst}
 use Rattle.std.proofs.lemmas.List.Sums.{sum_by-drop_more}
-use Rattle.script.specs.Events.{ticks as ticks_of}
+use Rattle.script.specs.Events.{event_ticks}
 use Rattle.execsim.specs.Time.{HasTimeFor}
 use Rattle.execpicture.proofs.Turns.{time_for_one}
 use Rattle.execpicture.proofs.film.turn_all.Goals as goal
@@ -16,6 +16,6 @@ pub loop-one-preserved : goal.loop-one-preserved
 loop-one-preserved g c = record {
   going = c.in_ok-turn_event.ensures.going;
   time = c.in_ok-turn_event.ensures.time _
-      (subst (λ (n : ℕ). HasTimeFor n c.loop-one.machine.seen) (sum_by-drop_more ticks_of c.args.list.now c.loop-one.one-index _ c.loop-one-test.true)
+      (subst (λ (n : ℕ). HasTimeFor n c.loop-one.machine.seen) (sum_by-drop_more event_ticks c.args.list.now c.loop-one.one-index _ c.loop-one-test.true)
       c.loop-one.invariant.time);
 }

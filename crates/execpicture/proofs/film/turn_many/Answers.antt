@@ -1,6 +1,6 @@
 -- The proof of `turn_many`: each turn takes its own time.
 use Rattle.std.proofs.Common.{◌+◌, ◌*◌, ◌≤◌, ℕ, subst, arith, mul-le-mul_right}
-use Rattle.script.specs.Events.{ticks as ticks_of}
+use Rattle.script.specs.Events.{event_ticks}
 use Rattle.execsim.specs.Time.{HasTimeFor}
 use Rattle.execsim.proofs.Clock.{time_for_fewer}
 use Rattle.execpicture.proofs.Turns.{more_time}
@@ -9,12 +9,12 @@ use Rattle.execpicture.proofs.film.turn_many.Goals as goal
 pub loop-turn-init : goal.loop-turn-init
 loop-turn-init g c = record {
   going = c.requires.going;
-  time = λ ticks enough. time_for_fewer ticks (0 * ticks_of c.args.one + ticks) c.args.machine.now.seen (omega arith) enough;
+  time = λ ticks enough. time_for_fewer ticks (0 * event_ticks c.args.one + ticks) c.args.machine.now.seen (omega arith) enough;
 }
 
 pub turn_once-requires-clause-time : goal.turn_once-requires-clause-time
 turn_once-requires-clause-time g c =
-    let k = ticks_of c.args.one in
+    let k = event_ticks c.args.one in
     let j = c.loop-turn._turn in
     let more : j + 1 ≤ c.args.many = omega (arith, c.loop-turn-test.true) in
     let most : j * k + k ≤ c.args.many * k = omega (arith, mul-le-mul_right k more, more_time j k 0) in
@@ -22,7 +22,7 @@ turn_once-requires-clause-time g c =
 
 pub loop-turn-preserved : goal.loop-turn-preserved
 loop-turn-preserved g c =
-    let k = ticks_of c.args.one in
+    let k = event_ticks c.args.one in
     let j = c.loop-turn._turn in
     record {
       going = c.in_ok-turn_once.ensures.going;

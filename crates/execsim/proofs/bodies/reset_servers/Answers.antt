@@ -1,14 +1,13 @@
 -- One more server is that of the file; its source and its priority stay.
 use Rattle.std.proofs.Common.{◌≡◌, ◌<◌, length, ap, arith, ◌∙◌, length-set}
 use Rattle.script.specs.Records as records
-use Rattle.execmodel.specs.Pending.{source_named}
 use Rattle.execsim.specs.{declared.bodies.Server.Server, Views.interrupting, Views.server_view}
 use Rattle.execsim.proofs.Written.{one_more_seen, seen_kept}
 use Rattle.execsim.proofs.bodies.reset_servers.Goals as goal
 
 -- servers of one source and priority are alike to the interrupts
 alike : (s t : Server) → s.source ≡ t.source → s.pri ≡ t.pri → interrupting (server_view s) ≡ interrupting (server_view t)
-alike s t sources pris = λ i. record { source = source_named (sources i); pri = pris i }
+alike s t sources pris = λ i. record { source = sources i; pri = pris i }
 
 pub returns-then-not-reset_server-clause-kept : goal.returns-then-not-reset_server-clause-kept
 returns-then-not-reset_server-clause-kept c =

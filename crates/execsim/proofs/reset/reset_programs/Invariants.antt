@@ -1,11 +1,11 @@
 -- the programs so far are those of the tasks
 use Rattle.std.proofs.Common.{◌≡◌, length, map, take}
 use Rattle.script.specs.Records.{task_view}
-use Rattle.execmodel.specs.State.{begun}
+use Rattle.execmodel.specs.State.{new_program}
 use Rattle.execsim.proofs.reset.reset_programs.Given as goal
 
 abbrev pub invariant-loop-t : goal.invariant-loop-t
 invariant-loop-t l = record {
-  same : take l.t l.programs.items ≡ take l.t (map begun (map task_view l.tasks));
+  same : take l.t l.programs.items ≡ take l.t (map new_program (map task_view l.tasks));
   count : length l.programs.items ≡ length l.initial.programs.items;
 }

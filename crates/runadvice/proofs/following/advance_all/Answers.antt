@@ -1,7 +1,7 @@
 -- The proof of `advance_all`: does some events.
 use Rattle.std.proofs.Common.{ℕ, subst}
 use Rattle.std.proofs.lemmas.List.Sums.{sum_by-drop_more}
-use Rattle.script.specs.Events.{ticks as ticks_of}
+use Rattle.script.specs.Events.{event_ticks}
 use Rattle.execsim.specs.Time.{HasTimeFor}
 use Rattle.runadvice.proofs.Follows.{goes_none, goes_turn, time_for_one}
 use Rattle.runadvice.proofs.following.advance_all.Goals as goal
@@ -23,6 +23,6 @@ loop-one-preserved c = record {
   going = c.in_ok-advance_event.ensures.going;
   good = c.in_ok-advance_event.ensures.good;
   time = c.in_ok-advance_event.ensures.time _
-      (subst (λ (n : ℕ). HasTimeFor n c.loop-one.run.machine.seen) (sum_by-drop_more ticks_of c.args.list.now c.loop-one.one-index _ c.loop-one-test.true)
+      (subst (λ (n : ℕ). HasTimeFor n c.loop-one.run.machine.seen) (sum_by-drop_more event_ticks c.args.list.now c.loop-one.one-index _ c.loop-one-test.true)
       c.loop-one.invariant.time);
 }

@@ -1,7 +1,7 @@
 -- The proof of `body_of`.
 use Rattle.std.proofs.Common.{◌≡◌, ◌∙◌, sym, arith}
 use Rattle.toml.specs.View.{view}
-use Rattle.taskscript.specs.{Bodies.reading_view, Bodies.reading_with, Code.line_in, Meaning.says, Records.setting_view}
+use Rattle.taskscript.specs.{Bodies.reading_view, Bodies.reading_with, Code.line_in, Meaning.line_meaning, Records.setting_view}
 use Rattle.taskscript.proofs.{BodyReading.next_line, BodyReading.line_stops, BodyReading.line_goes_on, BodyReading.line_read, Listings.lines_go_on}
 use Rattle.taskscript.proofs.code.body_of.Goals as goal
 
@@ -19,7 +19,7 @@ loop-i-preserved c =
     let line = c.line_in.result.now in
     let text : line ≡ line_in (view c.index-lines-i.result) = c.line_in.ensures in
     let is = next_line c.args.lines.now c.loop-i.i c.index-lines-i.result line c.loop-i-test.true c.index-lines-i.is text in
-    let more : after ≡ reading_with before (says line) = c.in-Ok.ensures.judged.1 in
+    let more : after ≡ reading_with before (line_meaning line) = c.in-Ok.ensures.judged.1 in
     record {
       few = omega (arith, c.in-Ok.ensures.commands, c.loop-i.invariant.few);
       judged = sym (line_goes_on c.args.owner c.args.number c.loop-i.i s before after line _ _ is c.in-Ok.ensures.judged.0 more) ∙ c.loop-i.invariant.judged;

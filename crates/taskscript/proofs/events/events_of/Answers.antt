@@ -1,7 +1,7 @@
 -- The proof of `events_of`.
 use Rattle.std.proofs.Common.{◌≡◌, sym, ◌∙◌, arith, true, false, ◌++◌, ◌∷◌, [], ◌+◌, length, map, take}
 use Rattle.std.proofs.lemmas.{List.length_push, List.Sums.sum_by_push}
-use Rattle.script.specs.Events.{is_within, steps, ticks}
+use Rattle.script.specs.Events.{is_within, event_steps, event_ticks}
 use Rattle.taskscript.specs.Events.{is_skipped}
 use Rattle.taskscript.proofs.EventTurns.{text_at, skip_found, skip_judged, bad_line, more_found, counted, too_many, goes_on, limits, all_within}
 use Rattle.taskscript.proofs.events.events_of.Goals as goal
@@ -26,8 +26,8 @@ pub returns-then-not-are_within : goal.returns-then-not-are_within
 returns-then-not-are_within c = λ _.
     let es = c.loop-i.events.items in
     let e = c.in-Some.event in
-    let fs : c.from-steps.result ≡ steps e = cc in
-    let ft : c.from-ticks.result ≡ ticks e = cc in
+    let fs : c.from-steps.result ≡ event_steps e = cc in
+    let ft : c.from-ticks.result ≡ event_ticks e = cc in
     let ln : c.len.result ≡ length es = omega arith in
     let sums = counted es e c.loop-i.steps c.loop-i.ticks c.loop-i.invariant.steps_sum c.loop-i.invariant.ticks_sum in
     let within : is_within (es ++ e ∷ []) ≡ false = sym (c.if-not-are_within.ensures ∙ rw (fs, ft, ln) sums) in
@@ -37,8 +37,8 @@ pub loop-i-preserved : goal.loop-i-preserved
 loop-i-preserved c =
     let es = c.loop-i.events.items in
     let e = c.in-Some.event in
-    let fs : c.from-steps.result ≡ steps e = cc in
-    let ft : c.from-ticks.result ≡ ticks e = cc in
+    let fs : c.from-steps.result ≡ event_steps e = cc in
+    let ft : c.from-ticks.result ≡ event_ticks e = cc in
     let ln : c.len.result ≡ length es = omega arith in
     let sums = counted es e c.loop-i.steps c.loop-i.ticks c.loop-i.invariant.steps_sum c.loop-i.invariant.ticks_sum in
     let within : is_within (es ++ e ∷ []) ≡ true = sym (c.if-not-are_within.ensures ∙ rw (fs, ft, ln) sums) in
@@ -46,8 +46,8 @@ loop-i-preserved c =
     let fine = sym c.is_skipped.ensures ∙ c.if-is_skipped.false in
     rw c.in_ok-push.ensures.items (record {
       found = more_found c.args.lines.now c.loop-i.i c.in-Some.event c.loop-i.events.items c.loop-i-test.true fine c.in-Some.ensures c.loop-i.invariant.found;
-      steps_sum = omega (arith, sum_by_push steps es e, fs);
-      ticks_sum = omega (arith, sum_by_push ticks es e, ft);
+      steps_sum = omega (arith, sum_by_push event_steps es e, fs);
+      ticks_sum = omega (arith, sum_by_push event_ticks es e, ft);
       steps_limit = small.0;
       ticks_limit = small.1;
       count_limit = omega (arith, length_push es e, ln, small.2);

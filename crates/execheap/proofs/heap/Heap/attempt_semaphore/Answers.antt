@@ -3,7 +3,7 @@ use Rattle.std.proofs.Common.{◌≡◌, ap, sym, subst, ◌∙◌, IfOk, OnOk}
 use Rattle.execmodel.specs.{State.Memory, State.on_heap, Semaphores.obtain_alert, Semaphores.attempted, Semaphores.sem_of}
 use Rattle.execlist.specs.Answers.{fault_or}
 use Rattle.sigsem.specs.Semaphores as sems
-use Rattle.sigsem.specs.Semaphores.{Semaphores, deep_fault, is_open}
+use Rattle.sigsem.specs.Semaphores.{Semaphores, deep_fault, is_free_for}
 use Rattle.execheap.specs.{Refusals.alert_of, Refusals.told, Numbered.shown_heap, Numbered.shown_memory}
 use Rattle.execheap.proofs.SemaphoreAlerts.{obtain_refused, obtain_told, sem_of_shown, told_answer, told_next}
 use Rattle.execheap.proofs.{Dropping.attempted_shown, Passed.passed_on}
@@ -17,24 +17,24 @@ returns-in_err-n-clause-alert g c =
 
 -- any refusal by number is reported as one
 refusal_told : (g : _) (c : goal.After-told g) → c.told.result
-    ≡ told (fault_or (deep_fault c.in_ok-n.n c.args.task c.self.inside.objects.sems) (is_open c.args.task (sems.sem_at c.in_ok-n.n c.self.inside.objects.sems)))
+    ≡ told (fault_or (deep_fault c.in_ok-n.n c.args.task c.self.inside.objects.sems) (is_free_for c.args.task (sems.sem_at c.in_ok-n.n c.self.inside.objects.sems)))
 refusal_told g c = c.told.ensures ∙ ap told c.attempt.ensures.answer
 
 pub returns-clause-alert : goal.returns-clause-alert
 returns-clause-alert g c =
     let s = c.self.inside.objects in
     ap alert_of (refusal_told g c)
-    ∙ obtain_told c.in_ok-n.ensures.known.sound c.in_ok-n.n c.args.semaphore c.in_ok-n.ensures.found c.args.task (is_open c.args.task (sems.sem_at c.in_ok-n.n s.sems))
+    ∙ obtain_told c.in_ok-n.ensures.known.sound c.in_ok-n.n c.args.semaphore c.in_ok-n.ensures.found c.args.task (is_free_for c.args.task (sems.sem_at c.in_ok-n.n s.sems))
     ∙ ap (λ (m : Memory). obtain_alert c.args.task c.args.semaphore m.heap) c.self.view_is
 
 pub returns-clause-answer : goal.returns-clause-answer
 returns-clause-answer g c =
     let s = c.self.inside.objects in
-    let asked = is_open c.args.task (sem_of c.args.semaphore c.args.self.now.heap) in
+    let asked = is_free_for c.args.task (sem_of c.args.semaphore c.args.self.now.heap) in
     subst (λ r. IfOk r (λ has. has ≡ asked)) (sym (refusal_told g c))
-    (told_answer (deep_fault c.in_ok-n.n c.args.task s.sems) (is_open c.args.task (sems.sem_at c.in_ok-n.n s.sems)) asked
-    (ap (is_open c.args.task) (sym (sem_of_shown c.in_ok-n.ensures.known.sound c.in_ok-n.n c.args.semaphore c.in_ok-n.ensures.found))
-    ∙ ap (λ (m : Memory). is_open c.args.task (sem_of c.args.semaphore m.heap)) c.self.view_is))
+    (told_answer (deep_fault c.in_ok-n.n c.args.task s.sems) (is_free_for c.args.task (sems.sem_at c.in_ok-n.n s.sems)) asked
+    (ap (is_free_for c.args.task) (sym (sem_of_shown c.in_ok-n.ensures.known.sound c.in_ok-n.n c.args.semaphore c.in_ok-n.ensures.found))
+    ∙ ap (λ (m : Memory). is_free_for c.args.task (sem_of c.args.semaphore m.heap)) c.self.view_is))
 
 pub returns-clause-next : goal.returns-clause-next
 returns-clause-next g c =
@@ -43,7 +43,7 @@ returns-clause-next g c =
     let e = c.in_ok-n.ensures in
     subst (λ r. OnOk r (shown_memory c.attempt.new.self ≡ on_heap (attempted c.args.semaphore c.args.task) c.args.self.now))
     (sym (refusal_told g c))
-    (told_next (deep_fault c.in_ok-n.n c.args.task s.sems) (is_open c.args.task (sems.sem_at c.in_ok-n.n s.sems)) s.sems (sems.attempted c.in_ok-n.n c.args.task s.sems)
+    (told_next (deep_fault c.in_ok-n.n c.args.task s.sems) (is_free_for c.args.task (sems.sem_at c.in_ok-n.n s.sems)) s.sems (sems.attempted c.in_ok-n.n c.args.task s.sems)
     (λ done. ap shown_memory c.attempt.ensures.next ∙ ap (λ (m : Semaphores). shown_memory (record s { sems = m })) done
     ∙ attempted_shown f.sound f.sems f.memory c.in_ok-n.n c.args.semaphore e.found e.live c.args.task
     ∙ ap (on_heap (attempted c.args.semaphore c.args.task)) c.self.view_is))

@@ -1,7 +1,7 @@
 -- The message is last in the reply port that is shown, or is of the type of one without.
 use Rattle.std.proofs.Common.{ap, sym, ◌∙◌}
 use Rattle.execmodel.specs.{State.Memory, State.on_heap, Ports.content_of}
-use Rattle.msgport.specs.{Port.acting, Ports.nt_freemsg, Ports.nt_replymsg}
+use Rattle.msgport.specs.{Port.arrival_action, Ports.nt_freemsg, Ports.nt_replymsg}
 use Rattle.execheap.specs.{Listing.replied_by, Listing.replying, Numbered.shown_heap, Numbered.shown_memory}
 use Rattle.execheap.proofs.{Posted.port_of_shown, Posted.posted_shown, Posted.typed_shown, Replying.replied_none, Replying.replied_some, Replying.replying_none, Replying.replying_some}
 use Rattle.execheap.proofs.heap.Heap.reply_message.Goals as goal
@@ -12,7 +12,7 @@ returns-in-Some-clause-answer g c =
     let e = c.in_ok-m.ensures in
     let p = c.in-Some.p in
     let port = (content_of c.args.message (shown_heap s)).reply in
-    c.reply.ensures.answer ∙ ap acting (sym (port_of_shown c.in_ok-m.ensures.known.sound p port (e.reply p c.in-Some.is)))
+    c.reply.ensures.answer ∙ ap arrival_action (sym (port_of_shown c.in_ok-m.ensures.known.sound p port (e.reply p c.in-Some.is)))
     ∙ sym (replying_some c.args.message (shown_heap s) (e.some p c.in-Some.is))
     ∙ ap (λ (m : Memory). replying c.args.message m.heap) c.self.view_is
 

@@ -1,6 +1,6 @@
 -- As many nodes may live as the pool says.
 use Rattle.std.proofs.Common.{◌≡◌, ◌≤◌, length, ap, sym, ◌∙◌, arith}
-use Rattle.execlist.specs.Lists.{Key, blank}
+use Rattle.execlist.specs.Lists.{KeyData, blank}
 use Rattle.execheap.specs.declared.tag.Kind.TheVariants as variant
 use Rattle.execheap.specs.Numbered.{Numbered, places}
 use Rattle.execheap.proofs.BlockViews.{beyond}
@@ -24,4 +24,4 @@ returns-else-n-pool g c =
     let pool : c.pool.result ≡ s.table.pool = c.pool.ensures ∙ ap (λ (x : Numbered). x.table.pool) c.self.view_is in
     let far : length s.keys ≤ c.args.n =
     omega (arith, c.if-n-pool.false, pool, c.facts.ensures.space.keyed, c.facts.ensures.sound.kept.each_node, c.facts.ensures.sound.table.each variant.Node) in
-    sym (ap (λ (k : Key). k.pri) (beyond s.keys c.args.n blank far))
+    sym (ap (λ (k : KeyData). k.pri) (beyond s.keys c.args.n blank far))

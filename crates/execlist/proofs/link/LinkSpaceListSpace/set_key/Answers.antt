@@ -1,7 +1,7 @@
 -- One key is another.
 use Rattle.std.proofs.Common.{◌≡◌, ◌<◌, ◌≤◌, length, set, ap, ◌∙◌, arith, option_map, length-set}
 use Rattle.std.proofs.lemmas.Int.{to_z-of_z}
-use Rattle.execlist.specs.{Lists.Key, DigestKeys.digest_key_of, DigestKeys.keys_in}
+use Rattle.execlist.specs.{Lists.KeyData, DigestKeys.digest_key_of, DigestKeys.keys_in}
 use Rattle.execlist.proofs.{KeyLemmas.key_set, LinkLemmas.homes_length}
 use Rattle.execlist.proofs.link.LinkSpaceListSpace.set_key.Goals as goal
 
@@ -46,4 +46,4 @@ returns-clause-keys c =
     let new = key_set s.nodes n s.keys.items c.fill.new.keys.items c.new.result c.fill.ensures.keys known few in
     let key : digest_key_of c.new.result ≡ record { pri = c.args.pri; name = option_map (λ t. t.bytes) c.args.name } =
     (let fits = c.ranges.pri.sfits in grind (arith, to_z-of_z)) in
-    new.1 ∙ ap (λ (k : Key). set (keys_in s.nodes s.keys.items) n k) key
+    new.1 ∙ ap (λ (k : KeyData). set (keys_in s.nodes s.keys.items) n k) key

@@ -1,7 +1,7 @@
 -- The proof of `Machine::event`: does one event: that many steps or ticks, each followed by a settle, or a request of an interrupt,
 -- followed by one.
 use Rattle.std.proofs.Common.{◌+◌, sym, subst}
-use Rattle.script.specs.Events.{ticks as ticks_of}
+use Rattle.script.specs.Events.{event_ticks}
 use Rattle.execsim.specs.{Headline.Shown, Reached.after_event, Time.HasTimeFor}
 use Rattle.execsim.proofs.{Acting.known_after_action, Acting.time_after, Clock.event_gains, Advancing.not_known}
 use Rattle.execsim.proofs.machine.Machine.event.Goals as goal
@@ -16,6 +16,6 @@ invariant_of-self g c = (
 
 pub returns-clause-time_left : goal.returns-clause-time_left
 returns-clause-time_left g c = λ going whole ticks enough.
-    time_after (ticks_of c.args.one) (event_gains c.args.one) (after_event c.args.one) (c.self.invariant.0 c.if-self.false) c.event.ensures
+    time_after (event_ticks c.args.one) (event_gains c.args.one) (after_event c.args.one) (c.self.invariant.0 c.if-self.false) c.event.ensures
     (rw c.is_stopped-stopped.ensures at c.finish.ensures) whole ticks
-    (subst (λ (x : Shown). HasTimeFor (ticks_of c.args.one + ticks) x.seen) (sym c.self.view_is) enough)
+    (subst (λ (x : Shown). HasTimeFor (event_ticks c.args.one + ticks) x.seen) (sym c.self.view_is) enough)

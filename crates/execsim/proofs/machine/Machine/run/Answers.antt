@@ -1,6 +1,6 @@
 -- The proof of `Machine::run`: starts the machine and does one event after another.
 use Rattle.std.proofs.Common.{ap, sym, ◌∙◌, subst, sum_by}
-use Rattle.script.specs.Events.{ticks as ticks_of}
+use Rattle.script.specs.Events.{event_ticks}
 use Rattle.execsim.specs.{Headline.Shown, Time.HasTimeFor}
 use Rattle.execsim.proofs.{Acting.acts_by, Acting.known_after_action, Clock.time_from_start, Following.while_good, Following.while_good_then, Reached.run_reached, Advancing.not_known}
 use Rattle.exectrace.specs.Printing.{is_good}
@@ -10,7 +10,7 @@ pub events-requires : goal.events-requires
 events-requires g c = time_from_start _
     (λ good. record {
       known = c.self.invariant.0 (ap (λ (x : Shown). x.failed) c.self.view_is ∙ c.requires.going);
-      time = subst (λ (x : Shown). HasTimeFor (sum_by ticks_of c.args.list.now) x.seen) (sym c.self.view_is) c.requires.time;
+      time = subst (λ (x : Shown). HasTimeFor (sum_by event_ticks c.args.list.now) x.seen) (sym c.self.view_is) c.requires.time;
     })
     (while_good (ap is_good c.requires.good) c.start.ensures)
 

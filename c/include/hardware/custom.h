@@ -1,0 +1,1 @@
+/* There is no hardware here; the header is empty. */

@@ -1,0 +1,1 @@
+#include <clib/dos_protos.h>

@@ -1,0 +1,2 @@
+#include <clib/exec_protos.h>
+#include <devices/timer.h>
