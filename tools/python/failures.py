@@ -11,8 +11,9 @@ PASSED = re.compile(
     r"(passed|refused|proved|shown|run|rt): |\s*$|.*\btook [0-9,.]+ m?s\b|.*: not tried, since |.*: (skipped|SKIPPED): |\d+ passed, \d+ failed"
     r"|equations: \d+ "
 )
-# Lines of `rt ci`, and of checks that it shows, that say what failed.
-FAILED = re.compile(r"(?i).*\b(error|refused|not proved|not tried|bad edit|differs|failed|fails|failure|killed|panicked|timed out|wanted)\b")
+# Lines of `rt ci`, and of checks that it shows, that say what failed: a verdict, and what else has a word of failure and is not the name of what was proved.
+VERDICT = re.compile(r"(rt: )?(FAILED: |.*\b(NOT PROVED|FAILED)\b)")
+FAILED = re.compile(r"(?i)(?!.*: proved$)(?!\s*by-macro: ).*\b(error|refused|not proved|not tried|bad edit|differs|failed|fails|failure|killed|panicked|timed out|wanted)\b")
 SKIPPED = re.compile(r".*: not tried, since |.*: (skipped|SKIPPED): |.*\bskipped\b|.*cannot be compared|.*not (compared|made here|tried)")
 
 
@@ -22,9 +23,12 @@ def read(file):
 
 
 def said_of(part, file):
-    """The lines of a part that say what failed; its last ones if none is such."""
-    lines = [it for it in read(file) if it.strip()]
-    found = [it for it in lines if FAILED.match(it) and not re.match(r"\d+ passed, ", it)] if part == "rt ci" else [it for it in lines if not PASSED.match(it)]
+    """The lines of a part that say what failed, verdicts first; its last ones if none is such."""
+    lines = [it for it in read(file) if it.strip() and not re.match(r"\d+ passed, ", it)]
+    if part == "rt ci":
+        found = sorted((it for it in lines if FAILED.match(it)), key=lambda it: not VERDICT.match(it))
+    else:
+        found = [it for it in lines if not PASSED.match(it)]
     return found or lines[-6:]
 
 

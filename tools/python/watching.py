@@ -13,7 +13,7 @@ KINDS = ("proof", "tests", "mutants")
 
 
 def processes():
-    """Each process: its parent, its processor's seconds and its memory in bytes, by its number."""
+    """Each process: its parent, its processor's seconds, its memory in bytes and the moment at which it began, by its number."""
     found = {}
     for it in os.listdir("/proc"):
         if it.isdigit():
@@ -22,14 +22,14 @@ def processes():
             except OSError:
                 continue
             fields = text.rpartition(")")[2].split()
-            found[int(it)] = int(fields[1]), (int(fields[11]) + int(fields[12])) / TICK, int(fields[21]) * PAGE
+            found[int(it)] = int(fields[1]), (int(fields[11]) + int(fields[12])) / TICK, int(fields[21]) * PAGE, int(fields[19])
     return found
 
 
 def below(found, top):
     """The numbers of a process and of all that it began."""
     children = collections.defaultdict(list)
-    for number, (parent, _, _) in found.items():
+    for number, (parent, *_) in found.items():
         children[parent].append(number)
     tree, left = set(), [top]
     while left:
@@ -65,11 +65,13 @@ class Watch:
         tree = below(found, self.top)
         held = collections.Counter()
         for number in tree:
-            if number not in self.purposes:
-                self.purposes[number] = purpose(number)
-            if self.purposes[number]:
-                self.seconds[number] = found[number][1]
-                held[self.purposes[number][0]] += found[number][2]
+            # (a number is given to another process once this one is gone)
+            key = number, found[number][3]
+            if key not in self.purposes:
+                self.purposes[key] = purpose(number)
+            if self.purposes[key]:
+                self.seconds[key] = found[number][1]
+                held[self.purposes[key][0]] += found[number][2]
         self.most = max(self.most, sum(found[number][2] for number in tree))
         self.most_of |= held
         return self.top in found
@@ -77,8 +79,8 @@ class Watch:
     def table(self):
         """The lines of the table, dearest crates first."""
         sums = collections.defaultdict(collections.Counter)
-        for number, seconds in self.seconds.items():
-            crate, kind = self.purposes[number]
+        for key, seconds in self.seconds.items():
+            crate, kind = self.purposes[key]
             sums[crate][kind] += seconds
         yield f"{'crate':16}" + "".join(f"{it:>9}" for it in KINDS) + "   most MB"
         for crate, found in sorted(sums.items(), key=lambda it: -it[1].total()):
