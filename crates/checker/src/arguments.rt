@@ -26,7 +26,7 @@ fn end_without_words<E: Write>(alloc: Global, error: &io::Error, err: &mut E) ->
     if error.kind() == ErrorKind::OutOfMemory {
         return report(alloc, &Failure::NoMemory, err);
     }
-    let _ = err.write_all(b"error: an argument is no text\n");
+    let _ = err.write_all(b"error: an argument is not text\n");
     COMMAND_LINE_REFUSED
 }
 

@@ -1,4 +1,4 @@
-//! Why a line says no command, in one sentence, with a proposal if one is near.
+//! Why a line is not a command, in one sentence, with a proposal if one is near.
 
 use crate::assignments::{assignment_of_c, call_with_parentheses, is_value, missing_word};
 use crate::foreign::{instead_of, number_of_constants, written_number};
@@ -377,7 +377,7 @@ impl Line<'_> {
     }
 }
 
-/// The part of a line for which it says no command, and why. `softints` are the software interrupts of the file.
+/// The part of a line for which it is not a command, and why. `softints` are the software interrupts of the file.
 ///
 /// A tab, a part that no line has or a space that separates nothing goes before the mistake in its words: a word that is wanted or is not
 /// known, a target, or an argument. In a line with no mistake it is the first part.
@@ -390,6 +390,6 @@ pub fn line_advice(alloc: Global, softints: &[Value], text: &str) -> Made<Advice
     let parts = fields_of(alloc, text)?;
     match line.mistake(&parts)? {
         Some(mistake) if label_in(text).is_none() => line.first_mistake(&parts, mistake),
-        _ => Advice::new(alloc, field_span(text, 0), "this line says no command"),
+        _ => Advice::new(alloc, field_span(text, 0), "this line is not a command"),
     }
 }

@@ -18,7 +18,7 @@ fn likely_reason(before: char, c: char) -> Option<&'static str> {
         '/' => Some("a comment begins with #"),
         '\u{201C}' | '\u{201D}' | '\u{201E}' => Some("put a plain quote, \", in place of this one"),
         '\u{2018}' | '\u{2019}' => Some("put a plain quote, ', in place of this one"),
-        '\0' => Some("this is no text: it has bytes that are 0"),
+        '\0' => Some("this is not a text: it has bytes that are 0"),
         _ if before == '"' => Some(
             "a double quote within a string is written \\\", or the string is put between single quotes",
         ),
@@ -64,7 +64,7 @@ fn reason_of_bytes(bytes: &[u8]) -> &'static str {
         [0xFF, 0xFE, ..] | [0xFE, 0xFF, ..] => {
             "this file is written in UTF-16; save it in UTF-8"
         }
-        _ => "this byte is no UTF-8; save the file in UTF-8",
+        _ => "this byte is not valid UTF-8; save the file in UTF-8",
     }
 }
 

@@ -147,7 +147,7 @@ fn limit_reason(steps: u64, ticks: u64, events: u64) -> Option<&'static str> {
     } else if ticks > 1_000_000 {
         Some("this line takes the ticks past 1000000")
     } else if events > 100_000 {
-        Some("this line takes the events past 100000")
+        Some("with this line there are more than 100000 events")
     } else {
         None
     }
@@ -193,7 +193,7 @@ fn bad_line_text(text: &Text<'_>, number: usize) -> Made<String> {
         }
         Err(_) => {
             let start = bytes.iter().position(|byte| !byte.is_ascii()).unwrap_or(0);
-            let reason = "this is no UTF-8; save the file in UTF-8";
+            let reason = "this is not valid UTF-8; save the file in UTF-8";
             text.bytes_text(number, "BadLine", start, reason)
         }
     }

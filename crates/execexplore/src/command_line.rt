@@ -90,7 +90,7 @@ fn command<'a>(alloc: Global) -> Result<Command<'a>, AllocError> {
         .arg(flag(
             alloc,
             "progress",
-            "Reports on standard error, at most once a second, how far the search is, also if that is no terminal",
+            "Reports on standard error, at most once a second, how far the search is, also if that is not a terminal",
         ))?
         .arg(flag(
             alloc,

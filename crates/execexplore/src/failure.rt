@@ -127,7 +127,7 @@ fn show_not_a_report<W: fmt::Write>(
     let path = Shown(path);
     match fault {
         ReportFault::OutOfMemory => f.write_str("no memory"),
-        ReportFault::NotAReport => write!(f, "{path}: this is no report of execexplore"),
+        ReportFault::NotAReport => write!(f, "{path}: this is not a report of execexplore"),
         ReportFault::IsChanged => write!(
             f,
             "{path}: the last line is not the SHA-256 of the lines above it: this report was cut off or changed; make the part again"

@@ -9,6 +9,7 @@ pub mod Playing
 pub mod Reached
 pub mod Readers
 pub mod Reading
+pub mod Resetting
 pub mod Resting
 pub mod Standing
 pub mod Time

@@ -1,9 +1,10 @@
 //! What the software interrupts and the servers execute. Nothing changes it once the machine is made, until it is reset.
-ghost use Rattle.std.specs.Prelude.{◌≡◌, ◌≢◌, ◌<◌, All, IfOk, length, map, slice_index_or, true, AllPairs};
+ghost use Rattle.std.specs.Prelude.{◌≡◌, ◌↔◌, ◌≢◌, ◌<◌, All, IfOk, length, map, slice_index_or, true, AllPairs};
 ghost use Rattle.script.specs.{Commands.command_view, Machines.softint_names, Names.texts};
 ghost use Rattle.script.specs.Records as records;
 ghost use Rattle.execmodel.specs.{Interrupts.no_server, Interrupts.no_softint, Interrupts.server_at, Pending.softint_named};
 ghost use Rattle.execsim.specs.Views.{code_of_body, interrupting, name_of_body, server_view, softint_view};
+ghost use Rattle.execsim.specs.Resetting.{AreShaped, server_shape, softint_shape};
 
 use crate::code::{copied_code, copy_code};
 use exectrace::Name;
@@ -150,6 +151,8 @@ fn names_of(alloc: Global, softints: &[SoftintRecord]) -> Result<IndexSet<Name>,
 
 /// Gives a software interrupt the commands of one of a file, if it has its name, its priority and as many commands, and answers whether it has.
 fn reset_softint(softint: &mut Softint, file: &SoftintRecord) -> bool
+    ensures answer { (result ≡ true) ↔ (softint_shape (softint_view softint.old) ≡ softint_shape (records.softint_view file.now)) }
+    ensures kept { softint_shape (softint_view softint.new) ≡ softint_shape (softint_view softint.old) }
     ensures same { result ≡ true → softint_view softint.new ≡ records.softint_view file.now }
     ensures name { softint.new.name ≡ softint.old.name }
     ensures pri { softint.new.pri ≡ softint.old.pri }
@@ -161,6 +164,7 @@ fn reset_softint(softint: &mut Softint, file: &SoftintRecord) -> bool
 
 /// Gives the software interrupts the commands of those of a file, if all else is the same, and answers whether it is.
 fn reset_softints(softints: &mut Vec<Softint>, file: &[SoftintRecord]) -> bool
+    ensures answer { (result ≡ true) ↔ (map softint_shape (map softint_view softints.old.items) ≡ map softint_shape (map records.softint_view file.now)) }
     ensures same { result ≡ true → map softint_view softints.new.items ≡ map records.softint_view file.now }
     ensures names { softint_names (map softint_view softints.new.items) ≡ softint_names (map softint_view softints.old.items) }
     ensures pris { map (λ s. s.pri) (map softint_view softints.new.items) ≡ map (λ s. s.pri) (map softint_view softints.old.items) }
@@ -178,6 +182,8 @@ fn reset_softints(softints: &mut Vec<Softint>, file: &[SoftintRecord]) -> bool
 
 /// Gives a server the commands of one of a file, if all else is the same and it has as many commands, and answers whether it is.
 fn reset_server(server: &mut Server, file: &ServerRecord) -> bool
+    ensures answer { (result ≡ true) ↔ (server_shape (server_view server.old) ≡ server_shape (records.server_view file.now)) }
+    ensures kept { server_shape (server_view server.new) ≡ server_shape (server_view server.old) }
     ensures same { result ≡ true → server_view server.new ≡ records.server_view file.now }
     ensures source { server.new.source ≡ server.old.source }
     ensures pri { server.new.pri ≡ server.old.pri }
@@ -191,6 +197,7 @@ fn reset_server(server: &mut Server, file: &ServerRecord) -> bool
 
 /// Gives the servers the commands of those of a file, if all else is the same, and answers whether it is.
 fn reset_servers(servers: &mut Vec<Server>, file: &[ServerRecord]) -> bool
+    ensures answer { (result ≡ true) ↔ (map server_shape (map server_view servers.old.items) ≡ map server_shape (map records.server_view file.now)) }
     ensures same { result ≡ true → map server_view servers.new.items ≡ map records.server_view file.now }
     ensures kept { map interrupting (map server_view servers.new.items) ≡ map interrupting (map server_view servers.old.items) }
 {
@@ -326,6 +333,7 @@ impl Bodies {
     ///
     /// Source: project rule.
     pub fn reset(&mut self, softints: &[SoftintRecord], servers: &[ServerRecord]) -> bool
+        ensures answer { (result ≡ true) ↔ AreShaped (map records.softint_view softints.now) (map records.server_view servers.now) self.old }
         ensures same { result ≡ true → self.new ≡ record {
           softints = map records.softint_view softints.now;
           servers = map records.server_view servers.now;

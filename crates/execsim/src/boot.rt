@@ -33,14 +33,14 @@ pub(crate) fn kernel_of<S: ListSpace>(
     ensures machine { IsMachine file.now }
 {
     let tasks = file.tasks();
-    let (sched, programs) = tasks_of(alloc, tasks, file.quantum())?;
+    let (sched, inits, programs) = tasks_of(alloc, tasks, file.quantum())?;
     let memory = heap_of(alloc, file)?;
     let (bodies, ints) = interrupts_of(alloc, file)?;
-    Ok(Kernel::new(sched, programs, memory, bodies, ints))
+    Ok(Kernel::new(sched, inits, programs, memory, bodies, ints))
 }
 
 /// The names and priorities of the tasks, in the order of the file.
-pub(crate) fn inits_of(alloc: Global, tasks: &[TaskRecord]) -> Result<Vec<TaskInit>, AllocError>
+fn inits_of(alloc: Global, tasks: &[TaskRecord]) -> Result<Vec<TaskInit>, AllocError>
     ensures names { IfOk result (λ v. map (λ t. t.name.bytes) v.items ≡ map (λ t. t.name.bytes) tasks.now) }
     ensures pris { IfOk result (λ v. map (λ t. t.pri) v.items ≡ map (λ t. t.pri) tasks.now) }
     ensures count { IfOk result (λ v. length v.items ≡ length tasks.now) }
@@ -53,19 +53,6 @@ pub(crate) fn inits_of(alloc: Global, tasks: &[TaskRecord]) -> Result<Vec<TaskIn
         })?;
     }
     Ok(inits)
-}
-
-/// The schedule of these tasks: none was added.
-fn sched_of<S: ListSpace>(
-    alloc: Global,
-    tasks: &[TaskRecord],
-    quantum: u8,
-) -> Result<Sched<S>, AllocError>
-    requires { length tasks.now ≤ 4096 }
-    ensures { IfOk result (λ sched. sched ≡ unstarted (length tasks.now) (map (λ t. t.pri) tasks.now) (map (λ t. t.name.bytes) tasks.now) quantum) }
-{
-    let inits = inits_of(alloc, tasks)?;
-    Sched::new(alloc, &inits, quantum)
 }
 
 /// The program of a task at its first command.
@@ -87,19 +74,21 @@ fn programs_of(alloc: Global, tasks: &[TaskRecord]) -> Result<Vec<Program>, Allo
     Ok(programs)
 }
 
-/// The schedule and the programs of these tasks.
+/// The schedule and the programs of these tasks, and their names and priorities.
 fn tasks_of<S: ListSpace>(
     alloc: Global,
     tasks: &[TaskRecord],
     quantum: u8,
-) -> Result<(Sched<S>, Vec<Program>), AllocError>
+) -> Result<(Sched<S>, Vec<TaskInit>, Vec<Program>), AllocError>
     requires few { length tasks.now ≤ 4096 }
     ensures schedule { IfOk result (λ made. made.0 ≡ unstarted (length tasks.now) (map (λ t. t.pri) tasks.now) (map (λ t. t.name.bytes) tasks.now) quantum) }
-    ensures programs { IfOk result (λ made. made.1.items ≡ map new_program (map task_view tasks.now)) }
+    ensures room { IfOk result (λ made. length made.1.items ≡ length tasks.now) }
+    ensures programs { IfOk result (λ made. made.2.items ≡ map new_program (map task_view tasks.now)) }
 {
-    let sched = sched_of(alloc, tasks, quantum)?;
+    let inits = inits_of(alloc, tasks)?;
+    let sched = Sched::new(alloc, &inits, quantum)?;
     let programs = programs_of(alloc, tasks)?;
-    Ok((sched, programs))
+    Ok((sched, inits, programs))
 }
 
 /// The priorities of the software interrupts, in the order of the file.

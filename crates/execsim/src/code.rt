@@ -1,5 +1,5 @@
 //! The commands of the bodies are copied from the file when the machine is made, and when it is reset.
-ghost use Rattle.std.specs.Prelude.{◌≡◌, true, false, IfOk};
+ghost use Rattle.std.specs.Prelude.{◌≡◌, ◌↔◌, length, true, false, IfOk};
 
 use script::Command;
 use std::alloc::{AllocError, Global};
@@ -15,6 +15,7 @@ pub fn copied_code(alloc: Global, code: &[Command]) -> Result<Vec<Command>, Allo
 
 /// Copies the commands of a body over others, if they are as many, and answers whether they are.
 pub fn copy_code(code: &[Command], copied: &mut Vec<Command>) -> bool
+    ensures answer { (result ≡ true) ↔ (length copied.old.items ≡ length code.now) }
     ensures same { result ≡ true → copied.new.items ≡ code.now }
     ensures kept { result ≡ false → copied.new.items ≡ copied.old.items }
 {

@@ -1,10 +1,10 @@
 //! The machine without its failure to write. The methods here touch its fields, and have one equation each.
-ghost use Rattle.std.specs.Prelude.{◌≡◌, ◌≤◌, ℕ, List, length, true, false, None, slice_index_or, slice_set, map, replicate, take, option_map};
+ghost use Rattle.std.specs.Prelude.{◌≡◌, ◌↔◌, ◌≤◌, ℕ, List, length, true, false, None, slice_index_or, slice_set, map, replicate, take, option_map};
 ghost use Rattle.exectrace.specs.Short.{short_argument};
 ghost use Rattle.scheduler.specs.Schedule.{name_of, task_count};
 ghost use Rattle.execmodel.specs.{State.booted, State.program_of, State.shared_variables, Calls.content, Calls.evaluated, Calls.stored, Calls.goes_on, Calls.keeps, Signals.is_task};
 ghost use Rattle.script.specs.{Commands.argument_view, Machines.IsMachine};
-ghost use Rattle.execsim.specs.{Agreement.Agrees, Callers.HasTask, Time.HasTimeFor, Views.IsFor, Views.call_view};
+ghost use Rattle.execsim.specs.{Agreement.Agrees, Callers.HasTask, Resetting.HasRoomFor, Time.HasTimeFor, Views.IsFor, Views.call_view};
 
 use crate::bodies::Bodies;
 use crate::call::Call;
@@ -27,6 +27,8 @@ const SHARED_VARIABLES: usize = 64;
 #[derive(Drop)]
 pub struct Kernel<S: ListSpace> {
     pub(crate) sched: Sched<S>,
+    // Room for the names and priorities of the tasks, for `reset`.
+    inits: Vec<TaskInit>,
     pub(crate) programs: Vec<Program>,
     pub(crate) shared: [u32; SHARED_VARIABLES],
     pub(crate) memory: Heap<S>,
@@ -50,19 +52,21 @@ impl<S: ListSpace> Model for Kernel<S> {
       stopped = k.stopped;
     } };
 
-    ghost invariant = { λ k. (length k.programs.items ≡ length k.sched.queue.states) × (length k.programs.items ≤ 4096) × IsFor k.bodies k.ints };
+    ghost invariant = { λ k. (length k.programs.items ≡ length k.sched.queue.states) × (length k.inits.items ≡ length k.programs.items) × (length k.programs.items ≤ 4096) × IsFor k.bodies k.ints };
 }
 
 impl<S: ListSpace> Kernel<S> {
     /// The machine of these tasks, this memory and these interrupts, with every shared variable 0.
     pub(crate) fn new(
         sched: Sched<S>,
+        inits: Vec<TaskInit>,
         programs: Vec<Program>,
         memory: Heap<S>,
         bodies: Bodies,
         ints: Ints<S>,
     ) -> Self
         requires each { length programs.items ≡ task_count sched }
+        requires room { length inits.items ≡ length programs.items }
         requires few { length programs.items ≤ 4096 }
         requires interrupts { IsFor bodies ints }
         ensures { result ≡ record {
@@ -76,6 +80,7 @@ impl<S: ListSpace> Kernel<S> {
     {
         Kernel {
             sched,
+            inits,
             programs,
             shared: [0; SHARED_VARIABLES],
             memory,
@@ -85,21 +90,21 @@ impl<S: ListSpace> Kernel<S> {
         }
     }
 
-    /// Makes the machine that of a file before its start, if it is as large, and answers whether it is. The names and priorities of the tasks are put
-    /// together in `inits`.
-    pub(crate) fn reset(&mut self, inits: &mut Vec<TaskInit>, file: &MachineFile) -> bool
+    /// Makes the machine that of a file before its start, if it is as large, and answers whether it is.
+    pub(crate) fn reset(&mut self, file: &MachineFile) -> bool
+        ensures answer { (result ≡ true) ↔ HasRoomFor file.now self.old }
         ensures agrees { result ≡ true → Agrees self.new (booted file.now) }
         ensures time { result ≡ true → HasTimeFor 1000000 self.new }
         ensures machine { IsMachine file.now }
     {
         let tasks = file.tasks();
-        if !reset_sched(&mut self.sched, inits, tasks, file.quantum())
-            || !reset_programs(&mut self.programs, tasks)
+        if !reset_programs(&mut self.programs, tasks)
             || !reset_heap(&mut self.memory, file)
             || !self.bodies.reset(file.softints(), file.servers())
         {
             return false;
         }
+        reset_sched(&mut self.sched, &mut self.inits, tasks, file.quantum());
         self.ints.reset();
         self.shared = [0; SHARED_VARIABLES];
         self.stopped = false;

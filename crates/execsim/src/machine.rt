@@ -1,16 +1,16 @@
 //! The machine as its callers see it: made from a machine file, started once, and given one event after another.
-ghost use Rattle.std.specs.Prelude.{◌≡◌, ◌+◌, ℕ, true, false, sum_by, IfOk, IsOk};
+ghost use Rattle.std.specs.Prelude.{◌≡◌, ◌↔◌, ◌+◌, ℕ, true, false, sum_by, IfOk, IsOk};
 ghost use Rattle.exectrace.specs.{Sink.Writes, Trace.printed, declared.sinks.SinkState.SinkState};
 ghost use Rattle.script.specs.Events.{event_ticks};
 ghost use Rattle.execmodel.specs.{State.State, State.booted, State.andthen, Step.starts, Step.event, Step.events};
-ghost use Rattle.execsim.specs.{Advancing.Advances, Advancing.Ends, Agreement.Agrees, Headline.Acts, Headline.StaysFailed, Headline.Finishes, Headline.flow_of, Playing.Plays, Reached.QueuesAgree, Time.HasTimeFor};
+ghost use Rattle.execsim.specs.{Advancing.Advances, Advancing.Ends, Agreement.Agrees, Headline.Acts, Headline.StaysFailed, Headline.Finishes, Headline.flow_of, Playing.Plays, Reached.QueuesAgree, Resetting.HasRoomFor, Time.HasTimeFor};
 
 mod feeding;
 mod queues;
 mod readers;
 mod standing;
 
-use crate::boot::{inits_of, kernel_of};
+use crate::boot::kernel_of;
 use crate::kernel::Kernel;
 use execlist::space::ListSpace;
 use exectrace::sinks::written;
@@ -19,7 +19,6 @@ pub use readers::{MachineView, TaskView};
 use script::{Event, MachineFile};
 use std::alloc::{AllocError, Global};
 use std::marker::Model;
-use taskq::TaskInit;
 
 /// Whether a machine goes on.
 #[derive(Clone, Copy, PartialEq, Eq)]
@@ -34,8 +33,6 @@ pub enum Flow {
 #[derive(Drop)]
 pub struct Machine<S: ListSpace> {
     kernel: Kernel<S>,
-    // Room for the names and priorities of the tasks, for `reset`.
-    inits: Vec<TaskInit>,
     failed: bool,
     // If it is true, nothing is due, so that a plain word is a whole step.
     rests: bool,
@@ -100,11 +97,9 @@ impl<S: ListSpace> Machine<S> {
         ensures whole { IfOk result (λ m. m.failed ≡ false) }
         ensures time { IfOk result (λ m. HasTimeFor 1000000 m.seen) }
     {
-        let inits = inits_of(alloc, file.tasks())?;
         let kernel = kernel_of(alloc, file)?;
         Ok(Machine {
             kernel,
-            inits,
             failed: false,
             rests: false,
         })
@@ -119,12 +114,13 @@ impl<S: ListSpace> Machine<S> {
     ///
     /// Source: project rule.
     pub fn reset(&mut self, file: &MachineFile) -> bool
+        ensures answer { (result ≡ true) ↔ HasRoomFor file.now self.old.seen }
         ensures agrees { result ≡ true → Agrees self.new.seen (booted file.now) }
         ensures whole { result ≡ true → self.new.failed ≡ false }
         ensures time { result ≡ true → HasTimeFor 1000000 self.new.seen }
         ensures other { result ≡ false → self.new.failed ≡ true }
     {
-        let is_reset = self.kernel.reset(&mut self.inits, file);
+        let is_reset = self.kernel.reset(file);
         self.failed = !is_reset;
         self.rests = false;
         is_reset

@@ -1,9 +1,9 @@
 //! What a task executes: its commands, its own variables, and the call that it waits in.
-ghost use Rattle.std.specs.Prelude.{◌≡◌, ◌<◌, ◌≤◌, ◌+◌, map, length, true, Some, None, slice_get, slice_set, slice_index_or, option_copied, option_map, OnErr, OnOk};
+ghost use Rattle.std.specs.Prelude.{◌≡◌, ◌↔◌, ◌<◌, ◌≤◌, ◌+◌, map, length, true, Some, None, slice_get, slice_set, slice_index_or, option_copied, option_map, OnErr, OnOk};
 ghost use Rattle.exectrace.specs.Short.{short_argument};
 ghost use Rattle.execmodel.specs.{Calls.argument, Calls.name_argument, Feeding.longer, State.begun_with};
 ghost use Rattle.script.specs.Commands.{command_view};
-ghost use Rattle.execsim.specs.Views.{call_view};
+ghost use Rattle.execsim.specs.{Resetting.command_count, Views.call_view};
 
 use crate::call::Call;
 use crate::code::copy_code;
@@ -122,7 +122,9 @@ impl Program {
     ///
     /// Source: project rule.
     pub fn reset(&mut self, code: &[Command], starts: bool) -> bool
-        ensures { result ≡ true → self.new ≡ begun_with (map command_view code.now) starts }
+        ensures answer { (result ≡ true) ↔ (command_count self.old ≡ length code.now) }
+        ensures same { result ≡ true → self.new ≡ begun_with (map command_view code.now) starts }
+        ensures kept { command_count self.new ≡ command_count self.old }
     {
         if !copy_code(code, &mut self.code) {
             return false;

@@ -91,7 +91,7 @@ impl Asking<'_, '_> {
         let alloc = self.alloc;
         let address = self.refused.value(0);
         if self.refused.value(1) == 0 {
-            return Ok(Fault::of(1, format!(in alloc; "is no size of a block")?, true));
+            return Ok(Fault::of(1, format!(in alloc; "is not the size of a block")?, true));
         }
         let Some(block) = self.machine.block(address) else {
             let unfound = self.unfound_text(address)?;
@@ -231,7 +231,7 @@ impl Asking<'_, '_> {
     fn request_fault(&self, row: Row) -> Result<Fault, AllocError> {
         let number = row.wanted.len().saturating_sub(1);
         let why = match request_at(self.machine, self.refused.value(number)) {
-            None => "is no request that this call may have",
+            None => "is not a request that this call accepts",
             Some(request) => match request.state {
                 ReqState::UnderWay => {
                     "is a request in progress; WaitIO waits until it is done, AbortIO ends it"

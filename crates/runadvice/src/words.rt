@@ -75,7 +75,7 @@ const ALLOC_BITS: u32 = 0x0001_0007;
 const AVAIL_BITS: u32 = 0x000A_0000;
 
 /// Why an answer is 0 of a call that makes an object.
-const NO_ROOM: &str = ", since no memory fitted or as many as pool allows were there";
+const NO_ROOM: &str = ", because no gap was large enough or the pool was used up";
 
 /// Why an answer is 0 of a call that looks at the end of a list.
 const EMPTY: &str = ", when the list was empty";
@@ -255,7 +255,7 @@ fn memory_row(word: MemoryWord) -> Row {
 fn port_row(word: PortWord) -> Row {
     match word {
         PortWord::CreateMsgPort => Row::of(&[]).taking(
-            ", since no signal was free, no memory fitted or as many as pool allows were there",
+            ", because no signal was free, no gap was large enough or the pool was used up",
         ),
         PortWord::DeleteMsgPort => Row::of(&[PORT]).or_none(0).freeing().or(Flaw::NeededPort),
         PortWord::AddPort => {
@@ -306,7 +306,7 @@ fn library_row(word: LibraryWord) -> Row {
 fn request_row(word: RequestWord) -> Row {
     match word {
         RequestWord::CreateIORequest => Row::of(&[PORT]).or_none(0).zero(
-            ", since its port was 0, no memory fitted or as many as pool allows were there",
+            ", because its port was 0, no gap was large enough or the pool was used up",
         ),
         RequestWord::DeleteIORequest => {
             Row::of(&[REQUEST])

@@ -16,16 +16,18 @@ fn fed(
 ) -> Result<Option<(Vec<u8>, Option<usize>, Option<usize>)>, AllocError> {
     let mut machine: Machine<LinkSpace> = Machine::boot(alloc, file)?;
     let mut out = WriteSink::new(Vec::<u8>::new(alloc));
-    if machine.start(&mut out).is_err() {
-        return Ok(None);
+    match machine.start(&mut out) {
+        Err(_) => Ok(None),
+        Ok(_) => {
+            let before = machine.at_end();
+            machine.feed(0, command)?;
+            let after = machine.at_end();
+            match machine.event(Event::Run(1), &mut out) {
+                Err(_) => Ok(None),
+                Ok(_) => Ok(Some((out.into_inner(), before, after))),
+            }
+        }
     }
-    let before = machine.at_end();
-    machine.feed(0, command)?;
-    let after = machine.at_end();
-    if machine.event(Event::Run(1), &mut out).is_err() {
-        return Ok(None);
-    }
-    Ok(Some((out.into_inner(), before, after)))
 }
 
 #[test]
