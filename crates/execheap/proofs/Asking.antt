@@ -65,7 +65,7 @@ module _ {t : Tabled} (sound : IsSound t) (formed : IsWellFormed t.memory.region
     settled_asked = settled_after size reqs (lent t.libs t.memory) (settled_now sound formed)
 
     module _ (place : Option ℕ) (is : place ≡ fit t.memory.regions asked.memory.blocks size reqs) where
-      -- a block goes if it fits once libraries were asked
+      -- a block is placed where it fits once libraries were expunged
       pub place_asked : place ≡ fit asked.memory.regions asked.memory.blocks size reqs
       place_asked = is ∙ ap (λ regions. fit regions asked.memory.blocks size reqs) (sym settled_asked.regions)
 

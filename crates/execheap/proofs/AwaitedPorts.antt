@@ -1,4 +1,4 @@
--- A port that a request under way has as its reply port: by number a slot of the requests has it, by address a block does.
+-- A port that a request in progress has as its reply port: by number a slot of the requests has it, by address a block does.
 use Rattle.std.proofs.Common.{◌≡◌, ℕ, zero, suc, List, [], ◌∷◌, Bool, true, false, map, refl, ap, sym, ◌∙◌, Some, None, Option, is_some, ◌||◌, nat_eq, ◌&&◌, unwrap_or}
 use Rattle.std.specs.List.{list_any}
 use Rattle.memlist.specs.Blocks.{Blocks}
@@ -10,7 +10,7 @@ use Rattle.execheap.specs.{declared.tag.Tagged.Tagged, Tags.tag_of, Tags.tagged,
 use Rattle.execheap.specs.declared.tag.Tagged.TheVariants as tag
 use Rattle.execheap.proofs.{Linked.any_found, Linked.some_is, Matching.number_small, Stepping.shape_lives, Tagging.read_tag}
 
--- what a tag names is a request under way with that reply port
+-- what a tag names is a request in progress with that reply port
 abbrev Replies : ℕ → Numbered → Tagged → Bool
 Replies port s x = replies_to port (shown_tagged s x)
 
@@ -58,7 +58,7 @@ and_false : (b : Bool) → b && false ≡ false
 and_false true = refl
 and_false false = refl
 
--- a number without a request has none under way
+-- a number without a request has none in progress
 way_told : (port : ℕ) (o : Option TimerRequest) → (nat_eq (unwrap_or o (idle_request 0)).port port && is_under_way (unwrap_or o (idle_request 0))) ≡ is_under_way_at port o
 way_told port None = and_false (nat_eq 0 port)
 way_told port (Some q) = refl
@@ -83,7 +83,7 @@ module _ {s : Numbered} (sound : IsSound s) (port : ℕ) where
       ∙ way_told port (slot s.requests.slots r) ∙ way)
       (sound.table.matched.complete variant.Request r a.0 a.1)
 
-  -- a request under way has the port as reply port by address if one has by number
+  -- a request in progress has the port as reply port by address if one has by number
   pub awaited_shown : is_awaited_at port (shown_heap s) ≡ list_any (is_under_way_at port) s.requests.slots
   unfolding is_awaited_at shown_heap
   awaited_shown =

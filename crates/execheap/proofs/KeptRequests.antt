@@ -16,7 +16,7 @@ use Rattle.execheap.proofs.{Front.front_step, KeptPorts.IsOwn, Matching.number_p
 
 -- ---- one request is another
 
--- the same requests live, and have the same reply ports; request r is under way now or not, and all others as they were
+-- the same requests live, and have the same reply ports; request r is in progress now or not, and all others as they were
 pub record IsWritten (way : Bool) (r : ℕ) (old new : Pooled TimerRequest) : Type 0 where
   pub same : shape new ≡ shape old
   pub here : is_way_at r new ≡ way
@@ -55,7 +55,7 @@ written_then a b = record {
 -- ---- the objects
 
 module _ {s : Numbered} (kept : IsKept s) where
-  -- a request is held and waits if it is under way
+  -- a request is held and waits if it is in progress
   pub request_live : (r : ℕ) → IsTrue (is_request r s.requests) → IsSome (slot (places variant.Request s) r)
   request_live r lives = shape_lives (pool_of variant.Request s.table) s.requests (kept.in_step variant.Request) r ∙ lives
 
@@ -173,7 +173,7 @@ module _ {s : Numbered} (sound : IsSound s) where
   pub message_there : (r m : ℕ) → IsTrue (is_request r s.requests) → m ≡ message_of_request r s → IsTrue (is_message m s.ports)
   message_there r m lives is = ap (λ n. is_message n s.ports) is ∙ kept.in_time.made r (request_small r lives)
 
-  -- it is in no port if the request is under way
+  -- it is in no port if the request is in progress
   pub under_way_loose : ports.IsSound s.ports → (r m : ℕ) → IsTrue (is_request r s.requests) → IsTrue (is_under_way (request_at r s.requests))
       → m ≡ message_of_request r s → home s.ports.places m ≡ None
   under_way_loose held r m lives way is =

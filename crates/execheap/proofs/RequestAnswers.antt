@@ -117,7 +117,7 @@ module _ {s : Numbered} (sound : IsSound s) (held : ports.IsSound s.ports) (form
     way_done true = refl
     way_done false = refl
 
-    -- one that waits is under way
+    -- one that waits is in progress
     looked_until : (due : Due)
         → numbers.looked_for (request_at r (begun_until due quick r s).requests) bit ≡ awaited_for request (shown_heap (begun_until due quick r s))
     looked_until due =

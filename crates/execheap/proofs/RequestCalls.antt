@@ -86,7 +86,7 @@ module _ {s : Numbered} (sound : IsSound s) (r : ℕ) (lives : IsTrue (is_reques
       ∙ begun_here sound r lives (begun quick system (request_at r s.requests)) (begun_port quick system (request_at r s.requests))
       ∙ ap (λ n. begun quick n (request_at r s.requests)) told
 
-  -- the port if its reply is put
+  -- the port where its reply is put
   answers : port_number (reply_port (request_at r start)) s.table ≡ answering (begun_as quick r s) s
   answers = ap (λ q. port_number (reply_port q) s.table) holds_now
 
@@ -190,7 +190,7 @@ both_true true true e = (refl, refl)
 both_true true false e = let bad : false ≡ true = e in cc
 both_true false b e = let bad : false ≡ true = e in cc
 
--- one that waits lives and is under way
+-- one that waits lives and is in progress
 pub waiting_under_way : {s : Numbered} → IsKept s → (r : ℕ) → is_waiting r s.timing.timer ≡ true
     → IsTrue (is_request r s.requests) × IsTrue (is_under_way (request_at r s.requests))
 waiting_under_way {s} kept r waits =

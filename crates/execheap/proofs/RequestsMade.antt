@@ -15,7 +15,7 @@ use Rattle.execheap.proofs.Made.{IsMade, IsFreed, not_new, apart, beside, kept_n
 use Rattle.execheap.proofs.{Beside.public_kept, Beside.timer_beside, Front.front, InTime.IsAlong, KeptRequests.not_way, KeptRequests.request_live, KeptRequests.way_of, MessagePlaces.request_standing, MessagePlaces.standing_new, MessagePlaces.standing_left, RequestCalls.both_true}
 
 module _ {s : Numbered} (kept : IsKept s) where
-  -- one that waits lives, and is under way
+  -- one that waits lives, and is in progress
   waiting_way : (r : ℕ) → is_waiting r s.timing.timer ≡ true → is_way_at r s.requests ≡ true
   waiting_way r there = sym (kept.in_time.waits r) ∙ there
 
@@ -31,7 +31,7 @@ same s t q pool variant.Request ne = absurd (ne refl)
 same s t q pool variant.Message ne = ap (λ m. Some (shape (front m s.ports.messages))) pool
 same s t q pool _ ne = refl
 
--- the other requests stay, and what is under way if what was at that number is not, and is not then
+-- the other requests stay, and what is in progress if what was at that number is not, and is not then
 along : (s : Numbered) (n : ℕ) (t : Tabled) (q : Pooled TimerRequest) (o : Option TimerRequest) → slot q.slots n ≡ o → way_of o ≡ false → is_way_at n s.requests ≡ false → ((r : ℕ) → r ≢ n → slot q.slots r ≡ slot s.requests.slots r)
     → ((r p : ℕ) → home s.ports.places (message_of_request r s) ≡ Some p → r ≢ n) → IsAlong s (changed s t q)
 along s n t q o now idle was others queued = record {

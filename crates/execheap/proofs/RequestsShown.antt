@@ -376,7 +376,7 @@ module _ {s : Numbered} (sound : IsSound s) (held : ports.IsSound s.ports) (form
   -- ---- a request that is begun
 
   module _ (quick : Bool) where
-    -- it is under way and waits
+    -- it is in progress and waits
     waits_shown : (due : Due) → shown_memory (begun_until due quick r s) ≡ record (shown_memory s) {
       heap = model.under_way quick s.timing.timer.system request (shown_heap s);
       timer = begins_to_wait request due (shown_timer s);

@@ -90,7 +90,7 @@ object_numbered s kind a number is = object_at_shown s a ∙ by_block (block_at 
   by_block None e = let bad : false ≡ true = ap is_some e in cc
   by_block (Some block) e = ap Some (by_tag (tagged block.1) e)
 
--- ---- where an object goes
+-- ---- where an object is placed
 
 count_step : {A B : Type 0} (b : Bool) (x : A) (y : B) (xs : List A) (ys : List B) → length ys ≡ length xs → length (cond b (y ∷ ys) ys) ≡ length (cond b (x ∷ xs) xs)
 count_step true x y xs ys e = ap suc e
@@ -132,7 +132,7 @@ allowed_shown s sound kind stocked = by_next (next_number (pool_of kind s.table)
     taken_below (slots_of kind s.table) n (vacant n next) (known n next),
   ))
 
--- a new object goes if the model has it
+-- a new object is placed where the model places it
 pub place_shown : (s : Numbered) → IsSound s.table → (kind : Kind) → IsStocked (pool_of kind s.table)
     → place_for_object (test_of kind) (size_of kind) (shown_memory s) ≡ address_of (next_object kind s.table)
 unfolding place_for_object

@@ -49,7 +49,7 @@ taken_by_state Replied request heap = reply_taken request heap
 unfoldable pub taken_if_replied : ℕ → Heap → Heap
 taken_if_replied request heap = taken_by_state (request_of request heap).state request heap
 
--- what a task gets that looks for a request: the number of the signal to wait for, if it is under way, and else its error
+-- what a task gets that looks for a request: the number of the signal to wait for, if it is in progress, and else its error
 unfoldable pub awaited_for : ℕ → Heap → Awaited
 awaited_for request heap =
     if is_under_way (request_of request heap) then awaited.UnderWay (port_of (request_of request heap).port heap).bit
@@ -64,11 +64,11 @@ ended_if (Some request) memory = ended (pos 0) request memory
 abbrev pub finishing : Heap → Option ℕ → Option (ℕ × Action)
 finishing heap request = option_map (λ (r : ℕ). (r, acting_finished r heap)) request
 
--- a request that is under way is done with IOERR_ABORTED; any other stays as it is
+-- a request that is in progress is done with IOERR_ABORTED; any other stays as it is
 unfoldable pub aborted : ℕ → Memory → Memory
 aborted request memory = if is_under_way (request_of request memory.heap) then ended (negsuc 1) request memory else memory
 
--- what is to be done for the reply of a request that is aborted, if it is under way
+-- what is to be done for the reply of a request that is aborted, if it is in progress
 unfoldable pub aborting : ℕ → Heap → Option Action
 aborting request heap = if is_under_way (request_of request heap) then Some (acting_finished request heap) else None
 

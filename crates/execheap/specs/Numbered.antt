@@ -111,7 +111,7 @@ shown_memory s = record {
 
 -- ---- what always holds
 
--- a number holds a request that is under way
+-- a number holds a request that is in progress
 abbrev pub is_way_at : ℕ → Pooled TimerRequest → Bool
 is_way_at r requests = is_request r requests && is_under_way (request_at r requests)
 
@@ -140,7 +140,7 @@ pub record IsApt (ports : MessagePorts) (sems : Semaphores) (tasks : ℕ) : Type
   pub own_signals : (p : ℕ) → IsTrue (is_port p ports) → 16 ≤ (port_at p ports).bit
   pub each_task : length sems.places ≡ tasks
 
--- Each request has its message from the beginning on. Just a request that is under way is held as a message and waits for the timer; one whose
+-- Each request has its message from the beginning on. Just a request that is in progress is held as a message and waits for the timer; one whose
 -- reply is queued lives, and the port that has it is its reply port. The clock has room for the longest time of a request, and system time
 -- is ahead of it by no more than such a time.
 pub record IsInTime (s : Numbered) : Type 0 where

@@ -31,12 +31,12 @@ abbrev pub put_at : Option ℕ → ℕ → MessagePorts → MessagePorts
 put_at None m ports = let_go m ports
 put_at (Some p) m ports = posted nt_replymsg p m (let_go m ports)
 
--- what is to be done if a reply arrives at a port, if there is one
+-- what is to be done when a reply arrives at a port; nothing if no port is given
 abbrev pub acting_at : Option ℕ → MessagePorts → Action
 acting_at None ports = action.Nothing
 acting_at (Some p) ports = arrival_action (port_at p ports)
 
--- the port if the reply of a request is put that finishes
+-- the port where the reply of a request is put when it finishes
 abbrev pub answering : Request → Numbered → Option ℕ
 answering q s = port_number (reply_port q) s.table
 
@@ -65,7 +65,7 @@ begun_until due quick r s = record s {
   timing = on_timer (begins_to_wait r due) s.timing;
 }
 
--- request r is begun: it is under way, or it is done at once, if system time may become another
+-- request r is begun: it is in progress, or it is done at once, if system time may become another
 abbrev pub begun_so : Begun → Bool → ℕ → Numbered → Numbered
 begun_so (Queue due) quick r s = begun_until (AtClock due) quick r s
 begun_so (Until time) quick r s = begun_until (AtSystem time) quick r s
@@ -84,7 +84,7 @@ acting_so (NewTime time) quick r s = acting_at (answering (begun_as quick r s) s
 
 -- ---- finished
 
--- request r, which is under way, is done, with an error, and waits no more
+-- request r, which is in progress, is done, with an error, and waits no more
 abbrev pub ended : ℤ → ℕ → Numbered → Numbered
 ended error r s = on_timing (waits_no_more r) (done_with error (request_at r s.requests) r s)
 

@@ -5,6 +5,6 @@
 pub enum Awaited {
     /// The request is done, with this error; its reply, if it had one, is taken.
     Done(i8),
-    /// The request is under way: its reply port signals the task by the signal of this number (0 to 31).
+    /// The request is in progress: its reply port signals the task by the signal of this number (0 to 31).
     UnderWay(u32),
 }

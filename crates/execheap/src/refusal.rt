@@ -12,12 +12,12 @@ pub enum Refusal {
     /// No live object of the kind begins at an address.
     #[error("no object of the kind begins there")]
     Handle,
-    /// A node, a message, a port or the reply of a request is linked if it must not be, or the other way; or a list that is to be freed
-    /// holds nodes.
+    /// A node, a message, a port or the reply of a request is linked where it must not be, or is not linked
+    /// where it must be; or a list that is to be freed holds nodes.
     #[error("linked where it must not be, or the other way")]
     Link,
-    /// A port that is to be freed holds messages, is public or is the reply port of a request under way; or a port to wait at is not one that
-    /// signals the caller.
+    /// A port that is to be freed holds messages, is public or is the reply port of a request in progress; or a port to wait at does not
+    /// signal the caller.
     #[error("a port in use, or not the caller's to wait at")]
     Port,
     /// A semaphore that is to be freed is owned, one that is to be released is not the caller's, or one is obtained too often.
@@ -26,7 +26,7 @@ pub enum Refusal {
     /// A library that is to be closed is not open.
     #[error("a library that is not open")]
     Lib,
-    /// A request is under way if it must not be, or not begun or not open if it must be.
+    /// A request is in progress where it must not be, or is not begun or not open where it must be.
     #[error("a request under way, not begun or not open")]
     Io,
 }

@@ -207,7 +207,7 @@ impl<S: ListSpace> Libs<S> {
         self.loaded_at(i).is_some()
     }
 
-    /// Answers if a library is loaded, how often it is open, and whether it is to be expunged when it is closed for the last time; none
+    /// Answers, of a loaded library, how often it is open, and whether it is to be expunged when it is closed for the last time; none
     /// if it is not loaded. RKM Libraries, Exec Libraries: `lib_OpenCnt`, `lib_Flags`.
     pub fn loaded_at(&self, i: LibId) -> Option<Loaded>
         ensures { result ≡ loaded_at i self.now }

@@ -17,7 +17,7 @@ abbrev pub IsLoose : ℕ → Heap → Type 0
 IsLoose request heap = (port : ℕ) → IsAway request (messages_of port heap)
 
 -- A request of that content is in order with the ports, and with the requests that wait then: it has the reply port that it had, and exactly if it is
--- under way it waits, once, is in no port, and its reply port lives.
+-- in progress it waits, once, is in no port, and its reply port lives.
 pub record IsRewritten (request : ℕ) (content : TimerRequest) (later : List Queued) (s : State) : Type 0 where
   pub there : is_request_at request s.memory.heap ≡ true
   pub port : content.port ≡ (request_of request s.memory.heap).port
@@ -60,7 +60,7 @@ either_written : (Q : Heap → Type 0) (test : Bool) (request : ℕ) (content : 
 either_written Q true request content heap e same changed = subst (λ h. Q h) (sym (written_is request content heap e)) (changed e)
 either_written Q false request content heap e same changed = subst (λ h. Q h) (sym (written_none request content heap e)) same
 
--- what holds of the blocks, and if a request begins that becomes another, holds if a request is written
+-- what holds of the blocks, and also after a request that begins there becomes another, holds after a request is written
 pub written : (Q : Heap → Type 0) (request : ℕ) (content : TimerRequest) (heap : Heap) → Q heap
     → (is_request_at request heap ≡ true → Q (map (replaced request (Request content)) heap)) → Q (with_request request content heap)
 written Q request content heap same changed = either_written Q (is_request_at request heap) request content heap refl same changed
@@ -259,7 +259,7 @@ found_where (Some p) port heap e = tested (is_port_at p heap) refl e
     tested true is e = (subst (λ k. is_port_at k heap ≡ true) (some_number e) is, e)
     tested false is e = none_some (sym e)
 
--- the port if a reply is put lives, and is the request's
+-- the port where a reply is put lives, and is the request's
 pub answering : (request port : ℕ) (heap : Heap) → answering_port request heap ≡ Some port
     → (is_port_at port heap ≡ true) × ((request_of request heap).port ≡ port)
 unfolding answering_port

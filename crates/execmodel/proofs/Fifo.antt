@@ -71,7 +71,7 @@ gone_none (Some _) may = refl
 
 -- ---- what begins at an address becomes another
 
--- at an address if something without messages begins, that becomes something without messages
+-- at an address where something without messages begins, which becomes something else without messages
 still_none : (address : ℕ) (object : Object) (kind : Object → Bool) (p : ℕ) (heap : Heap) → messages_in object ≡ []
     → ((other : Object) → kind other ≡ true → messages_in other ≡ []) → is_kind kind (object_at address heap) ≡ true
     → messages_of p (map (replaced address object) heap) ≡ messages_of p heap

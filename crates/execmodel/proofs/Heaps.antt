@@ -96,7 +96,7 @@ object_rid_there a address heap apart =
 abbrev pub filled : ℕ → Content → Heap → Heap
 filled address content heap = map (replaced address (Message content)) heap
 
--- if a message begins, it gets the content
+-- where a message begins, it gets the content
 pub content_is : (message : ℕ) (content : Content) (heap : Heap) → is_message_at message heap ≡ true
     → with_content message content heap ≡ filled message content heap
 unfolding with_content

@@ -43,7 +43,7 @@ not_gone None may is = true_is_not_false (sym is)
 not_gone (Some (Library number count delayed)) may is = may
 not_gone (Some _) may is = true_is_not_false (sym is)
 
--- ---- the block at an address if nothing changes
+-- ---- the block at an address where nothing changes
 
 unchanged : (object : Object) (found : Option Block)
     → option_map (λ (block : Block). if false then record block { object = object } else block) found ≡ found

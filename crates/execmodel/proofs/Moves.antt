@@ -23,7 +23,7 @@ use Rattle.execmodel.proofs.{Heaps.rid, Heaps.true_is_not_false, Taking.IsNew, T
 use Rattle.script.specs.declared.alert.Alert.TheVariants as an_alert
 use Rattle.script.specs.declared.alert.Alert.{Alert}
 
--- an object that may be freed: a port has to be empty, a semaphore free, and a request not under way
+-- an object that may be freed: a port has to be empty, a semaphore free, and a request not in progress
 abbrev pub MayGo : Option Object → Type 0
 MayGo (Some (MsgPort port messages)) = first messages ≡ None
 MayGo (Some (Semaphore sem waiters)) = is_owned sem ≡ false
@@ -31,7 +31,7 @@ MayGo (Some (Library number count delayed)) = ⊥
 MayGo (Some (Request content)) = is_under_way content ≡ false
 MayGo _ = Unit {0}
 
--- nothing needs what begins at an address: no request under way has it as reply port, and no port has it
+-- nothing needs what begins at an address: no request in progress has it as reply port, and no port has it
 pub record IsUnneeded (address : ℕ) (heap : Heap) : Type 0 where
   pub unawaited : is_a_port (post_at heap address) ≡ true → is_awaited_at address heap ≡ false
   pub unqueued : is_mail (post_at heap address) ≡ true → is_queued address heap ≡ false

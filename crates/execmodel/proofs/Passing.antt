@@ -59,7 +59,7 @@ gone_none (Some _) may idle = refl
 
 -- ---- what begins at an address becomes another
 
--- at an address if something without messages begins, that becomes something without messages
+-- at an address where something begins for which no task waits, and which becomes something else like that
 still_none : (address : ℕ) (object : Object) (kind : Object → Bool) (p : ℕ) (heap : Heap) → waiters_in object ≡ []
     → ((other : Object) → kind other ≡ true → waiters_in other ≡ []) → is_kind kind (object_at address heap) ≡ true
     → waiters_of p (map (replaced address object) heap) ≡ waiters_of p heap

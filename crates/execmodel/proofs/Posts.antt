@@ -50,14 +50,14 @@ is_mail AMessage = true
 is_mail (ARequest content) = true
 is_mail _ = false
 
--- it may be in the port of an address: a message in any, a request that is not under way in its reply port
+-- it may be in the port of an address: a message in any, a request that is not in progress in its reply port
 abbrev pub may_stand : ℕ → Post → Bool
 may_stand port AMessage = true
 may_stand port (ARequest content) = not (is_under_way content) && nat_eq port content.port
 may_stand port _ = false
 
--- The requests are in order: what is in a port may be there; the reply port of a request that is under way lives; and exactly those that are
--- under way wait for the timer, each once.
+-- The requests are in order: what is in a port may be there; the reply port of a request that is in progress lives; and exactly those that are
+-- in progress wait for the timer, each once.
 pub record AreInOrder (post : ℕ → Post) (waiting : List Queued) : Type 0 where
   pub stands : (who port : ℕ) → may_stand port (post who) ≡ false → IsAway who (messages_at (post port))
   pub lives : (request : ℕ) → is_under_way (asked_at (post request)) ≡ true → is_a_port (post (asked_at (post request)).port) ≡ true
@@ -133,7 +133,7 @@ pub request_there : (request : ℕ) (heap : Heap) → is_request_at request heap
 unfolding is_request_at request_of
 request_there request heap is = found_request (object_at request heap) is
 
--- a request is there that is under way
+-- a request is there that is in progress
 found_under_way : (found : Option Object) → is_under_way (request_of_object found) ≡ true → is_kind is_request found ≡ true
 found_under_way None is = true_is_not_false (sym is)
 found_under_way (Some (Request content)) is = refl
@@ -256,7 +256,7 @@ module _ (old new : ℕ → Post) (waiting : List Queued) (order : AreInOrder ol
           (λ apart. others q apart ∙ order.waits q ∙ ap (λ x. once_if (is_under_way (asked_at x))) (sym (there q apart)));
     }
 
-  -- at an address where neither messages nor a request under way began, and of which no request waits, something else begins that is so
+  -- at an address where neither messages nor a request in progress began, and of which no request waits, something else begins that is so
   module _ (address : ℕ) (x : Post) (is : new address ≡ x) (there : (a : ℕ) → a ≢ address → new a ≡ old a)
       (empty : messages_at (old address) ≡ []) (resting : is_under_way (asked_at (old address)) ≡ false)
       (none : messages_at x ≡ []) (idle : is_under_way (asked_at x) ≡ false)

@@ -223,7 +223,7 @@ passes_shift (Some owner) semaphore t call s memory = (goes_count t call.next s.
 
 -- ---- requests
 
--- a call after which a port acts if a reply arrived, if there is one
+-- a call after which a port acts where a reply arrived, if there is one
 acted_count : (act : Action) (s : State) → length (performed act s).scripts.programs ≡ length s.scripts.programs
 acted_count act s = ap (λ (scripts : Scripts). length scripts.programs) (performed_scripts act s)
 

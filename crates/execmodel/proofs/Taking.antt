@@ -11,7 +11,7 @@ use Rattle.execlib.specs.Libraries.{public_memory}
 use Rattle.execmodel.proofs.{Heaps.rid, Heaps.true_is_not_false, Loaded.base_is_loaded, GivingWay.asking_keeps, GivingWay.asking_for_object_keeps}
 
 -- a new object: an empty list or port, a semaphore that no task owns and none waits for, a library that was at no base, a request that is not
--- under way, or what has no queue
+-- in progress, or what has no queue
 abbrev pub IsNew : Heap → Object → Type 0
 IsNew heap (ListHead nodes) = nodes ≡ []
 IsNew heap (MsgPort port messages) = messages ≡ []

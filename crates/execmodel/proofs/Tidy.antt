@@ -62,7 +62,7 @@ no_mail AMessage port e = true_is_not_false e
 no_mail (ARequest content) port e = true_is_not_false e
 no_mail Other port e = refl
 
--- a port that is not awaited is the reply port of no request under way
+-- a port that is not awaited is the reply port of no request in progress
 abbrev AwaitsNot : ℕ → Option Object → Type 0
 AwaitsNot port found = is_under_way (asked_at (post_of_object found)) ≡ true → (asked_at (post_of_object found)).port ≢ port
 
@@ -142,13 +142,13 @@ module _ (waiting : List Queued) where
       → AreInOrder (post_at (map (λ (entry : ℕ × Block). (entry.0, record entry.1 { object = f entry.1.object })) old)) waiting
   remade_order f same old order = unchanged (post_at old) _ waiting order (post_remade f same old)
 
-  -- if nothing begins for those who post, no request under way has its reply port
+  -- if nothing begins for those who post, no request in progress has its reply port
   other_needless : (old : Heap) (address : ℕ) → post_at old address ≡ Other → AreInOrder (post_at old) waiting
       → (request : ℕ) → is_under_way (asked_at (post_at old request)) ≡ true → (asked_at (post_at old request)).port ≢ address
   other_needless old address is order request under same =
       true_is_not_false (sym (order.lives request under) ∙ ap (λ k. is_a_port (post_at old k)) same ∙ ap is_a_port is)
 
-  -- what is freed is in no port, and is the reply port of no request under way
+  -- what is freed is in no port, and is the reply port of no request in progress
   nowhere : (address : ℕ) (old : Heap) → IsUnneeded address old → AreInOrder (post_at old) waiting → (a : ℕ) → IsAway address (messages_at (post_at old a))
   nowhere address old unneeded order a = tested (is_mail (post_at old address)) refl
     where

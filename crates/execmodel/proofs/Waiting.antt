@@ -1,4 +1,4 @@
--- If tasks wait for semaphores: the one address that is found for a task is the only one if it waits.
+-- Where tasks wait for semaphores: the one address that is found for a task is the only one if it waits.
 use Rattle.std.proofs.Common.{◌≡◌, ◌≢◌, ℕ, suc, ◌+◌, ◌<◌, ◌≤◌, Bool, true, false, List, [], ◌∷◌, Option, None, Some, refl, sym, ap, ◌∙◌, subst, arith, cond, if◌then◌else◌, nat_eq, find, ◌==◌, ◌||◌, option_map, nat_cmp}
 use Rattle.std.specs.{List.list_any, Ordering.eq_by_cmp}
 use Rattle.memlist.specs.{declared.region.Region.Region, Memory.IsWellFormed}

@@ -42,7 +42,7 @@ request_goes None rests is = tt
 request_goes (Some (Request content)) rests is = rests
 request_goes (Some _) rests is = true_is_not_false (sym is)
 
--- a request that is not under way is to be there
+-- a request that is not in progress is to be there
 pub is_resting_there : (request : ℕ) (heap : Heap) → resting_alert request heap ≡ None
     → (is_request_at request heap ≡ true) × (is_under_way (request_of request heap) ≡ false)
 unfolding resting_alert
@@ -68,7 +68,7 @@ goes_there request heap none =
       mail_unneeded request heap (ap is_a_port (request_there request heap there.0)) loose.0,
     )
 
--- ---- a request that is not under way, before and after
+-- ---- a request that is not in progress, before and after
 
 pub resting_rewritten : (request : ℕ) (content : TimerRequest) (s : State) → is_request_at request s.memory.heap ≡ true
     → content.port ≡ (request_of request s.memory.heap).port → is_under_way (request_of request s.memory.heap) ≡ false → is_under_way content ≡ false
@@ -84,7 +84,7 @@ resting_rewritten request content s there port was rests tidy = record {
 
 -- ---- a request begins
 
--- it is there, not under way, is in no port, and its reply port lives
+-- it is there, not in progress, is in no port, and its reply port lives
 pub record MayBegin (request : ℕ) (heap : Heap) : Type 0 where
   pub there : is_request_at request heap ≡ true
   pub rests : is_under_way (request_of request heap) ≡ false

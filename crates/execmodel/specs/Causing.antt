@@ -8,12 +8,12 @@ use Rattle.execmodel.specs.{State.Call, State.State, State.Outcome, Calls.Caller
 abbrev pub does_cause_by : Caller → Call → State → Outcome
 does_cause_by c call s = done_by c call (causes (softint_named (unwrap_or (name_argument 0 call) []) s.bodies.softints) s)
 
--- Cause of a task (autodoc Cause)
+-- Cause, called by task t (autodoc Cause)
 unfoldable pub does_cause : ℕ → Call → State → Outcome
 does_cause t call s = does_cause_by (ByTask t) call s
 
 -- ---- the words of this group
 
--- a word on interrupts of a task, which is Cause
+-- a call of task t on interrupts, by its word: Cause is the only one
 abbrev pub does_interrupts : InterruptWord → ℕ → Call → State → Outcome
 does_interrupts word.Cause t call s = does_cause t call s

@@ -1,5 +1,5 @@
--- Libraries are expunged under low memory if memory is refused (autodoc exec.library/AllocMem: libraries that are not open are expunged; the order of asking:
--- project rule). In version 1 of the rules they do not.
+-- Libraries are expunged under low memory: when memory is refused (autodoc exec.library/AllocMem: libraries that are
+-- not open are expunged; the order of asking: project rule). In version 1 of the rules they are not.
 use Rattle.std.specs.Prelude.{ℕ, Bool, not, ◌&&◌, if◌then◌else◌, nat_eq, is_some, length, List, [], ◌∷◌, Option, None, Some}
 use Rattle.std.specs.List.{range_with_len}
 use Rattle.execmodel.specs.{Blocks.Object, Blocks.Memory, Places.place_for, Objects.is_allowed, Loaded.base_of, Loaded.after_expunge}
@@ -19,18 +19,19 @@ gives_way i memory = gives_way_at (base_of i memory.heap) memory
 abbrev pub asked_one : (size reqs i : ℕ) → Memory → Memory
 asked_one size reqs i memory = if is_some (place_for size reqs memory) then memory else gives_way i memory
 
--- libraries are asked one after another, as long as the block has no place
+-- libraries are expunged under low memory, one after another, until the block has a place
 abbrev pub asked_each : (size reqs : ℕ) → List ℕ → Memory → Memory
 asked_each size reqs [] memory = memory
 asked_each size reqs (i ∷ others) memory = asked_each size reqs others (asked_one size reqs i memory)
 
--- Before a block of that many bytes is taken, if it has no place, all libraries are asked in the order of the file. A block of no bytes is
--- never taken, and nothing is asked for it (project rule). (autodoc AllocMem)
+-- The memory after libraries were expunged for a block of that many bytes, before it is allocated. This happens only in
+-- version 2 of the rules: one library after another, in the order of the file, until the block has a place. A block of
+-- no bytes is never allocated, and no library is expunged for it (project rule). (autodoc AllocMem)
 unfoldable pub after_asking : (size reqs : ℕ) → Memory → Memory
 after_asking size reqs memory =
     if memory.asks && not (nat_eq size 0) then asked_each size reqs (range_with_len 0 (length memory.libraries)) memory else memory
 
--- The same before an object of a kind is made, which takes that many bytes: nothing is asked if the pool does not allow one more (project
--- rule).
+-- The memory after libraries were expunged for a new object of a kind, which takes that many bytes, before it is made.
+-- None is expunged if the pool does not allow one more object (project rule).
 unfoldable pub after_asking_for_object : (Object → Bool) → ℕ → Memory → Memory
 after_asking_for_object kind size memory = if is_allowed kind memory then after_asking size public_memory memory else memory

@@ -1,4 +1,5 @@
--- How interrupts run (RKM Libraries, Exec Interrupts): software interrupts one a step, the servers of a source if it is served.
+-- How interrupts run (RKM Libraries, Exec Interrupts): one software interrupt in a step, and the servers of a source
+-- when it is served.
 use Rattle.std.specs.Prelude.{ℕ, ℤ, zero, suc, pos, false, if◌then◌else◌, List, [], ◌∷◌, Option, None, Some, length, map, filter, slice_index_or}
 use Rattle.std.specs.List.{range_with_len}
 use Rattle.softint.specs.Sources.{source_text}
@@ -12,16 +13,16 @@ use Rattle.execmodel.specs.{State.Bodies, State.State, State.Outcome, State.quie
 
 -- ---- software interrupts
 
--- the software interrupt that is read at a number that the file does not have
+-- what is read as a software interrupt at a number that the file does not have
 abbrev pub no_softint : SoftintData
 no_softint = record { name = []; pri = pos 0; code = [] }
 
--- a software interrupt of the file by its number from 0
+-- software interrupt i of the file, counted from 0
 abbrev pub softint_at : ℕ → Bodies → SoftintData
 softint_at i bodies = slice_index_or bodies.softints i no_softint
 
--- software interrupt i runs: it is not caused any more, so that its body may cause it again, and then its whole body runs (RKM Libraries,
--- Exec Interrupts: software interrupts)
+-- software interrupt i runs: it is no longer caused, so that its body may cause it again; its line is printed, and then
+-- its whole body runs (RKM Libraries, Exec Interrupts: software interrupts)
 unfoldable pub runs_softint : ℕ → State → Outcome
 runs_softint i s =
     let softint = softint_at i s.bodies in
@@ -29,34 +30,35 @@ runs_softint i s =
 
 -- ---- servers
 
--- the server that is read at a number that the file does not have
+-- what is read as a server at a number that the file does not have
 abbrev pub no_server : ServerData
 no_server = record { name = []; source = source.Ports; pri = pos 0; claim = false; code = [] }
 
--- a server of the file by its number from 0
+-- server k of the file, counted from 0
 abbrev pub server_at : ℕ → Bodies → ServerData
 server_at k bodies = slice_index_or bodies.servers k no_server
 
--- the priority of a server of the file by its number from 0
+-- the priority of server k of the file, counted from 0
 abbrev pub server_pri : List ServerData → ℕ → ℤ
 server_pri servers k = pri_at (map (λ (s : ServerData). s.pri) servers) k
 
--- the servers of a source, in the order of the file
+-- the numbers of the servers of a source, in the order of the file
 abbrev pub servers_for : Source → List ServerData → List ℕ
 servers_for asks servers =
     filter (λ k. is_source (slice_index_or servers k no_server).source asks) (range_with_len 0 (length servers))
 
--- the items as they are chosen one after another, each from those that are left: that many of them
+-- at most that many items, each chosen from those that are left: the earliest of greatest key
 unfoldable pub by_choice : ℕ → (ℕ → ℤ) → List ℕ → List ℕ
 by_choice zero key left = []
 by_choice (suc n) key left =
     elim (chosen key left) as (λ (x : Option ℕ). List ℕ) [ None ↦ [] | Some k ↦ k ∷ by_choice n key (without k left) ]
 
--- the servers of a source as they run: by priority, and those of one priority in the order of the file (autodoc exec.library/AddIntServer)
+-- the numbers of the servers of a source, in the order in which they run: by priority, and those of one priority in the
+-- order of the file (autodoc exec.library/AddIntServer)
 unfoldable pub chain_of : Source → List ServerData → List ℕ
 chain_of asks servers = by_choice (length servers) (server_pri servers) (servers_for asks servers)
 
--- server k runs its whole body (RKM Libraries, Exec Interrupts: server chains)
+-- server k runs: its line is printed, and then its whole body runs (RKM Libraries, Exec Interrupts: server chains)
 unfoldable pub runs_server : ℕ → State → Outcome
 runs_server k s =
     let server = server_at k s.bodies in
@@ -70,33 +72,34 @@ runs_chain (k ∷ others) s =
 
 -- ---- serving
 
--- for VERTB the quantum of the running task loses one serving (project rule)
+-- a serving of VERTB takes one from the quantum of the running task; that of another source takes none (project rule)
 abbrev pub serving_counted : Source → Schedule → Schedule
 serving_counted source.Ports schedule = schedule
 serving_counted source.Vertb schedule = quantum_ticked schedule
 serving_counted source.Exter schedule = schedule
 
--- for VERTB all requests finish that are due (project rule)
+-- at a serving of VERTB all requests finish whose time has come; at that of another source none does (project rule)
 abbrev pub finishes_for : Source → State → Outcome
 finishes_for source.Ports s = quiet s
 finishes_for source.Vertb s = finishes_all_due s
 finishes_for source.Exter s = quiet s
 
--- A source is served: its latch is cleared and the serving counted, its line is said, and then the requests finish that are due, and its
--- servers run. (RKM Libraries, Exec Interrupts)
+-- A source is served: its latch is cleared, and a serving of VERTB is taken from the quantum. Its line is printed, then
+-- the requests finish that are due, and then its servers run. (RKM Libraries, Exec Interrupts)
 unfoldable pub serves : Source → State → Outcome
 serves asks s =
     andthen (says (Serve (source_text asks))) (andthen (finishes_for asks) (runs_chain (chain_of asks s.bodies.servers)))
     (on_schedule (serving_counted asks) (on_pending (with_latch_of asks false) s))
 
--- that many servings: while interrupts are allowed and a source asks for it, the one of highest level is served (RKM Libraries, Exec
--- Interrupts)
+-- at most that many servings: while interrupts are allowed and a source asks to be served, the one of highest level is
+-- served (RKM Libraries, Exec Interrupts)
 unfoldable pub servings : ℕ → State → Outcome
 servings zero s = quiet s
 servings (suc n) s =
     elim (next_source s) as (λ (x : Option Source). Outcome)
     [ None ↦ quiet s | Some asks ↦ andthen (serves asks) (unless_stopped (servings n)) s ]
 
--- All that asks is served. There are three sources, and no serving sets a latch, so three servings leave none that may be served.
+-- All sources that ask are served, while interrupts are allowed. There are three sources, and no serving sets a latch,
+-- so three servings leave none that may be served.
 unfoldable pub interrupts : State → Outcome
 interrupts s = servings 3 s

@@ -33,7 +33,7 @@ OverEveryStretch Relates =
 
 -- Messages leave a port in the order in which they came: over every stretch of a run, the messages that the port had at first and those
 -- that were put there, less each that was then taken out, are those that GetMsg answered, in order, followed by those that the port has
--- at last. An address if no port lives has no messages: so the life of a port is a stretch that begins with none.
+-- at last. An address at which no port lives has no messages: so the life of a port is a stretch that begins with none.
 -- The reply of a request is a message too: it is put when the request finishes, and is taken out by WaitIO or DoIO.
 abbrev pub FirstInFirstOut : Type 0
 FirstInFirstOut =
@@ -132,8 +132,8 @@ pub record IsLastRelease (semaphore : ℕ) (s : State) : Type 0 where
   pub owned : (sem_of semaphore s.memory.heap).owner ≡ Some t
   pub once : (sem_of semaphore s.memory.heap).count ≡ 1
 
--- The owner of a semaphore changes only from none, or at the release that brings its count to zero. (An address if no semaphore lives
--- has no owner.)
+-- The owner of a semaphore changes only from none, or at the release that brings its count to zero. (An address at which no semaphore
+-- lives has no owner.)
 abbrev pub OwnersChangeAtTheLastRelease : Type 0
 OwnersChangeAtTheLastRelease =
     (semaphore : ℕ) → OfEveryAction (λ action s o.
@@ -365,13 +365,13 @@ OnlyClosedLibrariesGiveWay =
 abbrev pub times_waiting : ℕ → List Queued → ℕ
 times_waiting request waiting = times request (map (λ (w : Queued). w.request) waiting)
 
--- The reply port of a request that is under way lives, so that whatever finishes the request finds it.
+-- The reply port of a request that is in progress lives, so that whatever finishes the request finds it.
 abbrev pub ReplyPortsLive : Type 0
 ReplyPortsLive =
     (request : ℕ) → InEveryState (λ s.
     is_under_way (request_of request s.memory.heap) ≡ true → is_port_at (request_of request s.memory.heap).port s.memory.heap ≡ true)
 
--- Just the requests that are under way wait, each once.
+-- Just the requests that are in progress wait, each once.
 abbrev pub RequestsUnderWayWait : Type 0
 RequestsUnderWayWait =
     (request : ℕ) → InEveryState (λ s.

@@ -1,4 +1,5 @@
--- Libraries that are loaded (RKM Libraries, Exec Libraries): each begins at an address, its base, and is removed there.
+-- Libraries that are loaded (RKM Libraries, Exec Libraries): each begins at an address, its base, by which it is
+-- removed.
 use Rattle.std.specs.Prelude.{ℕ, Bool, true, false, if◌then◌else◌, nat_eq, find, map, Option, option_map}
 use Rattle.std.specs.Option.{option_map_or}
 use Rattle.execmodel.specs.{Blocks.Object, Blocks.Library, Blocks.Block, Blocks.Heap, Blocks.Memory, Blocks.on_heap, Places.freed, Objects.object_at, Objects.is_kind, Objects.replaced}
@@ -22,7 +23,7 @@ abbrev pub count_in : Object → ℕ
 count_in (Library number count delayed) = count
 count_in _ = 0
 
--- a library is to be expunged when it is closed for the last time; no other object is
+-- a library is to be expunged when it is closed for the last time; another object is not
 abbrev pub delayed_in : Object → Bool
 delayed_in (Library number count delayed) = delayed
 delayed_in _ = false
@@ -39,7 +40,7 @@ count_of base heap = option_map_or count_in (object_at base heap) 0
 unfoldable pub is_delayed : ℕ → Heap → Bool
 is_delayed base heap = option_map_or delayed_in (object_at base heap) false
 
--- the library at a base is open so often, and is to be expunged or not
+-- the library at a base is open that many times, and is to be expunged or not
 unfoldable pub with_library : ℕ → ℕ → Bool → Heap → Heap
 with_library base count delayed heap = map (replaced base (Library (library_number_at base heap) count delayed)) heap
 

@@ -1,5 +1,5 @@
--- If blocks begin and if there is place for more (RKM Libraries, Exec Memory Allocation). The gaps of a region are what its blocks
--- leave; they are stored nowhere.
+-- Where blocks begin, and where there is room for more (RKM Libraries, Exec Memory Allocation). The gaps of a region
+-- are what its blocks leave free; they are not stored.
 use Rattle.std.specs.Prelude.{ℕ, not, nat_eq, map, Option, None, Some}
 use Rattle.std.specs.{Ordering.nat_cmp, FinMap.find, FinMap.put, FinMap.Entries.where_key}
 use Rattle.memlist.specs.{Blocks.Blocks, Fit.fit, Fit.round}
@@ -9,15 +9,15 @@ use Rattle.execmodel.specs.Blocks.{Object, Block, Heap, Memory}
 abbrev pub block_at : ℕ → Heap → Option Block
 block_at address heap = find nat_cmp address heap
 
--- Where the blocks lie, and how long they are: if a block fits, and how much is free, depends on that alone.
+-- Where the blocks are, and how long they are. Where another block fits, and how much is free, depends on that alone.
 abbrev pub extents : Heap → Blocks
 extents heap = map (λ (entry : ℕ × Block). (entry.0, (entry.1.size, 0))) heap
 
--- the address if a block of that many bytes goes, if there is one
+-- the address where a block of that many bytes is placed, if there is one
 abbrev pub place_for : ℕ → ℕ → Memory → Option ℕ
 place_for size reqs memory = fit memory.regions (extents memory.heap) size reqs
 
--- an object gets a block of that many bytes at an address, if there is one
+-- an object gets a block at an address, of that many bytes rounded up; nothing changes if there is no address
 abbrev pub placed : ℕ → Object → Option ℕ → Memory → Memory
 placed size object None memory = memory
 placed size object (Some address) memory =

@@ -1,7 +1,9 @@
--- Message ports and messages (RKM Libraries, Exec Messages and Ports). A port has a sequence of messages in order of arrival; a message
--- is in one port at most, once. The public ports are a sequence in order of arrival; the one of a name is the earliest among those of
--- greatest priority that have it. An address if no object of the kind begins is the alert HANDLE; a message or a port that is linked
--- if it must not be, or the other way, is the alert LINK; a port in use, or not the caller's to wait at, is the alert PORT (project rule).
+-- Message ports and messages (RKM Libraries, Exec Messages and Ports). A port has a sequence of messages in order of
+-- arrival; a message is in one port at most, once. The public ports are a sequence in order of arrival; the one of a
+-- name is the earliest among those of greatest priority that have it. An address at which no object of the kind begins
+-- is the alert HANDLE; a message that is in a port where it must be in none, or a port that is public where it must not
+-- be, or is not public where it must be, is the alert LINK; a port that is in use, or that does not signal the caller,
+-- is the alert PORT (project rule).
 use Rattle.std.specs.Prelude.{ℕ, ℤ, negsuc, ◌^◌, Bool, true, false, not, ◌&&◌, ◌==◌, if◌then◌else◌, nat_eq, is_some, map, filter, drop, unwrap_or, codes, List, [], ◌∷◌, ◌++◌, Option, None, Some, ⊤}
 use Rattle.std.specs.{List.list_any, Int.cast_signed, Int.w32}
 use Rattle.execlist.specs.{Order.chosen, Order.first, Lists.name_is, Disciplines.by_arrival}
@@ -57,7 +59,7 @@ abbrev pub messages_in : Object → List ℕ
 messages_in (MsgPort port messages) = messages
 messages_in _ = []
 
--- the messages of what begins at an address
+-- the messages of what begins at an address, none if it is not a port
 abbrev pub messages_of_object : Option Object → List ℕ
 messages_of_object None = []
 messages_of_object (Some object) = messages_in object
@@ -80,19 +82,19 @@ content_of_object (Some object) = content_in object
 unfoldable pub content_of : ℕ → Heap → Content
 content_of message heap = content_of_object (object_at message heap)
 
--- a message is queued if a port has it
+-- an entry of the heap is a port that has the message
 abbrev pub has_message : ℕ → ℕ × Block → Bool
 has_message message entry = list_any (λ other. other == message) (messages_in entry.1.object)
 
--- some port has the message or the request
+-- a message, or the reply of a request, is in a port
 unfoldable pub is_queued : ℕ → Heap → Bool
 is_queued message heap = list_any (has_message message) heap
 
--- a port with these messages begins at an address
+-- what begins at an address becomes that port, with these messages
 unfoldable pub with_port : ℕ → Port → List ℕ → Heap → Heap
 with_port address port messages heap = map (replaced address (MsgPort port messages)) heap
 
--- the message that begins at an address gets that content; anything else stays as it is
+-- the message that begins at an address gets that content; if none begins there, nothing changes
 unfoldable pub with_content : ℕ → Content → Heap → Heap
 with_content address content heap =
     if is_message_at address heap then map (replaced address (Message content)) heap else heap
@@ -119,15 +121,15 @@ priority_of_public public = public.key.pri
 abbrev pub is_called : List ℕ → PublicPort → Bool
 is_called name public = name_is public.key.name name
 
--- a port under a name, with a priority
+-- a public port with that name and priority
 abbrev pub under : ℕ → List ℕ → ℤ → PublicPort
 under port name pri = record { port = port; key = record { pri = pri; name = Some name } }
 
--- a port arrives among the public ones (autodocs AddPort and RemPort)
+-- a port becomes public, after those that are (autodocs AddPort and RemPort)
 unfoldable pub made_public : ℕ → List ℕ → ℤ → Memory → Memory
 made_public port name pri memory = record memory { public = memory.public ++ under port name pri ∷ [] }
 
--- a port leaves the public ones
+-- a port is no longer public
 unfoldable pub made_private : ℕ → Memory → Memory
 made_private port memory = record memory { public = filter (λ (public : PublicPort). not (public.port == port)) memory.public }
 
@@ -136,21 +138,23 @@ abbrev pub port_or_none : Option PublicPort → ℕ
 port_or_none None = 0
 port_or_none (Some public) = public.port
 
--- the public port of a name that is the earliest among those of greatest priority, or 0 (autodoc FindPort)
+-- the public port of a name: the earliest among those of greatest priority that have it, or 0 if none has (autodoc
+-- FindPort)
 unfoldable pub found_port : List ℕ → Memory → ℕ
 found_port name memory = port_or_none (chosen priority_of_public (filter (is_called name) memory.public))
 
 -- ---- making and freeing ports
 
--- the bytes of a port: Exec's MsgPort (include file exec/ports.h)
+-- the size of a port in bytes: Exec's MsgPort (include file exec/ports.h)
 abbrev pub port_size : ℕ
 port_size = 34
 
--- the bytes of a message: Exec's Message, and 4 for the word (include file exec/ports.h)
+-- the size of a message in bytes: Exec's Message, and 4 for the word (include file exec/ports.h)
 abbrev pub message_size : ℕ
 message_size = 24
 
--- the caller gets a port at an address, and the signal of that number; if either is lacking nothing changes
+-- CreateMsgPort is done: the caller gets a port at that address, and the signal of that number, and the address is
+-- returned; if either is not given, nothing changes and 0 is returned
 abbrev pub port_created : ℕ → Call → Option ℕ → Option ℕ → State → Outcome
 port_created t call None place s = answered t call 0 s
 port_created t call (Some bit) None s = answered t call 0 s
@@ -158,32 +162,34 @@ port_created t call (Some bit) (Some address) s =
     answered t call address
     (on_schedule (allocates t (negsuc 0)) (on_memory (placed port_size (MsgPort (new_port t bit) []) (Some address)) s))
 
--- the memory before a port is made for a task that has a signal left, or none: without a signal nothing is asked (project rule)
+-- the memory after libraries were expunged under low memory for a port; if there is no signal for the port, none is
+-- expunged (project rule)
 abbrev pub after_asking_for_port : Option ℕ → Memory → Memory
 after_asking_for_port None memory = memory
 after_asking_for_port (Some bit) memory = after_asking_for_object is_port port_size memory
 
--- a port is made, if the pool allows one more and it fits, and if the caller has a signal left
+-- CreateMsgPort makes a port, if the pool allows one more, there is a place for it, and the caller has a signal left
 abbrev pub makes_port : ℕ → Call → Option ℕ → State → Outcome
 makes_port t call bit s = port_created t call bit (place_for_object is_port port_size s.memory) s
 
--- CreateMsgPort: answers the address of a new port of the caller, which signals it by a newly allocated signal; or 0
--- (autodoc exec.library/CreateMsgPort)
+-- CreateMsgPort: returns the address of a new port of the caller, which signals the caller by a newly allocated signal;
+-- or 0 if it cannot be made (autodoc exec.library/CreateMsgPort)
 unfoldable pub does_create_msg_port : ℕ → Call → State → Outcome
 does_create_msg_port t call s =
     let bit = grant (negsuc 0) (signals_of s.schedule t) in
     makes_port t call bit (on_memory (after_asking_for_port bit) s)
 
--- an object is a request under way whose reply goes to that port
+-- an object is a request in progress whose reply goes to that port
 abbrev pub replies_to : ℕ → Object → Bool
 replies_to port (Request content) = nat_eq content.port port && is_under_way content
 replies_to port _ = false
 
--- a request under way has that reply port
+-- a request in progress has that reply port
 unfoldable pub is_awaited_at : ℕ → Heap → Bool
 is_awaited_at port heap = list_any (λ (entry : ℕ × Block). replies_to port entry.1.object) heap
 
--- the alert of a call that frees a port: it must have no message, not be public, and no request under way must have it as reply port
+-- the alert of a call that frees a port: HANDLE if none begins there, PORT if it has a message, is public, or is the
+-- reply port of a request in progress
 unfoldable pub delete_alert : ℕ → Memory → Option Alert
 delete_alert port memory =
     if not (is_port_at port memory.heap) then Some an_alert.Handle
@@ -191,11 +197,11 @@ delete_alert port memory =
     else (if is_public port memory then Some an_alert.Port
     else (if is_awaited_at port memory.heap then Some an_alert.Port else None)))
 
--- the task of a port has its signal no more (autodoc DeleteMsgPort)
+-- the signal of a port is no longer allocated by its task (autodoc DeleteMsgPort)
 abbrev pub gives_back : Port → Schedule → Schedule
 gives_back port s = frees port.task port.bit s
 
--- DeleteMsgPort port: the port is freed, and its signal given back to its task, whoever calls; 0 does nothing
+-- DeleteMsgPort port: the port is freed, and its signal is given back to its task, whichever task calls; 0 does nothing
 -- (autodoc exec.library/DeleteMsgPort; the alerts: project rule)
 unfoldable pub does_delete_msg_port : ℕ → Call → State → Outcome
 does_delete_msg_port t call s =
@@ -206,15 +212,16 @@ does_delete_msg_port t call s =
 
 -- ---- public ports: calls
 
--- the alert of AddPort: the port must not be public
+-- the alert of AddPort: HANDLE if no port begins there, VALUE if the priority is not one that a task may have, LINK if
+-- the port is public already
 unfoldable pub add_port_alert : ℕ → ℤ → Memory → Option Alert
 add_port_alert port pri memory =
     if not (is_port_at port memory.heap) then Some an_alert.Handle
     else (if not (is_priority pri) then Some an_alert.Value
     else (if is_public port memory then Some an_alert.Link else None))
 
--- AddPort port name pri: the port is public under the name; its messages stay (autodoc exec.library/AddPort; that the priority is read as
--- a signed word, that the messages stay, and the alerts: project rule)
+-- AddPort port name pri: the port becomes public under the name; its messages stay (autodoc exec.library/AddPort; that
+-- the priority is read as a signed word, that the messages stay, and the alerts: project rule)
 unfoldable pub does_add_port : ℕ → Call → State → Outcome
 does_add_port t call s =
     let port = argument 0 call in
@@ -222,45 +229,45 @@ does_add_port t call s =
     let pri = cast_signed w32 (argument 2 call) in
     unless (add_port_alert port pri s.memory) t call (λ s. done t call (on_memory (made_public port name pri) s)) s
 
--- the alert of RemPort: the port has to be public
+-- the alert of RemPort: HANDLE if no port begins there, LINK if it is not public
 unfoldable pub rem_port_alert : ℕ → Memory → Option Alert
 rem_port_alert port memory =
     if not (is_port_at port memory.heap) then Some an_alert.Handle
     else (if is_public port memory then None else Some an_alert.Link)
 
--- RemPort port: the port is public no more (autodoc exec.library/RemPort; the alerts: project rule)
+-- RemPort port: the port is no longer public (autodoc exec.library/RemPort; the alerts: project rule)
 unfoldable pub does_rem_port : ℕ → Call → State → Outcome
 does_rem_port t call s =
     let port = argument 0 call in
     unless (rem_port_alert port s.memory) t call (λ s. done t call (on_memory (made_private port) s)) s
 
--- FindPort name: answers the public port of that name, or 0 (autodoc exec.library/FindPort)
+-- FindPort name: returns the public port of that name, or 0 if there is none (autodoc exec.library/FindPort)
 unfoldable pub does_find_port : ℕ → Call → State → Outcome
 does_find_port t call s = answered t call (found_port (unwrap_or (name_argument 0 call) []) s.memory) s
 
 -- ---- the action of a port
 
--- a port has that action
+-- a port gets that action
 unfoldable pub with_action : PortAction → ℕ → Heap → Heap
 with_action act port heap = with_port port (record (port_of port heap) { action = act }) (messages_of port heap) heap
 
--- PortSignal port: the port signals its task, as a new port does (RKM Libraries, Exec Messages and Ports: mp_Flags, PA_SIGNAL; that there
--- is a call for it: project rule)
+-- PortSignal port: from now on the port signals its task when a message arrives, as a new port does (RKM Libraries,
+-- Exec Messages and Ports: mp_Flags, PA_SIGNAL; that there is a call for it: project rule)
 unfoldable pub does_port_signal : ℕ → Call → State → Outcome
 does_port_signal t call s =
     let port = argument 0 call in
     unless (port_alert port s.memory.heap) t call (λ s. done t call (on_memory (on_heap (with_action Signal port)) s)) s
 
--- PortCause port name: the port causes the software interrupt of that name (RKM Libraries, Exec Messages and Ports: mp_Flags, PA_SOFTINT; that
--- there is a call for it: project rule)
+-- PortCause port name: from now on the port causes the software interrupt of that name when a message arrives (RKM
+-- Libraries, Exec Messages and Ports: mp_Flags, PA_SOFTINT; that there is a call for it: project rule)
 unfoldable pub does_port_cause : ℕ → Call → State → Outcome
 does_port_cause t call s =
     let port = argument 0 call in
     let i = softint_named (unwrap_or (name_argument 1 call) []) s.bodies.softints in
     unless (port_alert port s.memory.heap) t call (λ s. done t call (on_memory (on_heap (with_action (Cause i) port)) s)) s
 
--- PortIgnore port: the port does nothing if a message arrives (RKM Libraries, Exec Messages and Ports: mp_Flags, PA_IGNORE; that there
--- is a call for it: project rule)
+-- PortIgnore port: from now on the port does nothing when a message arrives (RKM Libraries, Exec Messages and Ports:
+-- mp_Flags, PA_IGNORE; that there is a call for it: project rule)
 unfoldable pub does_port_ignore : ℕ → Call → State → Outcome
 does_port_ignore t call s =
     let port = argument 0 call in
@@ -268,11 +275,12 @@ does_port_ignore t call s =
 
 -- ---- making and freeing messages
 
--- the alert of a reply port: it is 0 for none, or a port
+-- the alert of a reply port: none for 0, as there is no reply port then; else HANDLE if no port begins there
 unfoldable pub reply_port_alert : ℕ → Heap → Option Alert
 reply_port_alert port heap = if nat_eq port 0 then None else port_alert port heap
 
--- NewMsg port word: answers the address of a new message with that reply port, or none for 0, and that word; or 0 (project rule)
+-- NewMsg port word: returns the address of a new message with that word, and with that reply port, or with none for 0;
+-- or returns 0 if it cannot be made (project rule)
 unfoldable pub does_new_msg : ℕ → Call → State → Outcome
 does_new_msg t call s =
     let reply = argument 0 call in
@@ -280,7 +288,7 @@ does_new_msg t call s =
     unless (reply_port_alert reply s.memory.heap) t call
     (λ s. makes_object t call is_message message_size (Message content) (on_memory (after_asking_for_object is_message message_size) s)) s
 
--- the alert of a call on a message that is in no port
+-- the alert of a call on a message that must be in no port: HANDLE if none begins there, LINK if it is in a port
 unfoldable pub loose_alert : ℕ → Heap → Option Alert
 loose_alert message heap =
     if not (is_message_at message heap) then Some an_alert.Handle
@@ -294,25 +302,25 @@ does_free_msg t call s =
 
 -- ---- what a message holds
 
--- MsgWord message: answers its word (project rule)
+-- MsgWord message: returns its word (project rule)
 unfoldable pub does_msg_word : ℕ → Call → State → Outcome
 does_msg_word t call s =
     let message = argument 0 call in
     unless (message_alert message s.memory.heap) t call (λ s. answered t call (content_of message s.memory.heap).word s) s
 
--- a message has that word
+-- a message gets that word
 unfoldable pub with_message_word : ℕ → ℕ → Heap → Heap
 with_message_word message value heap = with_content message (record (content_of message heap) { word = value }) heap
 
--- SetMsgWord message word: the message gets another word (project rule)
+-- SetMsgWord message word: the message gets that word (project rule)
 unfoldable pub does_set_msg_word : ℕ → Call → State → Outcome
 does_set_msg_word t call s =
     let message = argument 0 call in
     unless (message_alert message s.memory.heap) t call
     (λ s. done t call (on_memory (on_heap (with_message_word message (argument 1 call))) s)) s
 
--- MsgType message: answers its type, 0 for a new one (RKM Libraries, Exec Messages and Ports: ln_Type; that a new one has type 0, and that
--- there is a call for it: project rule)
+-- MsgType message: returns its type, 0 for a new one (RKM Libraries, Exec Messages and Ports: ln_Type; that a new one
+-- has type 0, and that there is a call for it: project rule)
 unfoldable pub does_msg_type : ℕ → Call → State → Outcome
 does_msg_type t call s =
     let message = argument 0 call in
@@ -320,34 +328,35 @@ does_msg_type t call s =
 
 -- ---- putting and replying
 
--- a message is of that type; an object of another kind stays as it is (autodocs PutMsg and ReplyMsg)
+-- a message gets that type; an object of another kind stays as it is (autodocs PutMsg and ReplyMsg)
 unfoldable pub typed : ℕ → ℕ → Heap → Heap
 typed kind message heap = with_content message (record (content_of message heap) { kind = kind }) heap
 
--- what begins at an address, of whatever kind, is last in a port
+-- a message or a request, by its address, becomes the last in a port
 unfoldable pub appended : ℕ → ℕ → Heap → Heap
 appended port message heap = with_port port (port_of port heap) (messages_of port heap ++ message ∷ []) heap
 
--- a message is of that type, and is last in a port
+-- a message gets that type, and becomes the last in a port
 unfoldable pub posted : ℕ → ℕ → ℕ → Heap → Heap
 posted kind port message heap = appended port message (typed kind message heap)
 
--- what is to be done for a message that has arrived
+-- the action of a port is done for a message that has arrived: a signal, a software interrupt, or nothing
 abbrev pub performed : Action → State → State
 performed (action.Signal task mask) s = on_schedule (signalled by_arrival task mask) s
 performed (action.Cause i) s = causes i s
 performed action.Nothing s = s
 
--- a message is put at a port as one of that type, and the port acts (autodocs PutMsg and ReplyMsg)
+-- a message gets that type and becomes the last in a port, and then the port acts (autodocs PutMsg and ReplyMsg)
 unfoldable pub delivered : ℕ → ℕ → ℕ → State → State
 delivered kind port message s =
     performed (arrival_action (port_of port s.memory.heap)) (on_memory (on_heap (posted kind port message)) s)
 
--- the alert of PutMsg: the message must be in no port
+-- the alert of PutMsg: HANDLE if the port or the message is not there, LINK if the message is in a port
 unfoldable pub put_alert : ℕ → ℕ → Heap → Option Alert
 put_alert port message heap = if not (is_port_at port heap) then Some an_alert.Handle else loose_alert message heap
 
--- PutMsg port message: the message is put at the port, after those that it has (autodoc exec.library/PutMsg; the alerts: project rule)
+-- PutMsg port message: the message is put at the port, after those that are there, and the port acts (autodoc
+-- exec.library/PutMsg; the alerts: project rule)
 abbrev pub does_put_msg_by : Caller → Call → State → Outcome
 does_put_msg_by c call s =
     let port = argument 0 call in
@@ -355,79 +364,83 @@ does_put_msg_by c call s =
     unless_by (put_alert port message s.memory.heap) c call
     (λ s. leaving (put port message) (done_by c call (delivered nt_message port message s))) s
 
--- PutMsg of a task (autodoc PutMsg)
+-- PutMsg, called by task t (autodoc PutMsg)
 unfoldable pub does_put_msg : ℕ → Call → State → Outcome
 does_put_msg t call s = does_put_msg_by (ByTask t) call s
 
--- the alert of ReplyMsg: the message must be in no port, and its reply port is to live, if it has one
+-- the alert of ReplyMsg: HANDLE if the message, or its reply port, if it has one, is not there; LINK if the message is
+-- in a port
 unfoldable pub reply_alert : ℕ → Heap → Option Alert
 reply_alert message heap =
     if not (is_message_at message heap) then Some an_alert.Handle
     else (if is_queued message heap then Some an_alert.Link else reply_port_alert (content_of message heap).reply heap)
 
--- a message with that reply port, or 0, is replied
+-- ReplyMsg is done, for a message whose reply port is at that address, or is 0 if it has none
 abbrev pub replied_by : ℕ → Caller → Call → ℕ → State → Outcome
 replied_by reply c call message s =
     if nat_eq reply 0 then done_by c call (on_memory (on_heap (typed nt_freemsg message)) s)
     else leaving (put reply message) (done_by c call (delivered nt_replymsg reply message s))
 
+-- ReplyMsg is done, called by task t
 abbrev pub replied : ℕ → ℕ → Call → ℕ → State → Outcome
 replied reply t call message s = replied_by reply (ByTask t) call message s
 
--- ReplyMsg message: the message is put at its reply port, the one that begins at that address now; one without gets the type NT_FREEMSG
--- (autodoc exec.library/ReplyMsg; the alerts: project rule)
+-- ReplyMsg message: the message is put at its reply port, the one that begins at that address now, and the port acts; a
+-- message without a reply port gets the type NT_FREEMSG (autodoc exec.library/ReplyMsg; the alerts: project rule)
 abbrev pub does_reply_msg_by : Caller → Call → State → Outcome
 does_reply_msg_by c call s =
     let message = argument 0 call in
     unless_by (reply_alert message s.memory.heap) c call
     (λ s. replied_by (content_of message s.memory.heap).reply c call message s) s
 
--- ReplyMsg of a task (autodoc ReplyMsg)
+-- ReplyMsg, called by task t (autodoc ReplyMsg)
 unfoldable pub does_reply_msg : ℕ → Call → State → Outcome
 does_reply_msg t call s = does_reply_msg_by (ByTask t) call s
 
 -- ---- taking and waiting
 
--- the first message of a port is in no port any more (autodoc GetMsg)
+-- a port loses its first message (autodoc GetMsg)
 unfoldable pub taken_off : ℕ → Heap → Heap
 taken_off port heap = with_port port (port_of port heap) (drop 1 (messages_of port heap)) heap
 
--- the first message of a port, if there is one, is answered and taken
+-- GetMsg is done: the first message of a port, if there is one, leaves the port and is returned; else 0 is returned
 abbrev pub taken_by : ℕ → Option ℕ → Caller → Call → State → Outcome
 taken_by port None c call s = answered_by c call 0 s
 taken_by port (Some message) c call s = leaving (got port message) (answered_by c call message (on_memory (on_heap (taken_off port)) s))
 
+-- GetMsg is done, called by task t
 abbrev pub taken : ℕ → Option ℕ → ℕ → Call → State → Outcome
 taken port message t call s = taken_by port message (ByTask t) call s
 
--- GetMsg port: answers the first message, which leaves the port, or 0 (autodoc exec.library/GetMsg)
+-- GetMsg port: returns the first message, which leaves the port, or 0 if there is none (autodoc exec.library/GetMsg)
 abbrev pub does_get_msg_by : Caller → Call → State → Outcome
 does_get_msg_by c call s =
     let port = argument 0 call in
     unless_by (port_alert port s.memory.heap) c call (λ s. taken_by port (first (messages_of port s.memory.heap)) c call s) s
 
--- GetMsg of a task (autodoc GetMsg)
+-- GetMsg, called by task t (autodoc GetMsg)
 unfoldable pub does_get_msg : ℕ → Call → State → Outcome
 does_get_msg t call s = does_get_msg_by (ByTask t) call s
 
--- the alert of WaitPort for task t: the port has to signal that task
+-- the alert of WaitPort for task t: HANDLE if no port begins there, PORT if it does not signal that task
 unfoldable pub wait_alert : ℕ → ℕ → Heap → Option Alert
 wait_alert t port heap =
     if not (is_port_at port heap) then Some an_alert.Handle
     else (if is_some (wait_bit t (port_of port heap)) then None else Some an_alert.Port)
 
--- signals of a mask leave those that task t has received
+-- task t loses the signals of the mask that it has received
 abbrev pub loses : ℕ → ℕ → Schedule → Schedule
 loses t mask s = sets_signals t 0 mask s
 
--- the first message, if there is one, is answered; else the task waits for a mask of signals that come from now on (autodoc WaitPort)
+-- WaitPort returns the first message, if there is one; else the task clears the signals of the mask that it has
+-- received, and waits for one that comes from now on (autodoc WaitPort)
 abbrev pub looked : Option ℕ → ℕ → ℕ → Call → State → Outcome
 looked None mask t call s = waiting t (record call { awaited = mask }) (on_schedule (clears_and_waits t mask) s)
 looked (Some message) mask t call s = answered t call message s
 
--- WaitPort port: answers the first message of the port, and leaves it there; if there is none, the task waits for the port's signal, and
--- looks again when it next runs, after the signal that it waited for is cleared (autodoc exec.library/WaitPort; how a task waits and looks
--- again, and the alerts: project rule)
+-- WaitPort port: returns the first message of the port, and leaves it there; if there is none, the task waits for the
+-- port's signal, and looks again when it next runs, after the signal that it waited for is cleared (autodoc
+-- exec.library/WaitPort; how a task waits and looks again, and the alerts: project rule)
 unfoldable pub does_wait_port : ℕ → Call → State → Outcome
 does_wait_port t call s =
     let port = argument 0 call in
@@ -439,7 +452,7 @@ does_wait_port t call s =
 
 -- ---- the words of this group
 
--- a word on ports and messages of a task
+-- a call of task t on ports and messages, by its word
 abbrev pub does_ports : PortWord → ℕ → Call → State → Outcome
 does_ports word.CreateMsgPort t call s = does_create_msg_port t call s
 does_ports word.DeleteMsgPort t call s = does_delete_msg_port t call s

@@ -1,6 +1,7 @@
--- Signal semaphores (RKM Libraries, Exec Semaphores). A semaphore has an owner or none, how often the owner has to release it, and the tasks
--- that wait for it, in order of request. An address if no semaphore begins is the alert HANDLE; a semaphore that is owned if it must
--- not be, or not owned by the caller, or obtained too often is the alert SEM (project rule).
+-- Signal semaphores (RKM Libraries, Exec Semaphores). A semaphore has an owner or none, a count of how often the owner
+-- has to release it, and the tasks that wait for it, in order of request. An address at which no semaphore begins is
+-- the alert HANDLE; a semaphore that is owned where it must not be, is not owned by the caller where it must be, or
+-- would be obtained too often, is the alert SEM (project rule).
 use Rattle.std.specs.Prelude.{ℕ, ◌==◌, Bool, true, false, not, if◌then◌else◌, is_some, drop, find, map, codes, List, [], ◌∷◌, ◌++◌, Option, None, Some, ⊤, option_map}
 use Rattle.std.specs.List.{list_any}
 use Rattle.execlist.specs.{Order.first, Order.without, Disciplines.by_arrival}
@@ -54,36 +55,36 @@ waiters_of_object (Some object) = waiters_in object
 unfoldable pub waiters_of : ℕ → Heap → List ℕ
 waiters_of semaphore heap = waiters_of_object (object_at semaphore heap)
 
--- the semaphore that begins at an address becomes another
+-- what begins at an address becomes that semaphore, with these waiting tasks
 unfoldable pub with_semaphore : ℕ → Sem → List ℕ → Heap → Heap
 with_semaphore address sem waiters heap = map (replaced address (Semaphore sem waiters)) heap
 
--- the alert of a call on a semaphore
+-- the alert of a call on a semaphore: HANDLE if none begins there
 unfoldable pub semaphore_alert : ℕ → Heap → Option Alert
 semaphore_alert semaphore heap = if not (is_semaphore_at semaphore heap) then Some an_alert.Handle else None
 
 -- ---- owners
 
--- the task owns the semaphore, and has to release it once more than before (autodoc ObtainSemaphore)
+-- task t owns the semaphore, and has to release it once more than before (autodoc ObtainSemaphore)
 unfoldable pub entered : ℕ → ℕ → Heap → Heap
 entered semaphore t heap = with_semaphore semaphore (once_more t (sem_of semaphore heap)) (waiters_of semaphore heap) heap
 
 -- ---- waiting tasks
 
--- a task waits for a semaphore no more; another object stays as it is
+-- task t no longer waits for a semaphore; another object stays as it is
 abbrev pub left_by_task : ℕ → Object → Object
 left_by_task t (Semaphore sem waiters) = Semaphore sem (without t waiters)
 left_by_task t object = object
 
--- task t waits for no semaphore; the others keep their order
+-- task t waits for no semaphore; the other tasks keep their order
 unfoldable pub dropped : ℕ → Heap → Heap
 dropped t heap = map (λ (entry : ℕ × Block). (entry.0, record entry.1 { object = left_by_task t entry.1.object })) heap
 
--- task t waits for the semaphore, after those that wait there (autodoc ObtainSemaphore)
+-- task t waits for the semaphore, after those that wait for it already (autodoc ObtainSemaphore)
 unfoldable pub queued : ℕ → ℕ → Heap → Heap
 queued semaphore t heap = with_semaphore semaphore (sem_of semaphore heap) (waiters_of semaphore heap ++ t ∷ []) heap
 
--- a task waits for the semaphore of an entry
+-- an entry of the heap is a semaphore for which task t waits
 abbrev pub has_waiter : ℕ → ℕ × Block → Bool
 has_waiter t entry = list_any (λ other. other == t) (waiters_in entry.1.object)
 
@@ -91,24 +92,24 @@ has_waiter t entry = list_any (λ other. other == t) (waiters_in entry.1.object)
 abbrev pub awaited_by : ℕ → Heap → Option ℕ
 awaited_by t heap = option_map (λ (entry : ℕ × Block). entry.0) (find (has_waiter t) heap)
 
--- the mark of a task that is removed, if it waits for a semaphore
+-- the mark of a removed task that waited for a semaphore; none if it waited for no semaphore
 abbrev pub leaving_queue : Option ℕ → ℕ → Outcome → Outcome
 leaving_queue None t o = o
 leaving_queue (Some semaphore) t o = leaving (left semaphore t) o
 
 -- ---- making and freeing
 
--- a SignalSemaphore takes 46 bytes, by the include file exec/semaphores.h
+-- the size of a semaphore in bytes: Exec's SignalSemaphore (include file exec/semaphores.h)
 abbrev pub semaphore_size : ℕ
 semaphore_size = 46
 
--- NewSem: answers the address of a new semaphore, which no task owns, or 0 (autodoc exec.library/InitSemaphore; that it takes the memory:
--- project rule)
+-- NewSem: returns the address of a new semaphore, which no task owns, or 0 if it cannot be made (autodoc
+-- exec.library/InitSemaphore; that it takes the memory: project rule)
 unfoldable pub does_new_sem : ℕ → Call → State → Outcome
 does_new_sem t call s =
     makes_object t call is_semaphore semaphore_size (Semaphore free_sem []) (on_memory (after_asking_for_object is_semaphore semaphore_size) s)
 
--- the alert of a call that frees a semaphore: no task is to own it
+-- the alert of a call that frees a semaphore: HANDLE if none begins there, SEM if a task owns it
 unfoldable pub free_sem_alert : ℕ → Heap → Option Alert
 free_sem_alert semaphore heap =
     if not (is_semaphore_at semaphore heap) then Some an_alert.Handle
@@ -122,28 +123,30 @@ does_free_sem t call s =
 
 -- ---- obtaining
 
--- the alert of a call by which task t asks for a semaphore: if it owns it, the count must not go past 32767
+-- the alert of a call by which task t asks for a semaphore: HANDLE if none begins there, SEM if the task owns it and
+-- the count would go past 32767
 unfoldable pub obtain_alert : ℕ → ℕ → Heap → Option Alert
 obtain_alert t semaphore heap =
     if not (is_semaphore_at semaphore heap) then Some an_alert.Handle
     else (if is_too_deep t (sem_of semaphore heap) then Some an_alert.Sem else None)
 
--- the semaphore is the task's at once, or the task waits for it (autodocs ObtainSemaphore and AttemptSemaphore)
+-- task t owns the semaphore at once, or waits for it (autodocs ObtainSemaphore and AttemptSemaphore)
 unfoldable pub obtained : ℕ → ℕ → Heap → Heap
 obtained semaphore t heap = if is_free_for t (sem_of semaphore heap) then entered semaphore t heap else queued semaphore t heap
 
--- a task that owns the semaphore goes on, and one that does not waits (autodoc ObtainSemaphore)
+-- ObtainSemaphore is done for a task that owns the semaphore; any other task waits (autodoc ObtainSemaphore)
 abbrev pub obtains : Obtained → ℕ → ℕ → Call → State → Outcome
 obtains Owner semaphore t call s = done t call s
 obtains Waits semaphore t call s = leaving (asked semaphore t) (waiting t call (on_schedule (waits_at_semaphore t) s))
 
--- the call is one in which its task has waited
+-- task t has waited in its call, and tries it again
 abbrev pub is_tried_again : ℕ → Scripts → Bool
 is_tried_again t scripts = is_some (program_of scripts t).kept
 
--- ObtainSemaphore semaphore: a free semaphore is the task's, with the count 1; the owner's count is one more; any other task waits, after
--- those that asked before. The call of a task that has waited is complete, and checks nothing: a release has made the task the owner
--- (autodoc exec.library/ObtainSemaphore; the alerts: project rule).
+-- ObtainSemaphore semaphore: a task that finds it free owns it, with the count 1; the owner's count becomes one more;
+-- any other task waits, after those that asked before. When a task has waited and tries the call again, a release has
+-- made it the owner: nothing is checked, and the call is done (autodoc exec.library/ObtainSemaphore; the alerts:
+-- project rule).
 unfoldable pub does_obtain_semaphore : ℕ → Call → State → Outcome
 does_obtain_semaphore t call s =
     let semaphore = argument 0 call in
@@ -151,12 +154,13 @@ does_obtain_semaphore t call s =
     else unless (obtain_alert t semaphore s.memory.heap) t call
     (λ s. obtains (outcome_for t (sem_of semaphore s.memory.heap)) semaphore t call (on_memory (on_heap (obtained semaphore t)) s)) s
 
--- the semaphore is the task's at once, or nothing changes
+-- task t owns the semaphore at once, or nothing changes
 unfoldable pub attempted : ℕ → ℕ → Heap → Heap
 attempted semaphore t heap = if is_free_for t (sem_of semaphore heap) then entered semaphore t heap else heap
 
--- AttemptSemaphore semaphore: if ObtainSemaphore would make the task the owner this does the same and answers 1; if the task would
--- have to wait, nothing changes and the answer is 0 (autodoc exec.library/AttemptSemaphore; the alerts: project rule)
+-- AttemptSemaphore semaphore: if ObtainSemaphore would make the task the owner, this does the same and returns 1; if
+-- the task would have to wait, nothing changes and 0 is returned (autodoc exec.library/AttemptSemaphore; the alerts:
+-- project rule)
 unfoldable pub does_attempt_semaphore : ℕ → Call → State → Outcome
 does_attempt_semaphore t call s =
     let semaphore = argument 0 call in
@@ -165,37 +169,39 @@ does_attempt_semaphore t call s =
 
 -- ---- releasing
 
--- the alert of ReleaseSemaphore for task t: it has to own the semaphore
+-- the alert of ReleaseSemaphore for task t: HANDLE if no semaphore begins there, SEM if the task does not own it
 unfoldable pub release_alert : ℕ → ℕ → Heap → Option Alert
 release_alert t semaphore heap =
     if not (is_semaphore_at semaphore heap) then Some an_alert.Handle
     else (if is_owner t (sem_of semaphore heap) then None else Some an_alert.Sem)
 
--- the task that a release makes the owner: the last release the first one that waits, and else none (autodoc ReleaseSemaphore)
+-- the task to which a release gives the semaphore: at the last release the first task that waits for it, if there is
+-- one; else none (autodoc ReleaseSemaphore)
 unfoldable pub heir : ℕ → Heap → Option ℕ
 heir semaphore heap = if is_last (sem_of semaphore heap) then first (waiters_of semaphore heap) else None
 
--- the semaphore is the first waiter's, which waits no more, or is owned by no task if none waits
+-- the first waiting task owns the semaphore, with the count 1, and waits no longer; if none waits, no task owns it
 unfoldable pub handed_on : ℕ → Heap → Heap
 handed_on semaphore heap =
     with_semaphore semaphore (owned_next (first (waiters_of semaphore heap))) (drop 1 (waiters_of semaphore heap)) heap
 
--- the owner has to release the semaphore once less
+-- the owner has to release the semaphore one time less
 unfoldable pub released_once : ℕ → Heap → Heap
 released_once semaphore heap = with_semaphore semaphore (once_less (sem_of semaphore heap)) (waiters_of semaphore heap) heap
 
--- the last release hands the semaphore on (autodoc ReleaseSemaphore)
+-- the last release gives the semaphore to the task that waits first, or to none; any other release lowers the count
+-- (autodoc ReleaseSemaphore)
 unfoldable pub released : ℕ → Heap → Heap
 released semaphore heap = if is_last (sem_of semaphore heap) then handed_on semaphore heap else released_once semaphore heap
 
--- the new owner, if there is one, becomes ready (autodoc ReleaseSemaphore)
+-- ReleaseSemaphore is done: the new owner, if there is one, becomes ready (autodoc ReleaseSemaphore)
 abbrev pub passes : Option ℕ → ℕ → ℕ → Call → State → Outcome
 passes None semaphore t call s = done t call s
 passes (Some owner) semaphore t call s = leaving (passed semaphore owner) (done t call (on_schedule (arrives by_arrival owner) s))
 
--- ReleaseSemaphore semaphore: the owner has to release the semaphore once less. The last release hands it on: the first of the tasks that
--- wait there is the owner with the count 1, and ready; if none waits, no task owns it (autodoc exec.library/ReleaseSemaphore; the
--- alerts: project rule).
+-- ReleaseSemaphore semaphore: the owner has to release the semaphore one time less. After the last release the first of
+-- the tasks that wait for it is the owner, with the count 1, and becomes ready; if none waits, no task owns it (autodoc
+-- exec.library/ReleaseSemaphore; the alerts: project rule).
 unfoldable pub does_release_semaphore : ℕ → Call → State → Outcome
 does_release_semaphore t call s =
     let semaphore = argument 0 call in
@@ -204,7 +210,7 @@ does_release_semaphore t call s =
 
 -- ---- the words of this group
 
--- a word on semaphores of a task
+-- a call of task t on semaphores, by its word
 abbrev pub does_semaphores : SemaphoreWord → ℕ → Call → State → Outcome
 does_semaphores word.NewSem t call s = does_new_sem t call s
 does_semaphores word.FreeSem t call s = does_free_sem t call s

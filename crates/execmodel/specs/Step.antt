@@ -15,24 +15,25 @@ use Rattle.softint.specs.{declared.source.Source.Source, declared.source.Source.
 
 -- ---- settle
 
--- the line of a switch, if one is made
+-- the line of a switch is printed, if one is made
 abbrev pub announced : Option Choice → State → Outcome
 announced None s = quiet s
 announced (Some (switch.To t)) s = says (Switch (name_of s.schedule t)) s
 announced (Some switch.Idle) s = says Idle s
 
--- the switch to another task, or to being idle (RKM Libraries, Exec Tasks)
+-- the switch that is due, if any: to another task, or to being idle (RKM Libraries, Exec Tasks)
 unfoldable pub switches : State → Outcome
 switches s = announced (switch_of by_arrival s.schedule) (on_schedule (rescheduled by_arrival) s)
 
--- what follows each action: what is requested is served, and then there is at most one switch; a stopped machine stays as it is
+-- what follows each action: the sources that ask are served, and then there is at most one switch; a stopped machine
+-- stays as it is
 unfoldable pub settle : State → Outcome
 settle s = unless_stopped (andthen interrupts (unless_stopped switches)) s
 
 -- ---- step
 
--- A call of task t, by the group of its word. After a call on requests that has set system time, and after its line, the requests finish
--- that wait for system time and whose time has come.
+-- A call of task t, by the group of its word. After a call on requests that has set system time, and after its line,
+-- each request finishes that waits for a system time that has come.
 abbrev pub does_word : Word → ℕ → Call → State → Outcome
 does_word (Plain word) t call s = does_plain word t call s
 does_word (Signals word) t call s = does_signals word t call s
@@ -54,31 +55,31 @@ does t call s = does_word call.word t call s
 unfoldable pub ends : ℕ → State → Outcome
 ends t s = says (trace.Call (name_of s.schedule t) (codes "RemTask") (Value 0 ∷ []) Done) (on_schedule (leaves t) s)
 
--- what task t does with its next call; if no task runs the step is used up
+-- task t makes its next call, or ends if its commands are used up
 abbrev pub call_step : ℕ → Option Call → State → Outcome
 call_step t None s = ends t s
 call_step t (Some call) s = does t call s
 
--- the step of the running task, and nothing if none runs
+-- the step of the running task; if no task runs, the step is used up and nothing happens
 abbrev pub task_step : Option ℕ → State → Outcome
 task_step None s = quiet s
 task_step (Some t) s = call_step t (next_call t s.scripts) s
 
--- a software interrupt that may run does so before any task's command
+-- the software interrupt that is next runs; only if there is none, the running task does its step
 abbrev pub softint_or_task_step : Option ℕ → State → Outcome
 softint_or_task_step None s = task_step s.schedule.running s
 softint_or_task_step (Some i) s = runs_softint i s
 
--- what a step does: the next software interrupt, or else the running task's command (RKM Libraries, Exec Interrupts: software interrupts;
--- one a step: project rule)
+-- what a step does: the next software interrupt runs, or else the running task does one command (RKM Libraries, Exec
+-- Interrupts: software interrupts; one a step: project rule)
 unfoldable pub acting : State → Outcome
 acting s = softint_or_task_step (next_softint s) s
 
--- a stopped machine does nothing
+-- what a step does, before the machine settles; a stopped machine does nothing
 unfoldable pub acts : State → Outcome
 acts s = unless_stopped acting s
 
--- a software interrupt runs, or else the running task does one command; and then the machine settles
+-- one step: a software interrupt runs, or else the running task does one command; then the machine settles
 unfoldable pub step : State → Outcome
 step s = andthen acts settle s
 
@@ -94,7 +95,8 @@ steps (suc n) s = andthen (steps n) step s
 unfoldable pub request : Source → State → Outcome
 request asks s = unless_stopped (λ s. settle (on_pending (with_latch_of asks true) s)) s
 
--- one tick: the clock and system time gain it, whatever is disabled, and VERTB is requested; a stopped machine does nothing
+-- one tick: the clock and system time advance by it, even if interrupts are disabled, and VERTB is requested; a stopped
+-- machine does nothing
 unfoldable pub tick : State → Outcome
 tick s = unless_stopped (λ s. request Vertb (on_memory (on_timer ticked) s)) s
 
@@ -107,7 +109,7 @@ ticks (suc n) s = andthen (ticks n) tick s
 abbrev pub started : Scripts → ℕ → Schedule → Schedule
 started scripts t s = if (program_of scripts t).starts then added by_arrival t s else s
 
--- that many tasks are added, in the order of the file
+-- the first tasks of the file, that many, in order: each is added that is to start with the machine
 unfoldable pub all_added : Scripts → ℕ → Schedule → Schedule
 all_added scripts zero s = s
 all_added scripts (suc n) s = started scripts n (all_added scripts n s)
@@ -122,7 +124,7 @@ event (Run n) s = steps n s
 event (Tick n) s = ticks n s
 event (Irq asks) s = request asks s
 
--- one event after another
+-- the events, one after another
 unfoldable pub events : List Event → State → Outcome
 events [] s = quiet s
 events (e ∷ rest) s = andthen (event e) (events rest) s

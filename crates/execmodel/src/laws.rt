@@ -175,8 +175,8 @@ pub fn libraries_give_way()
     ensures closed { OnlyClosedLibrariesGiveWay }
 {}
 
-/// The reply port of a request that is under way lives, in every state of every run: so whatever finishes the request, a tick, a setting of
-/// system time or AbortIO, finds the port if the reply is to be put. No port that a request under way is to be replied at is deleted.
+/// The reply port of a request that is in progress lives, in every state of every run: so whatever finishes the request, a tick, a setting of
+/// system time or AbortIO, finds the port where the reply is to be put. No port at which a request in progress is to be replied is deleted.
 ///
 /// Source: RKM Devices, Introduction to Amiga System Devices; that the port may not be deleted: project rule.
 #[tactic(auto, using(crate::proofs::RequestsLaw::reply_ports_live))]
@@ -184,7 +184,8 @@ pub fn reply_ports_live()
     ensures { ReplyPortsLive }
 {}
 
-/// Just the requests that are under way wait for the timer, each once, in every state of every run: none is forgotten, and none finishes twice.
+/// Exactly the requests that are in progress wait for the timer, each once, in every state of every run: none is forgotten, and none finishes
+/// twice.
 ///
 /// Source: RKM Devices, Timer Device.
 #[tactic(auto, using(crate::proofs::RequestsLaw::requests_under_way_wait))]

@@ -155,7 +155,7 @@ pub fn an_alert_in_a_body_stops_all()
     ensures command { NoCommandFollowsAnAlertInASoftint }
 {}
 
-/// A port may cause a software interrupt if a message arrives, and its body takes the message; the marks say it.
+/// A port may cause a software interrupt when a message arrives, and its body takes the message; the marks say it.
 pub fn a_port_may_cause_a_softint()
     ensures trace { APortMayCauseASoftint }
     ensures marks { MarksTellWhatASoftintTook }
@@ -249,7 +249,7 @@ pub fn microseconds_count_beyond_a_second()
     ensures { MicrosecondsCountBeyondASecond }
 {}
 
-/// The reply port of a request that is under way cannot be deleted.
+/// The reply port of a request that is in progress cannot be deleted.
 pub fn an_awaited_port_is_not_deleted()
     ensures { AnAwaitedPortIsNotDeleted }
 {}
@@ -259,7 +259,7 @@ pub fn the_timer_has_three_units()
     ensures { TheTimerHasThreeUnits }
 {}
 
-/// A request that DoIO has done at once has the quick bit set; SendIO clears it, so that the request is replied. While a request is under way
+/// A request that DoIO has done at once has the quick bit set; SendIO clears it, so that the request is replied. While a request is in progress
 /// its error is 0, whatever it was before.
 pub fn send_io_clears_the_quick_bit_and_the_error()
     ensures { SendIOClearsTheQuickBitAndTheError }

@@ -97,7 +97,7 @@ module _ {H : Hearing} {m o : Seen} {a b : H.Told} (t : ℕ) (call : Call) (aler
 
 -- ---- objects made
 
--- if an object goes does not depend on the order of the public ports
+-- where an object is placed does not depend on the order of the public ports
 pub room-in_order : (kind : Object → Bool) (size : ℕ) (y : Memory) → place_for_object kind size (queues_in_order y) ≡ place_for_object kind size y
 unfolding place_for_object
 room-in_order kind size y = refl

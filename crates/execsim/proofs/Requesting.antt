@@ -299,7 +299,7 @@ sets_no_more : (command : ℕ) → nat_eq command 11 ≡ true → nat_eq command
 sets_no_more command sets = nat_eq-other command 9
     (λ is. let none : false ≡ true = ap (λ (c : ℕ). nat_eq c 11) (sym is) ∙ sets in cc)
 
--- how a request goes on that begins with its quick bit set: it is under way, if it is to wait, and else done quick
+-- how a request goes on that begins with its quick bit set: it is in progress, if it is to wait, and else done quick
 module _ (request : ℕ) (memory : Memory) (there : is_request_at request memory.heap ≡ true) where
   -- the request as it is before
   abbrev asks : TimerRequest
@@ -410,7 +410,7 @@ module _ {H : Hearing} {m o : Seen} {a b : H.Told} (t : ℕ) (call : Call) where
 -- ---- aborting
 
 module _ {H : Hearing} {m o : Seen} {a b : H.Told} (t : ℕ) (call : Call) where
-  -- by whether the request is under way
+  -- by whether the request is in progress
   aborts_by : (under_way : Bool) (x : Memory) (found : Option Action)
       → is_under_way (request_of (argument 0 call) m.memory.heap) ≡ under_way
       → found ≡ (if under_way then Some (acting_finished (argument 0 call) m.memory.heap) else None)

@@ -58,7 +58,7 @@ abbrev pub tells_or_waits : Awaited → ℕ → Call → State → Outcome
 tells_or_waits (awaited.Done error) t call s = answered t call (cast_unsigned w32 error) s
 tells_or_waits (awaited.UnderWay bit) t call s = model.looked None (2 ^ bit) t call s
 
--- a call that aborts a request: what is to be done for its reply is done, if it was under way; or the machine stops by the call's alert
+-- a call that aborts a request: what is to be done for its reply is done, if it was in progress; or the machine stops by the call's alert
 abbrev pub aborts_or_alerted : Result (Option Action) Refusal → ℕ → Call → State → Outcome
 aborts_or_alerted (Ok (Some act)) t call s = answered t call 0 (model.performed act s)
 aborts_or_alerted (Ok None) t call s = answered t call 0xffffffff s

@@ -344,7 +344,7 @@ impl Bodies {
         reset_softints(&mut self.softints, softints) && reset_servers(&mut self.servers, servers)
     }
 
-    /// The number of the software interrupt of a name, as it was looked up; if none has it, the number of all of them.
+    /// The number of the software interrupt of a name, as it was looked up; if none has it, a number that none has.
     #[cold]
     #[inline(never)]
     fn softint_found(&self, name: &Name) -> usize
@@ -356,7 +356,7 @@ impl Bodies {
         }
     }
 
-    /// The number of the software interrupt of a name; if none has it, the number of all of them. Mostly the hint for the name is right.
+    /// The number of the software interrupt of a name; if none has it, a number that none has. Mostly the hint for the name is right.
     #[inline(always)]
     pub fn softint_named(&self, name: &Name) -> usize
         ensures { result ≡ softint_named name.now.bytes self.now.softints }

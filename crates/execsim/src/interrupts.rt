@@ -1,4 +1,4 @@
-//! Interrupts: how they are caused and requested, and how they run, software interrupts one a step, the servers of a source if it is
+//! Interrupts: how they are caused and requested, and how they run, software interrupts one a step, the servers of a source when it is
 //! served (RKM Libraries, Exec Interrupts).
 ghost use Rattle.std.specs.Prelude.{◌≡◌, is_some, true, slice_get, ◌∷◌, []};
 ghost use Rattle.exectrace.specs.Trace.{Serve};
@@ -31,7 +31,7 @@ impl<S: ListSpace> Kernel<S> {
         }
     }
 
-    /// The number of the software interrupt of a name; if none has it, the number of all of them.
+    /// The number of the software interrupt of a name; if none has it, a number that none has.
     #[inline(always)]
     pub(crate) fn softint_named(&self, name: &Name) -> IntId
         ensures { result ≡ softint_named name.now.bytes self.now.bodies.softints }
@@ -161,7 +161,7 @@ impl<S: ListSpace> Kernel<S> {
         self.ints.any_raised()
     }
 
-    /// All that asks is served, if interrupts are allowed: there are three sources, and no serving sets a latch.
+    /// All sources that ask are served, if interrupts are allowed: there are three sources, and no serving sets a latch.
     #[inline(never)]
     fn serve_all<W: Witness>(&mut self, out: &mut W)
         ensures { Follows W.hearing interrupts self.old self.new (W.told out.old) (W.told out.new) }
@@ -179,7 +179,7 @@ impl<S: ListSpace> Kernel<S> {
         }
     }
 
-    /// All that asks is served, if interrupts are allowed. Mostly nothing asks, and nothing else is looked at then.
+    /// All sources that ask are served, if interrupts are allowed. Mostly none asks, and nothing else is looked at then.
     #[inline(always)]
     pub(crate) fn interrupt<W: Witness>(&mut self, out: &mut W)
         ensures { Follows W.hearing interrupts self.old self.new (W.told out.old) (W.told out.new) }

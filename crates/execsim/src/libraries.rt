@@ -13,7 +13,7 @@ use script::LibraryWord;
 use taskq::TaskId;
 
 impl<S: ListSpace> Kernel<S> {
-    /// Opens the library of a name with at least that version, if there is one and it has a place, once others were expunged under low memory to it
+    /// Opens the library of a name with at least that version, if there is one and it has a place, once others were expunged under low memory for it
     /// if it is to be loaded.
     fn open(&mut self, name: Name, version: u32) -> Option<u32>
         ensures answer { result ≡ opening name.bytes version self.old.memory }
@@ -35,8 +35,8 @@ impl<S: ListSpace> Kernel<S> {
         self.answered(t, call, base.unwrap_or(0), out);
     }
 
-    /// CloseLibrary base: the library is open once less, and goes if it is to be expunged and is open no more; 0 does nothing. HANDLE
-    /// if no loaded library begins there, LIB if it is not open (autodoc exec.library/CloseLibrary; the alerts: project rule).
+    /// CloseLibrary base: the library is open one time less, and is freed if it is to be expunged and is no longer open; 0 does nothing.
+    /// HANDLE if no loaded library begins there, LIB if it is not open (autodoc exec.library/CloseLibrary; the alerts: project rule).
     fn close_library<W: Witness>(&mut self, t: TaskId, call: &Call, out: &mut W)
         requires { HasTask t self.old }
         ensures { Follows W.hearing (does_close_library t (call_view call.now)) self.old self.new (W.told out.old) (W.told out.new) }

@@ -34,7 +34,7 @@ fn can_be_asked(reqs: u32) -> bool
 }
 
 impl<S: ListSpace> Kernel<S> {
-    /// A plain block of that many bytes, if one fits once libraries were expunged under low memory to it.
+    /// A plain block of that many bytes, if one fits once libraries were expunged under low memory for it.
     fn allocate(&mut self, size: u32, reqs: u32) -> Option<u32>
         ensures answer { result ≡ place_for size reqs (after_asking size reqs self.old.memory) }
         ensures next { self.new ≡ record self.old { memory = placed size Plain result (after_asking size reqs self.old.memory) } }

@@ -113,7 +113,7 @@ impl<S: ListSpace> Kernel<S> {
     }
 
     /// DeleteMsgPort port: frees a port and gives its signal back to its task; 0 does nothing. HANDLE if no port begins there, PORT
-    /// if it has messages, is public, or is the reply port of a request under way (autodoc exec.library/DeleteMsgPort; the alerts: project rule).
+    /// if it has messages, is public, or is the reply port of a request in progress (autodoc exec.library/DeleteMsgPort; the alerts: project rule).
     fn delete_msg_port<W: Witness>(&mut self, t: TaskId, call: &Call, out: &mut W)
         requires { HasTask t self.old }
         ensures { Follows W.hearing (does_delete_msg_port t (call_view call.now)) self.old self.new (W.told out.old) (W.told out.new) }
@@ -216,7 +216,7 @@ impl<S: ListSpace> Kernel<S> {
         self.concluded(tried, t, call, out);
     }
 
-    /// PortIgnore port: the port does nothing if a message arrives. HANDLE if no port begins there (RKM Libraries, Exec Messages and
+    /// PortIgnore port: the port does nothing when a message arrives. HANDLE if no port begins there (RKM Libraries, Exec Messages and
     /// Ports: mp_Flags, PA_IGNORE; that there is a call for it: project rule).
     fn port_ignore<W: Witness>(&mut self, t: TaskId, call: &Call, out: &mut W)
         requires { HasTask t self.old }

@@ -1,5 +1,5 @@
 //! Requests of timer.device: how they are made and freed, opened, written, begun, waited for and aborted; and how those finish whose time
-//! has come, at a tick or if system time is set. A request is named by the address of its block. The calls of `Heap` have the effects
+//! has come, at a tick or when system time is set. A request is named by the address of its block. The calls of `Heap` have the effects
 //! on memory; what a reply does to a task is done here.
 ghost use Rattle.std.specs.Prelude.{◌≡◌, ◌^◌, false, true, pos, unwrap_or, IfOk, OnErr, OnOk, if◌then◌else◌};
 ghost use Rattle.std.specs.Int.{cast_unsigned, w32};
@@ -20,7 +20,7 @@ use script::{Alert, RequestWord};
 use softint::source::Source;
 use taskq::TaskId;
 
-/// What AbortIO answers for a request that is not under way: the word of -1.
+/// What AbortIO answers for a request that is not in progress: the word of -1.
 const NOT_ABORTED: u32 = 0xffff_ffff;
 
 /// The unit of timer.device that is meant; none if another device is.
@@ -41,7 +41,7 @@ fn error_word(error: i8) -> u32
     i32::from(error).cast_unsigned()
 }
 
-/// What CheckIO answers: 0 for a request that is under way, and else the request.
+/// What CheckIO answers: 0 for a request that is in progress, and else the request.
 fn checked(under_way: bool, request: u32) -> u32
     ensures { result ≡ (if under_way then 0 else request) }
 {
@@ -75,7 +75,7 @@ impl<S: ListSpace> Kernel<S> {
         }
     }
 
-    /// DeleteIORequest request: frees a request; 0 does nothing. HANDLE if none begins there, IO if it is under way, LINK if its
+    /// DeleteIORequest request: frees a request; 0 does nothing. HANDLE if none begins there, IO if it is in progress, LINK if its
     /// reply is queued (autodoc exec.library/DeleteIORequest; the alerts: project rule).
     fn delete_io_request<W: Witness>(&mut self, t: TaskId, call: &Call, out: &mut W)
         requires { HasTask t self.old }
@@ -106,7 +106,7 @@ impl<S: ListSpace> Kernel<S> {
     }
 
     /// OpenDevice name unit request: opens a request for a unit of timer.device, and answers 0; or the word of IOERR_OPENFAIL (-1) if
-    /// there is no such device or unit, and the request is then not open. HANDLE if no request begins there, IO if it is under way
+    /// there is no such device or unit, and the request is then not open. HANDLE if no request begins there, IO if it is in progress
     /// (autodoc exec.library/OpenDevice; the alerts: project rule).
     fn open_device<W: Witness>(&mut self, t: TaskId, call: &Call, out: &mut W)
         requires { HasTask t self.old }
@@ -117,7 +117,7 @@ impl<S: ListSpace> Kernel<S> {
         self.concluded_with(tried, t, call, out);
     }
 
-    /// CloseDevice request: the request is not open. HANDLE if none begins there, IO if it is under way (autodoc
+    /// CloseDevice request: the request is not open. HANDLE if none begins there, IO if it is in progress (autodoc
     /// exec.library/CloseDevice; the alerts: project rule).
     #[tactic(auto, using(crate::proofs::Requesting::close_tried))]
     fn close_device<W: Witness>(&mut self, t: TaskId, call: &Call, out: &mut W)
@@ -130,7 +130,7 @@ impl<S: ListSpace> Kernel<S> {
     }
 
     /// SetIO request cmd secs micros: gives a request a command and a time in seconds and microseconds. HANDLE if no request begins
-    /// there, VALUE if the command is above 65535, IO if the request is under way (RKM Devices, Introduction to Amiga System Devices:
+    /// there, VALUE if the command is above 65535, IO if the request is in progress (RKM Devices, Introduction to Amiga System Devices:
     /// io_Command; Devices, timer device: tr_time; that there is a call for it, and the alerts: project rule).
     fn set_io<W: Witness>(&mut self, t: TaskId, call: &Call, out: &mut W)
         requires { HasTask t self.old }
@@ -153,7 +153,7 @@ impl<S: ListSpace> Kernel<S> {
     // ---- beginning and waiting
 
     /// SendIO request: begins a request with IOF_QUICK cleared; if that does it at once, it is replied. HANDLE if no request begins
-    /// there, IO if it is under way or not open, LINK if its reply is queued, HANDLE if no port begins at its reply port's address
+    /// there, IO if it is in progress or not open, LINK if its reply is queued, HANDLE if no port begins at its reply port's address
     /// (autodoc exec.library/SendIO; the alerts: project rule).
     fn send_io<W: Witness>(&mut self, t: TaskId, call: &Call, out: &mut W)
         requires { HasTask t self.old }
@@ -177,9 +177,9 @@ impl<S: ListSpace> Kernel<S> {
         }
     }
 
-    /// WaitIO request: answers the error of a request that is done, and takes its reply, if it has one; if it is under way, the task waits
+    /// WaitIO request: answers the error of a request that is done, and takes its reply, if it has one; if it is in progress, the task waits
     /// for the signal of its reply port, and looks again when it next runs, after that signal is cleared. HANDLE if no request begins
-    /// there, IO if it never was begun, LINK if it was replied and its reply is not queued, PORT if it is under way and its reply
+    /// there, IO if it never was begun, LINK if it was replied and its reply is not queued, PORT if it is in progress and its reply
     /// port does not signal the caller (autodoc exec.library/WaitIO; how a task waits and looks again, and the alerts: project rule).
     fn wait_io<W: Witness>(&mut self, t: TaskId, call: &Call, out: &mut W)
         requires known { HasTask t self.old }
@@ -226,7 +226,7 @@ impl<S: ListSpace> Kernel<S> {
         }
     }
 
-    /// CheckIO request: answers 0 for a request that is under way, and else the request, and leaves its reply if it is. HANDLE if no
+    /// CheckIO request: answers 0 for a request that is in progress, and else the request, and leaves its reply where it is. HANDLE if no
     /// request begins there (autodoc exec.library/CheckIO; the alert: project rule).
     fn check_io<W: Witness>(&mut self, t: TaskId, call: &Call, out: &mut W)
         requires { HasTask t self.old }
@@ -237,7 +237,7 @@ impl<S: ListSpace> Kernel<S> {
         self.concluded_with(tried, t, call, out);
     }
 
-    /// A call that aborts a request: one that was under way is replied, and 0 is answered, for any other the word of -1; or the call is
+    /// A call that aborts a request: one that was in progress is replied, and 0 is answered, for any other the word of -1; or the call is
     /// refused by its alert.
     fn aborted<W: Witness>(
         &mut self,
@@ -261,7 +261,7 @@ impl<S: ListSpace> Kernel<S> {
         }
     }
 
-    /// AbortIO request: a request that is under way is replied at once, with the error IOERR_ABORTED (-2), and 0 is answered; for any other
+    /// AbortIO request: a request that is in progress is replied at once, with the error IOERR_ABORTED (-2), and 0 is answered; for any other
     /// the word of -1. HANDLE if no request begins there (autodoc exec.library/AbortIO; the alert: project rule).
     fn abort_io<W: Witness>(&mut self, t: TaskId, call: &Call, out: &mut W)
         requires { HasTask t self.old }

@@ -74,7 +74,7 @@ impl<S: ListSpace> Kernel<S> {
         self.sched.leave();
     }
 
-    /// Ends a live task that does not run; if it waits for a semaphore, it does so no more.
+    /// Ends a live task that does not run; if it waits for a semaphore, it leaves that queue.
     fn remove_task(&mut self, t: TaskId)
         requires live { IsTrue (is_live (status_of self.old.schedule t)) }
         requires known { HasTask t self.old }

@@ -222,9 +222,9 @@ disjoint regions blocks w =
           (λ f. let high = not_in h.region b.0 f (omega (arith, m.0, order)) in omega (arith, m.1, high));
     }
 
--- ---- if blocks are, and if a fit may be
+-- ---- where blocks are, and where a fit may be
 
--- No block begins if a gap does
+-- No block begins where a gap does
 
 -- a gap after a block
 free_after : (block : ℕ × (ℕ × ℕ)) (rest : Blocks) (to : ℕ) (gap : Gap) (ys xs : List Gap) → 0 < block.1.0 → IsLaid (block.0 + block.1.0) rest to

@@ -10,7 +10,7 @@ pub enum PortFault {
     /// The port has messages.
     #[error("the port has messages")]
     NotEmpty = 1,
-    /// The message or the port is linked if it must not be, or is not linked if it must be.
+    /// The message or the port is linked where it must not be, or is not linked where it must be.
     #[error("linked where it must not be, or the other way")]
     Link = 2,
     /// There is no such port, or no such message.

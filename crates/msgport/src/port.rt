@@ -73,7 +73,7 @@ impl Port {
         }
     }
 
-    /// What is to be done if a message arrives.
+    /// What is to be done when a message arrives.
     ///
     /// Source: autodoc exec.library/PutMsg.
     pub fn acting(&self) -> Action

@@ -223,7 +223,7 @@ impl<S: ListSpace> Objects<S> {
         }
     }
 
-    /// The port that begins at an address, which has no message, is not public, and is the reply port of no request that is under way.
+    /// The port that begins at an address, which has no message, is not public, and is the reply port of no request that is in progress.
     pub fn port_to_delete(&self, port: u32) -> Result<PortId, Refusal>
         ensures alert { alert_of result ≡ model.delete_alert port (shown_memory self.now) }
         ensures found { IfOk result (λ p. slot (places variant.Port self.now) p ≡ Some port) }
@@ -404,7 +404,7 @@ impl<S: ListSpace> Heap<S> {
     }
 
     /// Frees a port, and answers its task and the number of its signal. It is refused if no port begins at the address (Handle), and
-    /// if the port has messages, is public, or is the reply port of a request that is under way (Port). Autodoc exec.library/DeleteMsgPort;
+    /// if the port has messages, is public, or is the reply port of a request that is in progress (Port). Autodoc exec.library/DeleteMsgPort;
     /// the refusals: project rule.
     pub fn delete_port(&mut self, port: u32) -> Result<(TaskId, u32), Refusal>
         ensures alert { alert_of result ≡ model.delete_alert port self.old }

@@ -70,7 +70,7 @@ impl<S: ListSpace> Objects<S> {
         Some(request)
     }
 
-    /// Frees a request that is not under way and whose reply is in no port.
+    /// Frees a request that is not in progress and whose reply is in no port.
     ///
     /// Source: autodoc exec.library/DeleteIORequest.
     pub fn free_request(&mut self, r: ReqId, address: u32)
@@ -86,7 +86,7 @@ impl<S: ListSpace> Objects<S> {
 
     // ---- opening and writing
 
-    /// Opens a request that is not under way for a unit of the timer, none if another device is meant, and answers the error.
+    /// Opens a request that is not in progress for a unit of the timer, none if another device is meant, and answers the error.
     ///
     /// Source: autodoc exec.library/OpenDevice.
     pub fn open_request(&mut self, r: ReqId, unit: Option<u32>) -> i8
@@ -98,7 +98,7 @@ impl<S: ListSpace> Objects<S> {
         self.requests.open_device(r, unit).unwrap()
     }
 
-    /// Leaves a request that is not under way not open.
+    /// Leaves a request that is not in progress not open.
     ///
     /// Source: autodoc exec.library/CloseDevice.
     pub fn close_request(&mut self, r: ReqId)
@@ -109,7 +109,7 @@ impl<S: ListSpace> Objects<S> {
         self.requests.close_device(r).unwrap();
     }
 
-    /// Gives a request that is not under way a command and a time.
+    /// Gives a request that is not in progress a command and a time.
     ///
     /// Source: RKM Devices, Introduction to Amiga System Devices: `io_Command`; RKM Devices, timer device: `tr_time`.
     pub fn set_request(&mut self, r: ReqId, command: u16, secs: u32, micros: u32)
@@ -181,7 +181,7 @@ impl<S: ListSpace> Objects<S> {
         let _ = self.requests.micros(r);
     }
 
-    /// Ends a request that is under way with IOERR_ABORTED, and answers what is to be done for its reply.
+    /// Ends a request that is in progress with IOERR_ABORTED, and answers what is to be done for its reply.
     ///
     /// Source: autodoc exec.library/AbortIO.
     pub fn abort_request(&mut self, r: ReqId) -> Action
@@ -278,7 +278,7 @@ impl<S: ListSpace> Objects<S> {
         }
     }
 
-    /// Whether a request is under way.
+    /// Whether a request is in progress.
     ///
     /// Source: autodoc exec.library/CheckIO.
     pub fn is_under_way(&self, r: ReqId) -> bool
@@ -327,7 +327,7 @@ impl<S: ListSpace> Objects<S> {
         }
     }
 
-    /// The request that begins at an address, which is not under way.
+    /// The request that begins at an address, which is not in progress.
     pub fn resting_request_at(&self, request: u32) -> Result<ReqId, Refusal>
         ensures alert { alert_of result ≡ model.resting_alert request (shown_heap self.now) }
         ensures found { IfOk result (λ r. slot (places variant.Request self.now) r ≡ Some request) }
@@ -341,7 +341,7 @@ impl<S: ListSpace> Objects<S> {
         if begun { Err(Refusal::Io) } else { Ok(r) }
     }
 
-    /// The request that begins at an address, which is not under way and whose reply is in no port.
+    /// The request that begins at an address, which is not in progress and whose reply is in no port.
     pub fn request_to_delete(&self, request: u32) -> Result<ReqId, Refusal>
         ensures alert { alert_of result ≡ model.delete_request_alert request (shown_heap self.now) }
         ensures found { IfOk result (λ r. slot (places variant.Request self.now) r ≡ Some request) }
@@ -354,7 +354,7 @@ impl<S: ListSpace> Objects<S> {
         if queued { Err(Refusal::Link) } else { Ok(r) }
     }
 
-    /// The request that begins at an address, which may begin but for its reply port: it is not under way, open, and its reply is in no port.
+    /// The request that begins at an address, which may begin but for its reply port: it is not in progress, open, and its reply is in no port.
     fn request_to_begin(&self, request: u32) -> Result<ReqId, Refusal>
         ensures alert { alert_of result ≡ model.begin_alert None request (shown_heap self.now) }
         ensures found { IfOk result (λ r. slot (places variant.Request self.now) r ≡ Some request) }
@@ -412,7 +412,7 @@ impl<S: ListSpace> Objects<S> {
         Ok((r, bit))
     }
 
-    /// The request that begins at an address and that a task may wait for: it was begun; if it is under way, its reply port signals the task, by
+    /// The request that begins at an address and that a task may wait for: it was begun; if it is in progress, its reply port signals the task, by
     /// the signal of the number that is answered; if it is replied, its reply is in a port.
     pub fn request_to_wait_for(&self, task: TaskId, request: u32) -> Result<(ReqId, u32), Refusal>
         ensures alert { alert_of result ≡ model.wait_io_alert task request (shown_heap self.now) }
@@ -456,7 +456,7 @@ impl<S: ListSpace> Objects<S> {
     }
 }
 
-/// Finishes a request that is under way with an error, puts its message as a reply at its reply port, if it has one that lives and is not
+/// Finishes a request that is in progress with an error, puts its message as a reply at its reply port, if it has one that lives and is not
 /// done quick, and answers what is to be done for it. The message is not held any more.
 fn finish<S: ListSpace>(
     table: &Table<S>,
@@ -510,7 +510,7 @@ impl<S: ListSpace> Heap<S> {
         self.objects.number_at(Kind::Request, request).is_some()
     }
 
-    /// Frees a request. It is refused if no request begins at the address (Handle), if it is under way (Io), and if its reply is
+    /// Frees a request. It is refused if no request begins at the address (Handle), if it is in progress (Io), and if its reply is
     /// queued (Link). Autodoc exec.library/DeleteIORequest; the refusals: project rule.
     pub fn delete_request(&mut self, request: u32) -> Result<(), Refusal>
         ensures alert { alert_of result ≡ model.delete_request_alert request self.old.heap }
@@ -525,7 +525,7 @@ impl<S: ListSpace> Heap<S> {
     // ---- opening and writing
 
     /// Opens a request for a unit of timer.device, none if another device is meant, and answers the error, which the request has then: 0, or
-    /// IOERR_OPENFAIL (-1), and it is then not open. It is refused if no request begins at the address (Handle), and if it is under way
+    /// IOERR_OPENFAIL (-1), and it is then not open. It is refused if no request begins at the address (Handle), and if it is in progress
     /// (Io). Autodoc exec.library/OpenDevice; the refusals: project rule.
     pub fn open_device(&mut self, request: u32, unit: Option<u32>) -> Result<i8, Refusal>
         ensures alert { alert_of result ≡ model.resting_alert request self.old.heap }
@@ -537,7 +537,7 @@ impl<S: ListSpace> Heap<S> {
         Ok(self.objects.open_request(r, unit))
     }
 
-    /// Leaves a request not open. It is refused if no request begins at the address (Handle), and if it is under way (Io). Autodoc
+    /// Leaves a request not open. It is refused if no request begins at the address (Handle), and if it is in progress (Io). Autodoc
     /// exec.library/CloseDevice; the refusals: project rule.
     pub fn close_device(&mut self, request: u32) -> Result<(), Refusal>
         ensures alert { alert_of result ≡ model.resting_alert request self.old.heap }
@@ -550,7 +550,7 @@ impl<S: ListSpace> Heap<S> {
     }
 
     /// Gives a request a command and a time in seconds and microseconds. It is refused if no request begins at the address (Handle), and
-    /// if it is under way (Io). RKM Devices, Introduction to Amiga System Devices: `io_Command`; Devices, timer device: `tr_time`; the
+    /// if it is in progress (Io). RKM Devices, Introduction to Amiga System Devices: `io_Command`; Devices, timer device: `tr_time`; the
     /// refusals: project rule.
     pub fn set_request(
         &mut self,
@@ -572,7 +572,7 @@ impl<S: ListSpace> Heap<S> {
 
     /// Begins a request with IOF_QUICK cleared, and answers what is to be done for its reply, if it is done at once; else it waits for its
     /// time. TR_SETSYSTIME is done at once, and system time is then the time of the request. It is refused if no request begins at the
-    /// address (Handle), if it is under way or not open (Io), if its reply is queued (Link), and if its reply port does not live
+    /// address (Handle), if it is in progress or not open (Io), if its reply is queued (Link), and if its reply port does not live
     /// (Handle). Autodocs exec.library/SendIO and timer.device: TR_SETSYSTIME; the refusals: project rule.
     pub fn send_request(&mut self, request: u32) -> Result<Action, Refusal>
         ensures alert { alert_of result ≡ model.send_alert request self.old.heap }
@@ -601,7 +601,7 @@ impl<S: ListSpace> Heap<S> {
 
     // ---- waiting and aborting
 
-    /// Answers whether a request is under way. It is refused if no request begins at the address (Handle). Autodoc exec.library/CheckIO; the
+    /// Answers whether a request is in progress. It is refused if no request begins at the address (Handle). Autodoc exec.library/CheckIO; the
     /// refusal: project rule.
     pub fn is_under_way(&self, request: u32) -> Result<bool, Refusal>
         ensures alert { alert_of result ≡ model.request_alert request self.now.heap }
@@ -611,9 +611,9 @@ impl<S: ListSpace> Heap<S> {
         Ok(self.objects.is_under_way(r))
     }
 
-    /// Answers the error of a request that is done, and takes its reply, if it has one, out of its reply port; for one that is under way the
+    /// Answers the error of a request that is done, and takes its reply, if it has one, out of its reply port; for one that is in progress the
     /// number of the signal by which its reply port notifies the task (0 to 31). It is refused if no request begins at the address (Handle),
-    /// if it never was begun (Io), if it is replied and its reply is not queued (Link), and if it is under way and its reply port does
+    /// if it never was begun (Io), if it is replied and its reply is not queued (Link), and if it is in progress and its reply port does
     /// not signal the task (Port). Autodoc exec.library/WaitIO; the refusals: project rule.
     pub fn wait_for_request(&mut self, task: TaskId, request: u32) -> Result<Awaited, Refusal>
         ensures alert { alert_of result ≡ model.wait_io_alert task request self.old.heap }
@@ -627,8 +627,8 @@ impl<S: ListSpace> Heap<S> {
         Ok(self.objects.looked_for(r, bit))
     }
 
-    /// Ends a request that is under way with IOERR_ABORTED (-2), and answers what is to be done for its reply; none, and nothing changes, if
-    /// it is not under way. It is refused if no request begins at the address (Handle). Autodoc exec.library/AbortIO; the refusal: project rule.
+    /// Ends a request that is in progress with IOERR_ABORTED (-2), and answers what is to be done for its reply; none, and nothing changes, if
+    /// it is not in progress. It is refused if no request begins at the address (Handle). Autodoc exec.library/AbortIO; the refusal: project rule.
     pub fn abort_request(&mut self, request: u32) -> Result<Option<Action>, Refusal>
         ensures alert { alert_of result ≡ model.request_alert request self.old.heap }
         ensures answer { IfOk result (λ answer. answer ≡ aborting request self.old.heap) }

@@ -1,4 +1,4 @@
--- The request that is shown is ended, if it is under way.
+-- The request that is shown is ended, if it is in progress.
 use Rattle.std.proofs.Common.{Some, ap, sym, ◌∙◌}
 use Rattle.execmodel.specs.State.{Memory}
 use Rattle.execheap.specs.{Listing.aborted, Listing.aborting, Numbered.shown_memory}

@@ -1,4 +1,4 @@
--- A request that is under way is done, and waits no more.
+-- A request that is in progress is done, and waits no more.
 use Rattle.std.proofs.Common.{ap, sym, subst, ◌∙◌, negsuc}
 use Rattle.iorequest.specs.{Request.reply_port, Requests.is_request, Requests.request_at}
 use Rattle.execheap.specs.Numbered.{IsKnown, Numbered, message_of_request}

@@ -1,4 +1,4 @@
--- A request whose time has come lives and is under way; it is done, and waits no more.
+-- A request whose time has come lives and is in progress; it is done, and waits no more.
 use Rattle.std.proofs.Common.{ap, sym, subst, ◌∙◌, ◌+◌, pos}
 use Rattle.iorequest.specs.{Request.reply_port, Requests.request_at}
 use Rattle.timerdev.specs.Held.{on_timer, taken_off}

@@ -1,4 +1,4 @@
--- A request is under way if it is by number.
+-- A request is in progress if it is by number.
 use Rattle.std.proofs.Common.{sym, ◌∙◌}
 use Rattle.iorequest.specs.Requests.{request_at}
 use Rattle.execheap.specs.Numbered.{shown_heap}

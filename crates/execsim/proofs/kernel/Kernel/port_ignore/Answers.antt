@@ -1,4 +1,4 @@
--- The proof of `Kernel::port_ignore`: PortIgnore port: the port does nothing if a message arrives.
+-- The proof of `Kernel::port_ignore`: PortIgnore port: the port does nothing when a message arrives.
 use Rattle.std.proofs.Common.{refl}
 use Rattle.msgport.specs.declared.action.PortAction.TheVariants.{Ignore}
 use Rattle.execmodel.specs.{State.on_heap, Ports.does_port_ignore, Ports.port_alert, Ports.with_action}
