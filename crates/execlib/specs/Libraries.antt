@@ -1,5 +1,5 @@
--- What calls on libraries see: which libraries there are, and of each that is loaded where it lies, how often it is open, and whether it
--- is to be expunged when it is closed for the last time (RKM Libraries, Exec Libraries).
+-- What calls on libraries see: which libraries there are; and of each loaded one, where it lies, how often it is open,
+-- and whether it is to be expunged when it is closed for the last time (RKM Libraries, Exec Libraries).
 use Rattle.std.specs.Prelude.{◌≡◌, ℕ, ◌+◌, ◌-◌, ◌≤◌, pos, nat_le, nat_eq, bytes_eq, Bool, true, false, not, ◌&&◌, is_some, if◌then◌else◌, List, [], ◌∷◌, length, map, replicate, slice_set, slice_index_or, Option, Some, None, option_and_then, option_map}
 use Rattle.std.specs.{List.position_from, List.range_with_len, Option.option_map_or}
 use Rattle.execlist.specs.Lists.{KeyData}
@@ -69,7 +69,7 @@ number_of name m = position_from (λ (library : Description). bytes_eq library.n
 abbrev pub library_tag : ℕ → ℕ
 library_tag i = 0x80000000 + i
 
--- MEMF_PUBLIC: libraries lie in memory of that attribute (project rule)
+-- MEMF_PUBLIC, 1: libraries lie in memory of that attribute (project rule)
 abbrev pub public_memory : ℕ
 public_memory = 1
 
@@ -159,7 +159,7 @@ after_asking size reqs l =
 
 -- ---- opening
 
--- a library may be open that many times (project rule: lib_OpenCnt is a word of 16 bits)
+-- 65535: how often a library may be open at one time (project rule: lib_OpenCnt is a word of 16 bits)
 abbrev pub most_openings : ℕ
 most_openings = 65535
 
@@ -167,7 +167,7 @@ most_openings = 65535
 abbrev pub can_open : (version i : ℕ) → Libraries → Bool
 can_open version i m = nat_le version (library_at i m).version && not (nat_eq (count_of i m) most_openings)
 
--- a number, if it passes a test
+-- a number, if it passes a test; else none
 abbrev pub only_if : (ℕ → Bool) → ℕ → Option ℕ
 only_if test i = if test i then Some i else None
 
@@ -175,7 +175,7 @@ only_if test i = if test i then Some i else None
 abbrev pub library_to_open : List ℕ → ℕ → Libraries → Option ℕ
 library_to_open name version m = option_and_then (only_if (λ i. can_open version i m)) (number_of name m)
 
--- where a library lies, or if it is going to be loaded, if a gap is large enough
+-- where a library lies, or where it is going to be loaded, if a gap is large enough
 abbrev pub base_or_fit : Option Loaded → ℕ → Memory → Option ℕ
 base_or_fit None size memory = fit memory.regions memory.blocks size public_memory
 base_or_fit (Some l) size memory = Some l.base
@@ -187,7 +187,7 @@ base_for i m memory = base_or_fit (loaded_at i m) (library_at i m).size memory
 abbrev pub ready_to_load : ℕ → Lent → Lent
 ready_to_load i l = if is_loaded i l.libraries then l else after_asking (library_at i l.libraries).size public_memory l
 
--- the same before an opening of a library or of none
+-- libraries and memory before an opening of a library, or of none
 unfoldable pub ready_to_open : Option ℕ → Lent → Lent
 ready_to_open None l = l
 ready_to_open (Some i) l = ready_to_load i l

@@ -1,4 +1,4 @@
--- What a call that may be refused answers, and what it leaves: by the fault, if there is one.
+-- What a call that may be refused returns, and what it leaves: by the fault, if there is one.
 use Rattle.std.specs.Prelude.{Option, Some, None, Result, Ok, Err}
 
 -- the fault, if there is one, and else the value

@@ -3,12 +3,12 @@
 use Rattle.std.specs.Prelude.{ℕ, ℤ, pos, suc, List, [], ◌∷◌, ◌++◌, Option, Some, None, Bool, false, ◌==◌, if◌then◌else◌, slice_index_or}
 use Rattle.std.specs.Cmp.Lexicographic.{pointwise}
 
--- what is known of a node beside its place: its priority, and its name or none
+-- what is known of a node besides its place: its priority, and its name or none
 pub record KeyData : Type 0 where
   pub pri : ℤ
   pub name : Option (List ℕ)
 
--- the key of a new node
+-- the key of a new node: priority 0, and no name
 abbrev pub blank : KeyData
 blank = record { pri = pos 0; name = None }
 
@@ -32,17 +32,17 @@ pri_of keys n = (slice_index_or keys n blank).pri
 abbrev pub name_of : List KeyData → ℕ → Option (List ℕ)
 name_of keys n = (slice_index_or keys n blank).name
 
--- what is before node n
+-- the nodes before node n
 abbrev pub part_before : ℕ → List ℕ → List ℕ
 part_before n [] = []
 part_before n (x ∷ xs) = if x == n then [] else x ∷ part_before n xs
 
--- what is after node n
+-- the nodes after node n
 abbrev pub part_after : ℕ → List ℕ → List ℕ
 part_after n [] = []
 part_after n (x ∷ xs) = if x == n then xs else part_after n xs
 
--- the last node
+-- the last node, if there is one
 abbrev pub last : List ℕ → Option ℕ
 last [] = None
 last (x ∷ []) = Some x
@@ -63,7 +63,7 @@ abbrev pub ahead : Option ℕ → List ℕ → List ℕ
 ahead None xs = []
 ahead (Some n) xs = n ∷ part_after n xs
 
--- a name or none is that name, byte for byte
+-- there is a name, and it is this one, byte for byte
 abbrev pub name_is : Option (List ℕ) → List ℕ → Bool
 name_is None b = false
 name_is (Some a) b = pointwise ◌==◌ a b
@@ -72,7 +72,7 @@ name_is (Some a) b = pointwise ◌==◌ a b
 abbrev pub is_named : List KeyData → List ℕ → ℕ → Bool
 is_named keys name n = name_is (name_of keys n) name
 
--- a header or none is that header
+-- there is a number, of a header or of an owner, and it is this one
 abbrev pub is_at : Option ℕ → ℕ → Bool
 is_at None h = false
 is_at (Some k) h = k == h

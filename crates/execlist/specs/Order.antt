@@ -1,8 +1,8 @@
--- Sequences that are kept by a key, as Exec keeps its lists by priority: what an arrival does,
--- which item is chosen, and the laws that tie the two. The key is any whole number of an item.
+-- Sequences that are kept by a key, as Exec keeps its lists by priority: what an arrival does, which item is chosen,
+-- and the laws that tie the two. The key of an item is any integer.
 use Rattle.std.specs.Prelude.{◌≡◌, ◌≢◌, ℕ, ℤ, ◌≤ℤ◌, ◌<ℤ◌, ◌<◌, ◌==◌, List, [], ◌∷◌, ◌++◌, length, Option, Some, None, Bool, not, if◌then◌else◌, fold, filter, int_lt, slice_index_or, MatchOption, All, find}
 
--- y is of lower key than x
+-- y has a lower key than x
 abbrev pub is_lower : {A : Type 0} → (A → ℤ) → A → A → Bool
 is_lower key y x = int_lt (key y) (key x)
 
@@ -15,7 +15,7 @@ enqueue key (y ∷ ys) x = if is_lower key y x then x ∷ y ∷ ys else y ∷ en
 unfoldable pub order : {A : Type 0} → (A → ℤ) → List A → List A
 order key xs = fold (enqueue key) [] xs
 
--- the first item
+-- the first item, if there is one
 abbrev pub first : {A : Type 0} → List A → Option A
 first [] = None
 first (x ∷ xs) = Some x
@@ -24,12 +24,12 @@ first (x ∷ xs) = Some x
 abbrev pub without : ℕ → List ℕ → List ℕ
 without n xs = filter (λ x. not (x == n)) xs
 
--- x, unless what is chosen from the items after it is of greater key
+-- x, unless the item that is chosen from those after it has a greater key
 abbrev pub chosen_or : {A : Type 0} → (A → ℤ) → A → Option A → Option A
 chosen_or key x None = Some x
 chosen_or key x (Some y) = if is_lower key x y then Some y else Some x
 
--- the earliest among the items of greatest key (RKM Libraries, Exec Tasks: scheduling)
+-- the earliest among the items of greatest key, if there are items (RKM Libraries, Exec Tasks: scheduling)
 abbrev pub chosen : {A : Type 0} → (A → ℤ) → List A → Option A
 chosen key [] = None
 chosen key (x ∷ xs) = chosen_or key x (chosen key xs)

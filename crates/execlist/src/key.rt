@@ -1,4 +1,4 @@
-//! What a space keeps of a node beside its place: a priority, and a name or none.
+//! What a space keeps of a node besides its place: a priority, and a name or none.
 ghost use Rattle.std.specs.Prelude.{◌≡◌};
 ghost use Rattle.execlist.specs.Lists.{name_is};
 

@@ -28,12 +28,12 @@ pub data Object : Type 0 where
   -- a loaded library, by its number from 0 in the order of the file, with how often it is open, and whether it is to be expunged when it is
   -- closed for the last time (RKM Libraries, Exec Libraries: lib_OpenCnt, LIBF_DELEXP)
   Library : (number count : ℕ) (delayed : Bool) → Object
-  -- a timer request: the address of its reply port, how far it has come, and what it asks of the device and was answered (RKM Devices,
-  -- Introduction to Amiga System Devices)
+  -- a timer request: the address of its reply port, how far it has come, what it asks of the device, and what the
+  -- device returned (RKM Devices, Introduction to Amiga System Devices)
   Request : (content : TimerRequest) → Object
 
--- a block of memory, and what begins there (RKM Libraries, Exec Lists and Queues; RKM Libraries, Exec Messages and Ports; RKM Libraries,
--- Exec Semaphores; RKM Libraries, Exec Libraries)
+-- the size of a block of memory in bytes, and the object that begins there (RKM Libraries, Exec Lists and Queues; RKM
+-- Libraries, Exec Messages and Ports; RKM Libraries, Exec Semaphores; RKM Libraries, Exec Libraries)
 pub record Block : Type 0 where
   pub size : ℕ
   pub object : Object
@@ -47,14 +47,14 @@ pub record PublicPort : Type 0 where
   pub port : ℕ
   pub key : KeyData
 
--- the regions of memory and the libraries, both in the order of the file, whether libraries are expunged under low memory if memory is refused,
--- how many objects of each kind may live, how many tasks there are, each of which may wait for a semaphore, the blocks that are allocated,
--- the public ports in order of arrival, and the timer (RKM Libraries, Exec Memory Allocation; RKM Libraries, Exec Messages and Ports; RKM
--- Devices, Timer Device)
+-- the regions of memory and the libraries, both in the order of the file; whether libraries are expunged under low
+-- memory; how many objects of each kind may live; how many tasks there are, each of which may wait for a semaphore; the
+-- blocks that are allocated; the public ports in order of arrival; and the timer (RKM Libraries, Exec Memory
+-- Allocation; RKM Libraries, Exec Messages and Ports; RKM Devices, Timer Device)
 pub record Memory : Type 0 where
   pub regions : List Region
   pub libraries : List LibraryData
-  -- libraries that are not open are expunged if memory is refused: in version 2 of the rules
+  -- whether libraries that are not open are expunged when memory is refused: so it is in version 2 of the rules
   pub asks : Bool
   pub pool : ℕ
   pub tasks : ℕ
@@ -62,10 +62,10 @@ pub record Memory : Type 0 where
   pub public : List PublicPort
   pub timer : Timer
 
--- an action on the blocks and what begins there
+-- a change of the blocks alone, and of what begins there
 abbrev pub on_heap : (Heap → Heap) → Memory → Memory
 on_heap f memory = record memory { heap = f memory.heap }
 
--- an action on the timer
+-- a change of the timer alone
 abbrev pub on_timer : (Timer → Timer) → Memory → Memory
 on_timer f memory = record memory { timer = f memory.timer }

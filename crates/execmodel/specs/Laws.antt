@@ -41,7 +41,7 @@ FirstInFirstOut =
     IsInOrder (messages_of port old.memory.heap) (turns_at_port port marks) (messages_of port new.memory.heap))
 
 -- Each byte has one owner. The regions stay those of the file; blocks and gaps tile each of them: each unit of 8 bytes lies in exactly
--- one, and their sizes add up to the region's. Each block lies in a region, and no two meet.
+-- one, and their sizes add up to the region's. Each block lies in a region, and no two overlap.
 pub record HasOneOwner (regions : List Region) (s : State) : Type 0 where
   pub installed : s.memory.regions ≡ regions
   pub tiled : (place : ℕ) (region : Region) → slice_get regions place ≡ Some region → IsTiled region (extents s.memory.heap)
@@ -85,7 +85,7 @@ pub record IsToCall (t : ℕ) (call : Call) (s : State) : Type 0 where
 
 -- ---- arguments
 
--- if a word asks for a value or a label a value is, and if it asks for a name a name
+-- where a word asks for a value or a label there is a value, and where it asks for a name there is a name
 abbrev pub FitsKind : Kind → Argument → Type 0
 FitsKind kind.Value (Value n) = Unit {0}
 FitsKind kind.Label (Value n) = Unit {0}
@@ -161,8 +161,8 @@ QueuesAgreeWithTheSchedule =
 
 -- ---- priority
 
--- If no task runs none is ready; if switching is allowed no ready task has a higher priority than the running one; and a request is
--- left only if interrupts are not allowed.
+-- If no task runs, none is ready. If switching is allowed, no ready task has a higher priority than the running one.
+-- And a request of an interrupt is left only if interrupts are not allowed.
 pub record IsSettled (s : State) : Type 0 where
   pub none_left : s.schedule.running ≡ None → s.schedule.queue.ready ≡ []
   pub none_higher : (r : ℕ) → s.schedule.running ≡ Some r → is_switching_allowed (Some r) s.schedule ≡ true
@@ -348,7 +348,7 @@ abbrev pub LibrariesGiveWayAsFarAsNeeded : Type 0
 LibrariesGiveWayAsFarAsNeeded =
     (size reqs : ℕ) (memory : Memory) → memory.asks ≡ true → size ≢ 0 → AsksAsFarAsNeeded size reqs memory (after_asking size reqs memory)
 
--- What is no library stays as it is, and nothing begins if nothing began; a library that is open stays loaded, and as often open.
+-- What is not a library stays as it is, and nothing begins where nothing began; a library that is open stays loaded, and as often open.
 pub record OnlyClosedLibrariesGo (old new : Heap) : Type 0 where
   pub others : (a : ℕ) → is_library_at a old ≡ false → block_at a new ≡ block_at a old
   pub loaded : (base : ℕ) → is_library_at base old ≡ true → 1 ≤ count_of base old → StaysLoaded base old new
@@ -396,7 +396,7 @@ pub record IsSetting (s : State) (system : ℕ) : Type 0 where
   pub sets : sets_time (request_of (argument 0 call) s.memory.heap) ≡ true
   pub becomes : system ≡ time_of (request_of (argument 0 call) s.memory.heap)
 
--- What system time is ahead of the clock, or after it, stays, unless the running task in this step begins a request that sets system time:
+-- How far system time is ahead of the clock, or behind it, stays, unless the running task in this step begins a request that sets system time:
 -- then system time is the time of that request.
 abbrev pub SystemTimeGoesWithTheClock : Type 0
 SystemTimeGoesWithTheClock =

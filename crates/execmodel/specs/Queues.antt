@@ -1,13 +1,13 @@
 -- Who came to a queue, who was served at it, and who left it unserved: what the laws of ports and of semaphores speak of.
 use Rattle.std.specs.Prelude.{◌≡◌, ℕ, Bool, true, false, not, if◌then◌else◌, nat_eq, List, [], ◌∷◌, ◌++◌, filter}
 
--- one thing that happened at a queue
+-- one thing that happened at a queue: someone came, was served, or left unserved
 pub data Turn : Type 0 where
   Came : (who : ℕ) → Turn
   Served : (who : ℕ) → Turn
   Left : (who : ℕ) → Turn
 
--- the next that happens to one who is in the queue is to leave it unserved
+-- the next thing that happens to someone in the queue is that they leave it unserved
 abbrev pub is_to_leave : ℕ → List Turn → Bool
 is_to_leave who [] = false
 is_to_leave who (Came other ∷ turns) = is_to_leave who turns
@@ -32,7 +32,7 @@ served (Came who ∷ turns) = served turns
 served (Served who ∷ turns) = who ∷ served turns
 served (Left who ∷ turns) = served turns
 
--- First come, first served: those who was in the queue at first and those who came, less those that left unserved, are those who were
--- served, in that order, followed by those who are in it at last.
+-- First come, first served. Those who were in the queue at first and then those who came, without those who left
+-- unserved, are those who were served, in that order, followed by those who are in the queue at last.
 abbrev pub IsInOrder : List ℕ → List Turn → List ℕ → Type 0
 IsInOrder first turns last = staying turns first ++ comers turns ≡ served turns ++ last

@@ -8,8 +8,8 @@ use Rattle.softint.specs.{Sources.no_latches, declared.latches.Latches.Latches}
 use Rattle.timerdev.specs.Timing.{new_timer}
 pub use Rattle.execmodel.specs.Blocks.{Object, Plain, ListHead, Node, MsgPort, Message, Semaphore, Library, Request, Block, Heap, PublicPort, Due, AtClock, AtSystem, Waiting, Timer, Memory, on_heap, on_timer}
 
--- a command of a task with the values that its arguments had when it was first tried, and the place of the command after it; and, if
--- the task waits in it at a port, the signals that it waits for, else 0
+-- a command of a task with the values that its arguments had when it was first tried, and the place of the command
+-- after it; and, if the task waits in it for a signal of a port, the mask of that signal, else 0
 pub record Call : Type 0 where
   pub word : Word
   pub target : Option Variable
@@ -37,8 +37,8 @@ pub record Bodies : Type 0 where
   pub softints : List SoftintData
   pub servers : List ServerData
 
--- the interrupts that are pending: the software interrupts that are caused, by number from 0, in order of arrival; and the latches, which
--- say the sources that ask to be served (RKM Libraries, Exec Interrupts)
+-- the interrupts that are pending: the software interrupts that are caused, by number from 0, in order of arrival; and
+-- the latches, which say which sources ask to be served (RKM Libraries, Exec Interrupts)
 pub record Pending : Type 0 where
   pub caused : List ℕ
   pub latches : Latches
@@ -55,16 +55,22 @@ pub record State : Type 0 where
   pub bodies : Bodies
   -- the interrupts that are asked for, and have not run yet
   pub pending : Pending
-  -- an alert has stopped the machine
+  -- whether an alert has stopped the machine
   pub stopped : Bool
 
 -- What an action leaves in the history of a port or a semaphore. Marks are not printed: the laws of whole runs speak of them.
 pub data Mark : Type 0 where
+  -- a message, or the reply of a request, is put at a port: by PutMsg, by ReplyMsg, or as the request finishes
   put : (port message : ℕ) → Mark
+  -- GetMsg takes a message out of a port
   got : (port message : ℕ) → Mark
+  -- WaitIO or DoIO takes the reply of a request out of its reply port
   out : (port message : ℕ) → Mark
+  -- a task asks for a semaphore, and has to wait
   asked : (semaphore task : ℕ) → Mark
+  -- a release makes a task that waits the owner of a semaphore
   passed : (semaphore task : ℕ) → Mark
+  -- a task that waits for a semaphore is removed
   left : (semaphore task : ℕ) → Mark
 
 -- the next state, the lines that are printed on the way, and the marks that are left
@@ -75,19 +81,19 @@ pub record Outcome : Type 0 where
 
 -- ---- actions
 
--- an outcome that leaves one more mark
+-- an outcome with one more mark, before its others
 abbrev pub leaving : Mark → Outcome → Outcome
 leaving mark o = record o { marks = mark ∷ o.marks }
 
--- nothing is printed
+-- the outcome of an action that prints nothing and leaves no mark
 abbrev pub quiet : State → Outcome
 quiet s = record { state = s; lines = []; marks = [] }
 
--- one line is printed
+-- the outcome of an action that prints one line and leaves no mark
 abbrev pub says : TraceLine → State → Outcome
 says line s = record { state = s; lines = line ∷ []; marks = [] }
 
--- one action after another
+-- one action after another: the state after both, and the lines and marks of the first and then of the second
 unfoldable pub andthen : (State → Outcome) → (State → Outcome) → State → Outcome
 andthen first next s =
     let a = first s in
@@ -100,7 +106,7 @@ unless_stopped next s = if s.stopped then quiet s else next s
 
 -- ---- parts of a state
 
--- the program that is read at a number that no task has
+-- the program of a number that no task has
 abbrev pub no_program : Program
 no_program = record { code = []; place = 0; variables = []; kept = None; starts = false }
 
@@ -108,7 +114,7 @@ no_program = record { code = []; place = 0; variables = []; kept = None; starts 
 abbrev pub program_of : Scripts → ℕ → Program
 program_of scripts t = slice_index_or scripts.programs t no_program
 
--- a task has another program
+-- task t gets another program
 abbrev pub with_program : ℕ → Program → Scripts → Scripts
 with_program t program scripts = record scripts { programs = slice_set scripts.programs t program }
 
@@ -130,11 +136,11 @@ on_pending f s = record s { pending = f s.pending }
 
 -- ---- the first state
 
--- the number of variables of one task (project rule)
+-- 32: the number of variables of one task (project rule)
 abbrev pub private_variables : ℕ
 private_variables = 32
 
--- the number of variables that all bodies share (project rule)
+-- 64: the number of variables that all bodies share (project rule)
 abbrev pub shared_variables : ℕ
 shared_variables = 64
 

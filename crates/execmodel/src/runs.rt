@@ -299,8 +299,8 @@ pub fn a_setting_back_finishes_nothing()
     ensures { ASettingBackFinishesNothing }
 {}
 
-/// At a tick requests of all units finish by the due time when their times come, those for a system time by what it is ahead of the clock then;
-/// those of one due time in the order in which they were begun, whatever their units.
+/// At a tick requests of all units finish by the due time when their times come, those for a system time by how far it is ahead of the clock
+/// then; those of one due time in the order in which they were begun, whatever their units.
 pub fn requests_of_one_moment_finish_in_the_order_of_beginning()
     ensures { RequestsOfOneMomentFinishInTheOrderOfBeginning }
 {}

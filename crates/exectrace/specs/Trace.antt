@@ -6,7 +6,7 @@ pub data Argument : Type 0 where
   Value : (value : ℕ) → Argument
   Quoted : (name : List ℕ) → Argument
 
--- how a call ends: it does not answer, it answers a value, or it waits
+-- how a call ends: it returns nothing, it returns a value, or its task waits
 pub data CallEnd : Type 0 where
   Done : CallEnd
   Answers : (value : ℕ) → CallEnd
@@ -20,9 +20,9 @@ pub data TraceLine : Type 0 where
   Idle : TraceLine
   -- a call was made
   Call : (name word : List ℕ) (arguments : List Argument) (outcome : CallEnd) → TraceLine
-  -- the latch of an interrupt source is served
+  -- an interrupt source is served
   Serve : (source : List ℕ) → TraceLine
-  -- the request at this address finishes at a tick, or as system time is set
+  -- the request at this address finishes: at a serving of VERTB, or after system time was set
   Timer : (value : ℕ) → TraceLine
   -- the body of a server begins
   Server : (name : List ℕ) → TraceLine
@@ -31,15 +31,15 @@ pub data TraceLine : Type 0 where
   -- a call was refused
   Alert : (code name word : List ℕ) → TraceLine
 
--- the digit for a number below 16
+-- the hexadecimal digit for a number below 16
 abbrev pub hex_digit : ℕ → ℕ
 hex_digit n = slice_index_or (codes "0123456789ABCDEF") n 0
 
--- the digit of 16 to this power
+-- the hexadecimal digit of a number at the place of 16 to this power
 abbrev pub digit_at : ℕ → ℕ → ℕ
 digit_at n power = hex_digit (n / 16 ^ power % 16)
 
--- `$` and eight digits
+-- a value: `$` and eight hexadecimal digits
 abbrev pub value_text : ℕ → List ℕ
 value_text n = codes "$" ++ map (digit_at n) (7 ∷ 6 ∷ 5 ∷ 4 ∷ 3 ∷ 2 ∷ 1 ∷ 0 ∷ [])
 
@@ -48,7 +48,7 @@ abbrev pub argument_text : Argument → List ℕ
 argument_text (Value n) = codes " " ++ value_text n
 argument_text (Quoted name) = codes " \"" ++ name ++ codes "\""
 
--- the end of the line of a call: nothing, its answer, or that it waits
+-- the end of the line of a call: nothing, the value that it returns, or that its task waits
 abbrev pub outcome_text : CallEnd → List ℕ
 outcome_text Done = []
 outcome_text (Answers n) = codes " -> " ++ value_text n

@@ -66,9 +66,9 @@ pub enum Line {
     Answer(CallLine, u32),
     /// `NAME WORD{ ARG} waits`: a call that waits, at each try.
     Wait(CallLine),
-    /// `serve SOURCE`: a latch is served.
+    /// `serve SOURCE`: an interrupt source is served.
     Serve(Name),
-    /// `timer VALUE`: a queued request, at this address, finishes at a tick, or as system time is set.
+    /// `timer VALUE`: a request that waits, at this address, finishes: at a serving of VERTB, or after system time was set.
     Timer(u32),
     /// `server NAME`: a server's body begins.
     Server(Name),

@@ -489,7 +489,7 @@ pub fn put_serve<W: Sink>(source: &str, out: &mut W)
     put_between(b"serve ", source.as_bytes(), b"\n", out);
 }
 
-/// Puts `timer VALUE`: the queued request at this address finishes at a tick, or as system time is set.
+/// Puts `timer VALUE`: the request at this address finishes: at a serving of VERTB, or after system time was set.
 #[inline(never)]
 pub fn put_timer<W: Sink>(value: u32, out: &mut W)
     ensures { Puts (W.tape out.old) (W.tape out.new) (printed_line (Timer value)) }

@@ -19,9 +19,9 @@ pub enum Said<'a> {
         quoted: &'a Name,
         ends: CallOutcome,
     },
-    /// The latch of an interrupt source is served.
+    /// An interrupt source is served.
     Serve(Source),
-    /// The request at this address finishes at a tick, or as system time is set.
+    /// The request at this address finishes: at a serving of VERTB, or after system time was set.
     Timer(u32),
     /// The body of a server begins.
     Server(&'a Name),

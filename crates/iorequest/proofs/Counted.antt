@@ -1,4 +1,4 @@
--- The counts of the requests under way, after a number of the pool holds something else.
+-- The counts of the requests in progress, after a number of the pool holds something else.
 use Rattle.std.proofs.Common.{◌≡◌, ◌≢◌, ℕ, zero, suc, ◌+◌, ◌-◌, ◌<◌, ◌≤◌, Bool, true, false, List, [], ◌∷◌, length, slice_index_or, refl, sym, ap, ◌∙◌, subst, arith, inl, inr, Option, Some, None, get_or-set_same, get_or-set_other, length-set, ◌⊎◌, nat_eq, ◌&&◌, slice_set, sum_by, if◌then◌else◌, is_some, unwrap_or, eq-eqb, ne_eqb, eqb-true}
 use Rattle.std.specs.List.{list_any}
 use Rattle.std.proofs.lemmas.{Bool.cases_eq, List.Folds.list_any_none, List.Sums.get_or-le-sum_by, List.Sums.sum_by-le, List.Sums.sum_by-set}
@@ -7,12 +7,12 @@ use Rattle.iorequest.specs.{declared.request.Request.Request, Request.is_under_w
 
 -- ---- weights
 
--- a request that is not under way weighs nothing
+-- a request that is not in progress weighs nothing
 idle_weight : (keys key : ℕ) (d : Request) (o : Option Request) → is_under_way (unwrap_or o d) ≡ false → weight keys key o ≡ 0
 idle_weight keys key d None idle = refl
 idle_weight keys key d (Some q) idle = ap (λ (b : Bool). if b && nat_eq (key_of keys q.port) key then 1 else 0) idle
 
--- one that is under way weighs 1 for the key of its port, and nothing for any other
+-- one that is in progress weighs 1 for the key of its port, and nothing for any other
 own_weight : (keys : ℕ) (d : Request) (o : Option Request) → is_some o ≡ true → is_under_way (unwrap_or o d) ≡ true
     → weight keys (key_of keys (unwrap_or o d).port) o ≡ 1
 own_weight keys d None there under_way = absurd cc
@@ -47,7 +47,7 @@ known_number (x ∷ xs) (suc r) some = omega (arith, known_number xs r some)
 -- ---- one count
 
 module _ {slots : List (Option Request)} {counts : List ℕ} (is : IsCounted slots counts) (r : ℕ) (d : Request) (there : r < length slots) where
-  -- a request that is under way is counted
+  -- a request that is in progress is counted
   pub one_at_least : (key : ℕ) → key ≡ key_of (length counts) (unwrap_or (slot slots r) d).port → key < length counts → is_some (slot slots r) ≡ true
       → is_under_way (unwrap_or (slot slots r) d) ≡ true → 1 ≤ slice_index_or counts key 0
   one_at_least key at within some under_way =
@@ -55,7 +55,7 @@ module _ {slots : List (Option Request)} {counts : List ℕ} (is : IsCounted slo
       let held = get_or-le-sum_by (weight (length counts) key) slots r None there in
       omega (arith, mine, held, is.each key within)
 
-  -- if one is not under way, there is room to count one more
+  -- if one is not in progress, there is room to count one more
   pub one_more_fits : (q : Request) → is_under_way q ≡ true → is_under_way (unwrap_or (slot slots r) d) ≡ false → key_of (length counts) q.port < length counts
       → slice_index_or counts (key_of (length counts) q.port) 0 + 1 ≤ length slots
   one_more_fits q under_way idle within =
@@ -99,7 +99,7 @@ module _ {slots : List (Option Request)} {counts : List ℕ} (is : IsCounted slo
         let here = get_or-set_other counts key k n 0 (λ same. e (sym same)) in
         omega (arith, here, others k e, moved, is.each k within)
 
-  -- a request that was not under way is: one more of its key
+  -- a request that was not in progress is: one more of its key
   pub one_more : (q : Request) (key : ℕ) → key ≡ key_of (length counts) q.port → key < length counts → is_under_way q ≡ true
       → is_under_way (unwrap_or (slot slots r) d) ≡ false
       → IsCounted (slice_set slots r (Some q)) (slice_set counts key (slice_index_or counts key 0 + 1))
@@ -111,7 +111,7 @@ module _ {slots : List (Option Request)} {counts : List ℕ} (is : IsCounted slo
       mine : weight (length counts) key (Some q) ≡ 1
       mine = ap (λ k. weight (length counts) k (Some q)) at ∙ own_weight (length counts) q (Some q) refl under_way
 
-  -- a request that was under way is not: one less of its key
+  -- a request that was in progress is not: one less of its key
   pub one_less : (q : Request) (key : ℕ) → key ≡ key_of (length counts) q.port → key < length counts → is_under_way q ≡ false
       → q.port ≡ (unwrap_or (slot slots r) d).port → is_some (slot slots r) ≡ true → is_under_way (unwrap_or (slot slots r) d) ≡ true
       → IsCounted (slice_set slots r (Some q)) (slice_set counts key (slice_index_or counts key 0 - 1))
@@ -141,7 +141,7 @@ weighs_nothing : (keys port : ℕ) (o : Option Request) → weight keys (key_of 
 weighs_nothing keys port None none = refl
 weighs_nothing keys port (Some q) none = not_under_way q port keys none (nat_eq q.port port) refl (is_under_way q) refl
 
--- if none is counted for the key of a port, no request of that port is under way
+-- if none is counted for the key of a port, no request of that port is in progress
 pub none_counted : {slots : List (Option Request)} {counts : List ℕ} → IsCounted slots counts → (port : ℕ) (key : ℕ) → key ≡ key_of (length counts) port → key < length counts
     → slice_index_or counts key 0 ≡ 0 → list_any (is_under_way_at port) slots ≡ false
 none_counted {slots} {counts} is port key at within none = list_any_none (is_under_way_at port) slots (λ i d l.

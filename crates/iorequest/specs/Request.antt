@@ -4,45 +4,45 @@ use Rattle.iorequest.specs.declared.request.ReqState.TheVariants.{Idle, UnderWay
 use Rattle.iorequest.specs.declared.request.Begun.TheVariants.{Finish, Queue, Until, NewTime}
 use Rattle.iorequest.specs.{declared.request.Request.Request, declared.request.ReqState.ReqState, declared.request.Begun.Begun}
 
--- a request with that reply port that never was begun, is not open, and whose other fields are 0
+-- a request with this reply port that was never begun: it is not open, and its other fields are 0
 abbrev pub idle_request : ℕ → Request
 idle_request port =
     record { port = port; state = Idle; unit = None; command = 0; secs = 0; micros = 0; error = pos 0; quick = false }
 
--- the request is in progress
+-- the state of a request that is in progress: begun, and not finished
 abbrev pub is_way : ReqState → Bool
 is_way UnderWay = true
 is_way _ = false
 
--- the request was begun, and is not finished
+-- the request is in progress: it was begun, and is not finished
 abbrev pub is_under_way : Request → Bool
 is_under_way q = is_way q.state
 
--- the request is open for some unit
+-- the request is open, for some unit
 abbrev pub is_open : Request → Bool
 is_open q = is_some q.unit
 
 -- ---- time
 
--- the microseconds of a second
+-- the number of microseconds in a second
 abbrev pub second : ℕ
 second = 1000000
 
--- the time field in microseconds
+-- the time field of a request, in microseconds
 abbrev pub time_of : Request → ℕ
 time_of q = q.secs * second + q.micros
 
 -- ---- the commands of the timer
 
--- TR_ADDREQUEST
+-- the command is 9, TR_ADDREQUEST
 abbrev pub adds : Request → Bool
 adds q = nat_eq q.command 9
 
--- TR_GETSYSTIME
+-- the command is 10, TR_GETSYSTIME
 abbrev pub asks_time : Request → Bool
 asks_time q = nat_eq q.command 10
 
--- TR_SETSYSTIME
+-- the command is 11, TR_SETSYSTIME
 abbrev pub sets_time : Request → Bool
 sets_time q = nat_eq q.command 11
 
@@ -54,44 +54,46 @@ is_until q = is_unit_until q.unit where
   is_unit_until None = false
   is_unit_until (Some unit) = nat_eq unit 3
 
--- a request that is to be replied once a positive time is over, or once system time has come to a time that is still to come
+-- the request is not done at once: it is a TR_ADDREQUEST, and its time field is not 0, or, for UNIT_WAITUNTIL, is later
+-- than system time
 abbrev pub is_to_wait : (system : ℕ) → Request → Bool
 is_to_wait system q = adds q && (if is_until q then nat_lt system (time_of q) else not (nat_eq (time_of q) 0))
 
--- the time of the clock at which a request is due that begins when the clock reports `now`
+-- the time of the clock at which a request is due, if it begins when the clock is at `now`
 abbrev pub due_of : ℕ → Request → ℕ
 due_of now q = now + time_of q
 
--- IOERR_NOCMD for a command that the timer does not know, and else 0
+-- the error of a request that is done at once: IOERR_NOCMD (-3) for a command that the timer does not know, else 0
 abbrev pub error_of : Request → ℤ
 error_of q = if adds q then pos 0 else (if asks_time q then pos 0 else (if sets_time q then pos 0 else negsuc 2))
 
--- how a request goes on that begins at that time of the clock and that system time: it sets system time, it is due at a time of either, or
--- it is finished at once
+-- what comes of a request that begins at this time of the clock and this system time: it sets system time, it waits for
+-- a time of one or the other, or it is finished at once
 abbrev pub outcome : (now system : ℕ) → Request → Begun
 outcome now system q =
     if sets_time q then NewTime (time_of q)
     else (if is_to_wait system q then (if is_until q then Until (time_of q) else Queue (due_of now q)) else Finish (error_of q))
 
--- system time in the time field, the seconds modulo 2 to the power 32 (project rule), if the request asks for it
+-- the request with system time in its time field, if it asks for that; the seconds are modulo 2 to the power 32
+-- (project rule)
 abbrev pub told : (system : ℕ) → Request → Request
 told system q = if asks_time q then record q { secs = system / second % 2 ^ 32; micros = system % second } else q
 
--- the request under way: its error is 0, and IOF_QUICK is as it was said, but cleared if it is to wait
+-- the request in progress: its error is 0, and IOF_QUICK is as the caller asked, but cleared if the request is to wait
 abbrev pub begun : Bool → (system : ℕ) → Request → Request
 begun quick system q = record (told system q) { state = UnderWay; error = pos 0; quick = quick && not (is_to_wait system q) }
 
 -- ---- finishing
 
--- the state of a request that is done: quick, or replied
+-- the state of a request that is done: Quick if IOF_QUICK is set, else Replied
 abbrev pub done_state : Bool → ReqState
 done_state true = Quick
 done_state false = Replied
 
--- the request done, with that error
+-- the request that is done, with this error
 abbrev pub finished : ℤ → Request → Request
 finished error q = record q { state = done_state q.quick; error = error }
 
--- the port to which the finished request is replied, none if it is done quick
+-- the port to which the finished request is replied; none if it is done quick
 abbrev pub reply_port : Request → Option ℕ
 reply_port q = if q.quick then None else Some q.port

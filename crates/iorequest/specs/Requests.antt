@@ -14,18 +14,18 @@ is_request r m = is_some (slot m.slots r)
 abbrev pub request_at : ℕ → Pooled Request → Request
 request_at r m = unwrap_or (slot m.slots r) (idle_request 0)
 
--- a number holds a request with that reply port that is under way
+-- a number holds a request with that reply port that is in progress
 abbrev pub is_under_way_at : ℕ → Option Request → Bool
 is_under_way_at port None = false
 is_under_way_at port (Some q) = nat_eq q.port port && is_under_way q
 
 -- ---- refusals
 
--- request r is not to be under way (project rule)
+-- request r is not to be in progress (project rule)
 abbrev pub in_use_fault : ℕ → Pooled Request → Option ReqFault
 in_use_fault r m = if is_under_way (request_at r m) then Some InUse else None
 
--- request r is to begin: it is not to be under way, and is to be open (project rule)
+-- request r is to begin: it is not to be in progress, and is to be open (project rule)
 abbrev pub begin_fault : ℕ → Pooled Request → Option ReqFault
 begin_fault r m =
     if is_under_way (request_at r m) then Some InUse else (if is_open (request_at r m) then None else Some NotOpen)
@@ -44,12 +44,12 @@ request_freed r m = released r m
 abbrev pub with_request : ℕ → Request → Pooled Request → Pooled Request
 with_request r q m = written r q m
 
--- the timer has UNIT_MICROHZ, 0, UNIT_VBLANK, 1, and UNIT_WAITUNTIL, 3
+-- the timer has this unit: UNIT_MICROHZ (0), UNIT_VBLANK (1) or UNIT_WAITUNTIL (3)
 abbrev pub is_unit : Option ℕ → Bool
 is_unit None = false
 is_unit (Some unit) = nat_le unit 1 || nat_eq unit 3
 
--- 0 for a unit of the timer, and else IOERR_OPENFAIL
+-- the error of opening a unit: 0 if the timer has it, else IOERR_OPENFAIL (-1)
 abbrev pub unit_error : Option ℕ → ℤ
 unit_error unit = if is_unit unit then pos 0 else negsuc 0
 

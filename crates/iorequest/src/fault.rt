@@ -7,7 +7,7 @@ use thiserror::Error;
 /// Why a call on requests is refused. The call then has changed nothing.
 #[derive(Clone, Copy, Debug, PartialEq, Eq, Error)]
 pub enum ReqFault {
-    /// The request is under way.
+    /// The request is in progress.
     #[error("the request is under way")]
     InUse = 1,
     /// The request that is to begin is not open.

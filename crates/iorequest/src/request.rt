@@ -23,7 +23,7 @@ const SECOND: u64 = 1_000_000;
 /// How far a request has come. RKM Devices, Introduction to Amiga System Devices; that an idle one is distinguished: project rule.
 #[derive(Clone, Copy, Debug)]
 pub enum ReqState {
-    /// It never was begun.
+    /// It was never begun.
     Idle,
     /// It was begun, and is not finished.
     UnderWay,
@@ -51,7 +51,7 @@ pub struct Request {
     pub quick: bool,
 }
 
-/// What comes of beginning a request. The requests finish or queue none themselves.
+/// What comes of beginning a request. Whoever keeps the requests has to do it.
 #[derive(Clone, Copy)]
 pub enum Begun {
     /// It is to be finished at once, with this error.
@@ -162,7 +162,7 @@ impl Request {
         }
     }
 
-    /// The request as it is under way, begun at system time `sys`, in microseconds, with that quick bit.
+    /// The request as it is in progress, begun at system time `sys`, in microseconds, with that quick bit.
     ///
     /// Source: RKM Devices, Introduction to Amiga System Devices: IOF_QUICK.
     pub fn begun(self, quick: bool, sys: u64) -> Request

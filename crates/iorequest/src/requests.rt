@@ -23,13 +23,13 @@ const UNIT_VBLANK: u32 = 1;
 /// Timer requests.
 ///
 /// All room is made by `new`; no other call takes memory. `under_way` and `reset` alone look at all requests, and `under_way` only if one
-/// is under way whose reply port has the same key.
+/// is in progress whose reply port has the same key.
 /// RKM Devices, Timer Device.
 #[derive(Drop)]
 pub struct Requests {
     requests: Pool<Request>,
     room: usize,
-    // for each key of a reply port, how many requests are under way
+    // for each key of a reply port, how many requests are in progress
     counts: Vec<usize>,
 }
 
@@ -91,7 +91,7 @@ impl Requests {
         }
     }
 
-    /// Frees a request: its number may be given again. It is InUse if the request is under way (project rule).
+    /// Frees a request: its number may be given again. It is InUse if the request is in progress (project rule).
     /// Autodoc exec.library/DeleteIORequest.
     pub fn delete(&mut self, r: ReqId) -> Result<(), ReqFault>
         requires { IsTrue (is_request r self.old) }
@@ -110,7 +110,7 @@ impl Requests {
     /// Opens a request for a unit of the timer, none if another device is meant. UNIT_MICROHZ (0), UNIT_VBLANK (1) and UNIT_WAITUNTIL
     /// (3) are there; for any other the request is not open afterwards.
     ///
-    /// Answers the error, which the request has then: 0, or IOERR_OPENFAIL (-1). It is InUse if the request is under way (project rule).
+    /// Answers the error, which the request has then: 0, or IOERR_OPENFAIL (-1). It is InUse if the request is in progress (project rule).
     /// Autodoc exec.library/OpenDevice; RKM Devices, Timer Device: units.
     pub fn open_device(&mut self, r: ReqId, unit: Option<u32>) -> Result<i8, ReqFault>
         requires { IsTrue (is_request r self.old) }
@@ -138,7 +138,7 @@ impl Requests {
         Ok(error)
     }
 
-    /// Leaves a request not open. It is InUse if the request is under way (project rule). Autodoc exec.library/CloseDevice.
+    /// Leaves a request not open. It is InUse if the request is in progress (project rule). Autodoc exec.library/CloseDevice.
     pub fn close_device(&mut self, r: ReqId) -> Result<(), ReqFault>
         requires { IsTrue (is_request r self.old) }
         ensures answer { result ≡ fault_or (in_use_fault r self.old) tt }
@@ -153,7 +153,7 @@ impl Requests {
         Ok(())
     }
 
-    /// Gives a request a command and a time, in seconds and microseconds. It is InUse if the request is under way (project rule).
+    /// Gives a request a command and a time, in seconds and microseconds. It is InUse if the request is in progress (project rule).
     /// RKM Devices, Introduction to Amiga System Devices: `io_Command`; Timer Device: `tr_time`.
     pub fn set(&mut self, r: ReqId, cmd: u16, secs: u32, micros: u32) -> Result<(), ReqFault>
         requires { IsTrue (is_request r self.old) }
@@ -174,13 +174,13 @@ impl Requests {
     // ---- beginning and finishing
 
     /// Begins a request, with IOF_QUICK set or not, when the clock reports `now` and system time is `sys`, both in microseconds. Its error
-    /// becomes 0, and it is under way until `finish`. TR_ADDREQUEST (9) clears IOF_QUICK if it is to wait: for a positive time to be
+    /// becomes 0, and it is in progress until `finish`. TR_ADDREQUEST (9) clears IOF_QUICK if it is to wait: for a positive time to be
     /// over, or, on UNIT_WAITUNTIL, for a system time that is still to come. TR_GETSYSTIME (10) puts system time into the time field, its
     /// seconds modulo 2 to the power 32 (project rule).
     ///
     /// Answers how it goes on: `Queue` with the time of the clock when it is due; `Until` with the system time when it is due; `NewTime`
     /// for TR_SETSYSTIME (11), with what system time becomes: the caller sets it, and finishes the request with error 0; or `Finish` with
-    /// its error, which is IOERR_NOCMD (-3) for a command that the timer does not know. It is InUse if the request is under way, and
+    /// its error, which is IOERR_NOCMD (-3) for a command that the timer does not know. It is InUse if the request is in progress, and
     /// NotOpen if it is not open (project rule). The sum of the clock and the request's time is below 2 to the power 64.
     /// Autodoc timer.device: TR_ADDREQUEST, TR_GETSYSTIME, TR_SETSYSTIME; RKM Devices, Timer Device: UNIT_WAITUNTIL.
     pub fn begin(&mut self, r: ReqId, quick: bool, now: u64, sys: u64) -> Result<Begun, ReqFault>
@@ -201,7 +201,7 @@ impl Requests {
         Ok(request.outcome(now, sys))
     }
 
-    /// Finishes a request that is under way, with an error: one whose IOF_QUICK is set is done quick, any other is replied.
+    /// Finishes a request that is in progress, with an error: one whose IOF_QUICK is set is done quick, any other is replied.
     ///
     /// Answers the reply port, to which the caller replies it, or none if it is done quick.
     /// RKM Devices, Introduction to Amiga System Devices: quick I/O.
@@ -295,7 +295,7 @@ impl Requests {
         self.request(r).quick
     }
 
-    /// Answers whether a request with that reply port is under way. Project rule: Exec cannot say.
+    /// Answers whether a request with that reply port is in progress. Project rule: Exec cannot say.
     pub fn under_way(&self, port: u32) -> bool
         ensures { result ≡ list_any (is_under_way_at port) self.now.slots }
     {
@@ -317,7 +317,7 @@ impl Requests {
         self.requests.facts();
     }
 
-    // Request r, which is not under way, is another one that is not.
+    // Request r, which is not in progress, is another one that is not.
     fn replace(&mut self, r: ReqId, request: Request)
         requires live { IsTrue (is_request r self.old) }
         requires before { is_under_way (request_at r self.old) ≡ false }
@@ -327,7 +327,7 @@ impl Requests {
         self.requests.set(r, request);
     }
 
-    // Request r, which is not under way, is another one that is.
+    // Request r, which is not in progress, is another one that is.
     fn put_under_way(&mut self, r: ReqId, request: Request)
         requires live { IsTrue (is_request r self.old) }
         requires before { is_under_way (request_at r self.old) ≡ false }
@@ -339,7 +339,7 @@ impl Requests {
         self.counts[key] += 1;
     }
 
-    // Request r, which is under way, is another one of its reply port that is not.
+    // Request r, which is in progress, is another one of its reply port that is not.
     fn end(&mut self, r: ReqId, request: Request)
         requires live { IsTrue (is_request r self.old) }
         requires before { is_under_way (request_at r self.old) ≡ true }
@@ -405,7 +405,7 @@ fn unit_error(unit: Option<u32>) -> i8
     }
 }
 
-// Whether a number of the pool holds a request with that reply port that is under way.
+// Whether a number of the pool holds a request with that reply port that is in progress.
 fn is_under_way_at(port: u32, held: Option<Request>) -> bool
     ensures { result ≡ is_under_way_at port held }
 {

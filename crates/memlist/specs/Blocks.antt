@@ -23,15 +23,15 @@ freed address blocks = where_key nat_cmp (λ other. not (nat_eq other address)) 
 abbrev pub is_in : Region → ℕ → Bool
 is_in region address = nat_le region.base address && nat_lt address (region_end region)
 
--- the blocks of one region
+-- the blocks that begin in a region
 abbrev pub blocks_in : Region → Blocks → Blocks
 blocks_in region blocks = where_key nat_cmp (is_in region) blocks
 
--- the stretch from one address up to another, unless it is empty
+-- the gap from one address up to another, unless it is empty
 abbrev pub stretch : ℕ → ℕ → List Gap
 stretch from to = if nat_lt from to then record { address = from; size = to - from } ∷ [] else []
 
--- what is left between two addresses by the blocks that lie there
+-- the gaps that these blocks leave between two addresses
 abbrev pub gaps_between : ℕ → Blocks → ℕ → List Gap
 gaps_between from [] to = stretch from to
 gaps_between from (block ∷ rest) to = stretch from block.0 ++ gaps_between (block.0 + block.1.0) rest to

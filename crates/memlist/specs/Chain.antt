@@ -18,7 +18,7 @@ abbrev pub last_or : ℕ → List Gap → ℕ
 last_or none [] = none
 last_or none (gap ∷ rest) = last_or gap.address rest
 
--- each gap's first two words hold if the next gap begins and the gap's size; the last one is followed by what is given
+-- each gap's first two words hold where the next gap begins and the gap's size; the last one is followed by what is given
 abbrev pub IsLinked : ℕ → List ℕ → List Gap → ℕ → Type 0
 IsLinked base words [] next = Unit {0}
 IsLinked base words (gap ∷ rest) next =
@@ -40,7 +40,7 @@ abbrev pub cut_words : ℕ → List ℕ → Gap → ℕ → ℕ → List ℕ
 cut_words base words gap size next =
     if nat_eq size gap.size then words else written words (word_place base (gap.address + size)) next (gap.size - size)
 
--- if the chunk that is left begins, or the next one if nothing is left
+-- where the chunk that is left begins, or the next one if nothing is left
 abbrev pub cut_rest : Gap → ℕ → ℕ → ℕ
 cut_rest gap size next = if nat_eq size gap.size then next else gap.address + size
 
@@ -57,7 +57,7 @@ ends_at address [] = false
 ends_at address (gap ∷ []) = nat_eq (gap.address + gap.size) address
 ends_at address (gap ∷ other ∷ rest) = ends_at address (other ∷ rest)
 
--- if the next chunk begins and what size there is, once a block of n bytes is joined with the first of some gaps if that touches it
+-- where the next chunk begins and what size there is, once a block of n bytes is joined with the first of some gaps if that touches it
 abbrev pub upper_next : ℕ → List Gap → ℕ
 upper_next end [] = 0
 upper_next end (gap ∷ rest) = if nat_eq gap.address end then first_or 0 rest else gap.address

@@ -33,7 +33,7 @@ pub record IsTiled (region : Region) (blocks : Blocks) : Type 0 where
 abbrev pub LiesIn : ℕ × (ℕ × ℕ) → Region → Type 0
 LiesIn block region = (region.base ≤ block.0) × (block.0 + block.1.0 ≤ region_end region)
 
--- Each block lies in a region, and no two blocks meet.
+-- Each block lies in a region, and no two blocks overlap.
 pub record AreDisjoint (regions : List Region) (blocks : Blocks) : Type 0 where
   pub inside : All (λ (block : ℕ × (ℕ × ℕ)). Any (LiesIn block) regions) blocks
   pub apart : AllPairs (λ (block next : ℕ × (ℕ × ℕ)). block.0 + block.1.0 ≤ next.0) blocks

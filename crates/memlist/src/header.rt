@@ -100,7 +100,7 @@ impl MemHeader {
         self.space.words()
     }
 
-    /// If the first chunk begins, or 0 if nothing is free.
+    /// Where the first chunk begins, or 0 if nothing is free.
     ///
     /// Source: RKM Libraries, Exec Memory Allocation: MemHeader, mh_First.
     pub fn head(&self) -> u32

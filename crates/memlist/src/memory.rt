@@ -184,7 +184,7 @@ impl MemList {
         self.headers[k].words()
     }
 
-    /// If the first free chunk of a region begins, or 0 if nothing of it is free. The region is named by its place in
+    /// Where the first free chunk of a region begins, or 0 if nothing of it is free. The region is named by its place in
     /// the machine's file. It takes no memory.
     ///
     /// Source: RKM Libraries, Exec Memory Allocation (MemHeader, mh_First); the call is a project rule.

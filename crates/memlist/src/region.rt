@@ -17,14 +17,14 @@ const LOWEST_BASE: u32 = 4096;
 /// The size in bytes of a unit of memory, of which addresses and sizes are multiples (exec/memory.h).
 pub const MEM_BLOCKSIZE: u32 = 8;
 
-/// A stretch of the machine's memory, as a MemHeader names it.
+/// A stretch of the machine's memory, as a MemHeader describes it.
 #[derive(Clone, Copy, Debug, PartialEq, Eq)]
 pub struct Region {
     /// The address of its first byte.
     pub base: u32,
     /// Its size in bytes.
     pub size: u32,
-    /// Its attributes, of which bits 0 to 2 are asked for: MEMF_PUBLIC, MEMF_CHIP and MEMF_FAST.
+    /// Its attributes. Bits 0 to 2 may be asked for: MEMF_PUBLIC, MEMF_CHIP and MEMF_FAST.
     pub attrs: u32,
     /// Its priority: AllocMem tries greater ones first.
     pub pri: i8,
@@ -33,7 +33,7 @@ pub struct Region {
 /// Why regions are refused.
 #[derive(Clone, Copy, Debug, PartialEq, Eq, Error)]
 pub enum MemFault {
-    /// A base or a size is no multiple of 8, a size is 0, or a base is below 4096.
+    /// A base or a size is not a multiple of 8, a size is 0, or a base is below 4096.
     #[error("a region is misaligned")]
     Misaligned = 1,
     /// Two regions have a byte in common.
@@ -42,7 +42,7 @@ pub enum MemFault {
     /// There are more than 8 regions, more bytes than the total in all, or a region that ends past 2,147,483,648.
     #[error("the regions are too large")]
     TooLarge = 3,
-    /// There was no memory for the list itself. Only `MemList::new` answers it.
+    /// There was no memory for the list itself. Only `MemList::new` returns it.
     #[error("no memory")]
     OutOfMemory = 4,
 }

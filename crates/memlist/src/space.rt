@@ -73,7 +73,7 @@ impl FreeSpace {
         &self.words
     }
 
-    /// If the first chunk begins, or 0 if there is none.
+    /// Where the first chunk begins, or 0 if there is none.
     ///
     /// Source: RKM Libraries, Exec Memory Allocation: MemHeader, mh_First.
     pub fn head(&self) -> u32

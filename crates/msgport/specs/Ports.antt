@@ -24,19 +24,19 @@ pub record MessagePorts : Type 0 where
 
 -- ---- types of messages (exec/nodes.h)
 
--- the type of a message that was never put (include file exec/nodes.h: NT_UNKNOWN)
+-- NT_UNKNOWN, 0: the type of a message that was never put (include file exec/nodes.h)
 abbrev pub nt_unknown : ℕ
 nt_unknown = 0
 
--- the type of a message that was put (NT_MESSAGE)
+-- NT_MESSAGE, 5: the type of a message that was put
 abbrev pub nt_message : ℕ
 nt_message = 5
 
--- the type of a message that was replied and has no reply port (NT_FREEMSG)
+-- NT_FREEMSG, 6: the type of a message that was replied and has no reply port
 abbrev pub nt_freemsg : ℕ
 nt_freemsg = 6
 
--- the type of a message that was replied (NT_REPLYMSG)
+-- NT_REPLYMSG, 7: the type of a message that was replied
 abbrev pub nt_replymsg : ℕ
 nt_replymsg = 7
 
@@ -50,7 +50,7 @@ is_port p s = is_some (slot s.ports.slots p)
 abbrev pub is_message : ℕ → MessagePorts → Bool
 is_message m s = is_some (slot s.messages.slots m)
 
--- a message that was not put anywhere yet
+-- a message that was never put
 abbrev pub new_message : ℕ → ℕ → Message
 new_message reply word = record { kind = nt_unknown; word = word; reply = reply }
 

@@ -17,7 +17,7 @@ pub enum PortAction {
     Ignore,
 }
 
-/// What is to be done for a message that has arrived. The ports do not do it themselves.
+/// What is to be done for a message that has arrived. Whoever keeps the ports has to do it.
 #[derive(Clone, Copy)]
 pub enum Action {
     /// The task of this number gets the signals of this mask.

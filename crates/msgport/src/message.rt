@@ -12,7 +12,7 @@ pub const NT_REPLYMSG: u8 = 7;
 /// The type of a new message (project rule). By exec/nodes.h.
 pub const NT_UNKNOWN: u8 = 0;
 
-/// A message beside its place: its type, its word, and its reply port or 0. RKM Libraries, Exec Messages and Ports.
+/// A message without its place: its type, its word, and its reply port or 0. RKM Libraries, Exec Messages and Ports.
 #[derive(Clone, Copy, Debug)]
 pub struct Message {
     pub kind: u8,

@@ -5,7 +5,7 @@ ghost use Rattle.msgport.specs.Port.{Port as Owned, arrival_action, new_port, wa
 use crate::action::{Action, PortAction, TaskId};
 use std::marker::Model;
 
-/// A port beside its messages: its task, the number of its signal, and its action.
+/// A port without its messages: its task, the number of its signal, and its action.
 #[derive(Clone, Copy)]
 pub struct Port {
     task: TaskId,

@@ -1,5 +1,6 @@
--- How tasks come to run (RKM Libraries, Exec Tasks: task scheduling), whichever discipline the ready sequence is kept by: if an
--- arriving task is put, and which ready one is chosen. A scheduler keeps the sequence by priority, the abstract machine in order of arrival.
+-- How tasks come to run (RKM Libraries, Exec Tasks: task scheduling), for any discipline of the ready sequence. The
+-- discipline says where an arriving task is put, and which ready task is chosen. The scheduler of the program keeps the
+-- sequence by priority, the abstract machine in order of arrival.
 use Rattle.std.specs.Prelude.{ℕ, ℤ, true, not, if◌then◌else◌, Option, None, Some}
 use Rattle.execlist.specs.Disciplines.{Discipline, pri_at}
 use Rattle.taskq.specs.{Tasks.is_ready, Tasks.is_live, declared.TaskState.TheVariants.Ready}
@@ -9,7 +10,7 @@ use Rattle.scheduler.specs.{declared.Switch.Switch, declared.Switch.TheVariants.
 
 -- ---- moving between states
 
--- task t is in the ready sequence, as one that arrives
+-- task t is put into the ready sequence, where the discipline puts a task that arrives
 abbrev pub stands_ready : Discipline → ℕ → Schedule → Schedule
 stands_ready d t s = record s { queue = record s.queue { ready = d.arrival (pri_at s.queue.pris) s.queue.ready t } }
 
@@ -23,7 +24,7 @@ arrives d t s = stands_ready d t (with_status t Ready s)
 unfoldable pub switch_of : Discipline → Schedule → Option Switch
 switch_of d s = switch_for s.running (d.choice (pri_at s.queue.pris) s.queue.ready) s
 
--- a task that is pre-empted or rotated arrives anew
+-- the task that ran before a switch, if any, arrives anew: it was pre-empted, or its quantum was over
 abbrev pub displaced : Discipline → Option ℕ → Schedule → Schedule
 displaced d None s = s
 displaced d (Some r) s = arrives d r s
@@ -41,7 +42,7 @@ rescheduled d s = after_switch d (switch_of d s) s
 
 -- ---- beginning, and another priority
 
--- a task that never was added becomes ready (autodoc exec.library/AddTask)
+-- a task that was never added becomes ready; any other stays as it is (autodoc exec.library/AddTask)
 unfoldable pub added : Discipline → ℕ → Schedule → Schedule
 added d t s = if is_absent (status_of s t) then arrives d t s else s
 

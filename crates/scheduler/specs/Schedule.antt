@@ -9,10 +9,12 @@ use Rattle.signals.specs.Signals.{SignalSets, initial_sets, taken_signals, after
 use Rattle.forbid.specs.{Nesting.Nesting, Nesting.initial_nesting, Nesting.may_switch, Nesting.may_interrupt, declared.NestFault.NestFault}
 use Rattle.scheduler.specs.{declared.Switch.Switch, declared.Switch.TheVariants.To, declared.Switch.TheVariants.Idle}
 
--- the tasks, which of them runs and for how long (RKM Libraries, Exec Tasks)
+-- The tasks, which of them runs, and what is left of its quantum. Tasks are numbered from 0 here, and from 1 in calls.
+-- (RKM Libraries, Exec Tasks)
 pub record Schedule : Type 0 where
   -- names, priorities and states by task number, and the ready sequence
   pub queue : Tasks
+  -- the task that runs, or none
   pub running : Option ℕ
   -- each task's signals
   pub signals : List SignalSets
@@ -21,7 +23,7 @@ pub record Schedule : Type 0 where
   -- the servings of VERTB in a full quantum, and those left to the running task
   pub quantum : ℕ
   pub left : ℕ
-  -- that the machine was reported as idle, and no task has run since
+  -- whether the machine was reported as idle, and no task has run since
   pub idle : Bool
 
 -- ---- parts of a schedule
@@ -42,11 +44,11 @@ priority_of s t = pri_at s.queue.pris t
 abbrev pub status_of : Schedule → ℕ → TaskState
 status_of s t = state_at s.queue.states t
 
--- the signals of task t
+-- the received and the allocated signals of task t
 abbrev pub signals_of : Schedule → ℕ → SignalSets
 signals_of s t = slice_index_or s.signals t initial_sets
 
--- the nesting of task t
+-- how deep task t has nested Forbid and Disable
 abbrev pub nesting_of : Schedule → ℕ → Nesting
 nesting_of s t = slice_index_or s.nestings t initial_nesting
 
@@ -54,7 +56,7 @@ nesting_of s t = slice_index_or s.nestings t initial_nesting
 abbrev pub with_status : ℕ → TaskState → Schedule → Schedule
 with_status t status s = record s { queue = record s.queue { states = slice_set s.queue.states t status } }
 
--- task t of another priority
+-- task t with another priority
 abbrev pub with_priority : ℕ → ℤ → Schedule → Schedule
 with_priority t pri s = record s { queue = record s.queue { pris = slice_set s.queue.pris t pri } }
 
@@ -66,7 +68,8 @@ with_signals t sets s = record s { signals = slice_set s.signals t sets }
 abbrev pub with_nesting : ℕ → Nesting → Schedule → Schedule
 with_nesting t nesting s = record s { nestings = slice_set s.nestings t nesting }
 
--- that many tasks of these priorities and names before any is added: nothing runs, and the machine was not yet reported as idle
+-- that many tasks, of these priorities and names, before any of them is added: none runs, and the machine was not yet
+-- reported as idle
 abbrev pub unstarted : (tasks : ℕ) (pris : List ℤ) (names : List (List ℕ)) (quantum : ℕ) → Schedule
 unstarted tasks pris names quantum = record {
   queue = record { ready = []; states = replicate tasks Absent; pris = pris; names = names };
@@ -80,8 +83,8 @@ unstarted tasks pris names quantum = record {
 
 -- ---- which task is to run
 
--- Forbid and Disable of the running task keep it running; if none runs, nothing is in the way
--- (RKM Libraries, Exec Tasks: forbidding task switching).
+-- another task may be given the processor: no task runs, or the running one is inside neither Forbid nor Disable (RKM
+-- Libraries, Exec Tasks: forbidding task switching)
 abbrev pub is_switching_allowed : Option ℕ → Schedule → Bool
 is_switching_allowed None s = true
 is_switching_allowed (Some r) s = may_switch (nesting_of s r)
@@ -95,7 +98,9 @@ is_quantum_over s = nat_eq s.left 0
 abbrev pub takes_over : ℕ → ℕ → Schedule → Bool
 takes_over t r s = int_lt (priority_of s r) (priority_of s t) || (int_le (priority_of s r) (priority_of s t) && is_quantum_over s)
 
--- the switch to be made if this task runs, if any, and that ready one is chosen, if any (RKM Libraries, Exec Tasks: scheduling)
+-- The switch to be made, if r is the running task, or none, and t the ready task that is chosen, or none. If only t is
+-- there, it runs; if both are, it runs if switching is allowed and it takes over. If there is neither, the machine
+-- becomes idle, unless it was reported as idle already. (RKM Libraries, Exec Tasks: scheduling)
 abbrev pub switch_for : Option ℕ → Option ℕ → Schedule → Option Switch
 switch_for None None s = if s.idle then None else Some Idle
 switch_for None (Some t) s = Some (To t)
@@ -108,7 +113,8 @@ IsToOneOf None tasks = Unit {0}
 IsToOneOf (Some Idle) tasks = Unit {0}
 IsToOneOf (Some (To t)) tasks = t < tasks
 
--- a quantum that has ended with no other task to run begins anew, once switching is allowed (project rule)
+-- if no switch is made: the quantum of the running task begins anew, if it has ended and switching is allowed (project
+-- rule)
 abbrev pub renewed : Option ℕ → Schedule → Schedule
 renewed None s = s
 renewed (Some r) s = if is_switching_allowed (Some r) s && is_quantum_over s then record s { left = s.quantum } else s
@@ -147,7 +153,7 @@ is_absent Removed = false
 unfoldable pub leaves : ℕ → Schedule → Schedule
 leaves t s = record (with_status t Removed s) { running = None }
 
--- task t is not among the ready ones any more
+-- task t leaves the ready sequence
 abbrev pub departs : ℕ → Schedule → Schedule
 departs t s = record s { queue = record s.queue { ready = without t s.queue.ready } }
 
@@ -161,13 +167,13 @@ found name s = find (is_live_named s.queue name) (range_with_len 0 (length s.que
 
 -- ---- signals
 
--- something that is waited for has come: a signal of the mask; no signal makes a task ready that waits for a semaphore (autodocs Wait and
--- ObtainSemaphore)
+-- What a task waits for has come: a signal of its mask was received. No signal ends the wait for a semaphore. (autodocs
+-- Wait and ObtainSemaphore)
 abbrev pub is_signalled : Why → ℕ → Bool
 is_signalled (Signals mask) received = not (nat_eq (bit_and received mask) 0)
 is_signalled Sem received = false
 
--- the task waits for one of these signals (autodoc Wait)
+-- a task in that state waits for a signal that is among the received ones (autodoc Wait)
 abbrev pub awaits : TaskState → ℕ → Bool
 awaits Absent received = false
 awaits Ready received = false
@@ -183,7 +189,7 @@ waits_for t mask s = record (with_status t (Waiting (Signals mask)) s) { running
 unfoldable pub takes : ℕ → ℕ → Schedule → Schedule
 takes t mask s = with_signals t (after_take mask (signals_of s t)) s
 
--- the signals of the mask that were received, if any
+-- the received signals that are in the mask; none if there are none
 abbrev pub come_for : ℕ → SignalSets → Option ℕ
 come_for mask sets = if nat_eq (taken_signals mask sets) 0 then None else Some (taken_signals mask sets)
 
@@ -195,11 +201,11 @@ after_wait t mask s = if nat_eq (taken_signals mask (signals_of s t)) 0 then wai
 abbrev pub clears_and_waits : ℕ → ℕ → Schedule → Schedule
 clears_and_waits t mask s = waits_for t mask (takes t mask s)
 
--- task t allocates signal n, or for -1 the highest free one, if it is given
+-- task t allocates signal n, or for -1 the highest free signal; if none is given, nothing changes
 unfoldable pub allocates : ℕ → ℤ → Schedule → Schedule
 allocates t n s = with_signals t (after_grant (grant n (signals_of s t)) (signals_of s t)) s
 
--- the received signals of the mask become those of new
+-- the received signals of task t that are in the mask become those of `new`; the others stay
 unfoldable pub sets_signals : ℕ → (new mask : ℕ) → Schedule → Schedule
 sets_signals t new mask s = with_signals t (after_set new mask (signals_of s t)) s
 
@@ -228,12 +234,12 @@ is_at_semaphore Removed = false
 
 -- ---- nesting
 
--- interrupts are allowed if no task runs, and else if the running task has not disabled them (autodoc Disable)
+-- interrupts are allowed: no task runs, or the running task has not disabled them (autodoc Disable)
 abbrev pub is_interrupting_allowed : Option ℕ → Schedule → Bool
 is_interrupting_allowed None s = true
 is_interrupting_allowed (Some r) s = may_interrupt (nesting_of s r)
 
--- task t with the nesting that a call gives it, or as before if the call is a fault
+-- task t with the nesting after a call; it stays as it is if there is none, because the call is refused
 abbrev pub nested : ℕ → Option Nesting → Schedule → Schedule
 nested t None s = s
 nested t (Some nesting) s = with_nesting t nesting s

@@ -4,14 +4,15 @@ use Rattle.script.specs.declared.variable.Variable.TheVariants.{Private, Shared}
 use Rattle.script.specs.{declared.word.Word.Word, declared.variable.Variable.Variable, declared.command.Argument.Argument, declared.command.Command.Command}
 use Rattle.script.specs.declared.command.Argument.TheVariants as argument
 
--- a number, what a variable holds, a name that was between double quotes, or the place of a command
+-- an argument: a number, a variable, whose value is meant, a name that was between double quotes, or the place of a
+-- command
 pub data ArgumentData : Type 0 where
   number : ℕ → ArgumentData
   variable : Variable → ArgumentData
   quoted : List ℕ → ArgumentData
   place : ℕ → ArgumentData
 
--- a word, where its answer goes, and its arguments from left to right
+-- a command: its word, the variable that its answer goes to, or none, and its arguments from left to right
 pub record CommandData : Type 0 where
   pub word : Word
   pub target : Option Variable

@@ -8,7 +8,7 @@ abbrev pub event_steps : Event → ℕ
 event_steps (Run n) = n
 event_steps _ = 0
 
--- the ticks that the event asks for
+-- the ticks that an event asks for
 abbrev pub event_ticks : Event → ℕ
 event_ticks (Tick n) = n
 event_ticks _ = 0

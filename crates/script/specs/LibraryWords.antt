@@ -4,6 +4,7 @@ use Rattle.script.specs.declared.word.libraries.LibraryWord.TheVariants.{OpenLib
 use Rattle.script.specs.declared.word.row.Kind.TheVariants.{Value, Name}
 use Rattle.script.specs.{declared.word.libraries.LibraryWord.LibraryWord, Rows.RowData, Rows.answering, Rows.without_answer}
 
+-- all words of libraries
 abbrev pub library_words : List LibraryWord
 library_words = OpenLibrary ∷ CloseLibrary ∷ RemLibrary ∷ LibOpenCnt ∷ []
 

@@ -4,6 +4,7 @@ use Rattle.script.specs.declared.word.lists.ListWord.TheVariants.{NewList, FreeL
 use Rattle.script.specs.declared.word.row.Kind.TheVariants.{Value, Name, NameOrNone}
 use Rattle.script.specs.{declared.word.lists.ListWord.ListWord, Rows.RowData, Rows.answering, Rows.without_answer}
 
+-- all words of lists and nodes
 abbrev pub list_words : List ListWord
 list_words = NewList ∷ FreeList ∷ NewNode ∷ FreeNode ∷ AddHead ∷ AddTail ∷ Enqueue ∷ Insert ∷ Remove ∷ RemHead ∷ RemTail ∷ First ∷ Last ∷ Succ ∷ Pred ∷ FindName ∷ []
 

@@ -30,7 +30,7 @@ AreOfKinds [] [] = Unit {0}
 AreOfKinds (kind ∷ kinds) (a ∷ others) = IsOfKind kind a × AreOfKinds kinds others
 AreOfKinds _ _ = ⊥
 
--- a command has the arguments of its word, one of each kind: if a word asks for a number or a name, one is there
+-- a command has the arguments of its word, one of each kind: where a word asks for a number or a name, one is there
 abbrev pub HasItsArguments : CommandData → Type 0
 HasItsArguments c = AreOfKinds (kinds c.word) c.arguments
 
@@ -65,7 +65,7 @@ abbrev pub softint_asked : Kind → ArgumentData → Option (List ℕ)
 softint_asked Softint (quoted name) = Some name
 softint_asked _ _ = None
 
--- the names that are if a word asks for a software interrupt
+-- the names that are where a word asks for a software interrupt
 abbrev pub softints_named : List Kind → List ArgumentData → List (List ℕ)
 softints_named (kind ∷ kinds) (a ∷ others) = cons_option (softint_asked kind a) (softints_named kinds others)
 softints_named _ _ = []

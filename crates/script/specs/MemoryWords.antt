@@ -3,6 +3,7 @@ use Rattle.std.specs.Prelude.{codes, List, [], ◌∷◌}
 use Rattle.script.specs.declared.word.memory.MemoryWord.TheVariants.{AllocMem, FreeMem, AvailMem}
 use Rattle.script.specs.{declared.word.memory.MemoryWord.MemoryWord, declared.word.row.Kind.TheVariants.Value, Rows.RowData, Rows.answering, Rows.without_answer}
 
+-- all words of memory
 abbrev pub memory_words : List MemoryWord
 memory_words = AllocMem ∷ FreeMem ∷ AvailMem ∷ []
 

@@ -3,6 +3,7 @@ use Rattle.std.specs.Prelude.{codes, List, [], ◌∷◌}
 use Rattle.script.specs.declared.word.nesting.NestingWord.TheVariants.{Forbid, Permit, Disable, Enable}
 use Rattle.script.specs.{declared.word.nesting.NestingWord.NestingWord, Rows.RowData, Rows.without_answer}
 
+-- all words of Forbid and Disable
 abbrev pub nesting_words : List NestingWord
 nesting_words = Forbid ∷ Permit ∷ Disable ∷ Enable ∷ []
 

@@ -4,6 +4,7 @@ use Rattle.script.specs.declared.word.plain.PlainWord.TheVariants.{Set, Add, Sub
 use Rattle.script.specs.declared.word.row.Kind.TheVariants.{Value, Label}
 use Rattle.script.specs.{declared.word.plain.PlainWord.PlainWord, Rows.RowData, Rows.answering, Rows.without_answer}
 
+-- all plain words
 abbrev pub plain_words : List PlainWord
 plain_words = Set ∷ Add ∷ Sub ∷ And ∷ Or ∷ Jump ∷ JumpZ ∷ JumpNZ ∷ Print ∷ []
 

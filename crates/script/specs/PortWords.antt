@@ -4,6 +4,7 @@ use Rattle.script.specs.declared.word.ports.PortWord.TheVariants.{CreateMsgPort,
 use Rattle.script.specs.declared.word.row.Kind.TheVariants.{Value, Name, Softint}
 use Rattle.script.specs.{declared.word.ports.PortWord.PortWord, Rows.RowData, Rows.answering, Rows.without_answer}
 
+-- all words of message ports and messages
 abbrev pub port_words : List PortWord
 port_words = CreateMsgPort ∷ DeleteMsgPort ∷ AddPort ∷ RemPort ∷ FindPort ∷ PortSignal ∷ PortCause ∷ PortIgnore ∷ NewMsg ∷ FreeMsg ∷ MsgWord ∷ SetMsgWord ∷ MsgType ∷ PutMsg ∷ GetMsg ∷ WaitPort ∷ ReplyMsg ∷ []
 

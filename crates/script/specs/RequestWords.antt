@@ -4,6 +4,7 @@ use Rattle.script.specs.declared.word.requests.RequestWord.TheVariants.{CreateIO
 use Rattle.script.specs.declared.word.row.Kind.TheVariants.{Value, Name}
 use Rattle.script.specs.{declared.word.requests.RequestWord.RequestWord, Rows.RowData, Rows.answering, Rows.without_answer}
 
+-- all words of requests of timer.device
 abbrev pub request_words : List RequestWord
 request_words =
     CreateIORequest ∷ DeleteIORequest ∷ OpenDevice ∷ CloseDevice ∷ SetIO ∷ DoIO ∷ SendIO ∷ CheckIO ∷ WaitIO ∷ AbortIO ∷ IOSecs ∷ IOMicros

@@ -2,8 +2,8 @@
 use Rattle.std.specs.Prelude.{ℕ, Bool, true, false, List}
 use Rattle.script.specs.{declared.word.row.Kind.Kind, declared.word.row.Row.Row}
 
--- the text of a word, in a line and in the trace; whether it answers, since a target may be only before a word that does; and the
--- kinds of its arguments, from left to right
+-- the text of a word, in a line and in the trace; whether it answers, that is, returns a value: only such a word may
+-- have a target before it; and the kinds of its arguments, from left to right
 pub record RowData : Type 0 where
   pub text : List ℕ
   pub answers : Bool

@@ -3,6 +3,7 @@ use Rattle.std.specs.Prelude.{codes, List, [], ◌∷◌}
 use Rattle.script.specs.declared.word.semaphores.SemaphoreWord.TheVariants.{NewSem, FreeSem, ObtainSemaphore, AttemptSemaphore, ReleaseSemaphore}
 use Rattle.script.specs.{declared.word.row.Kind.TheVariants.Value, declared.word.semaphores.SemaphoreWord.SemaphoreWord, Rows.RowData, Rows.answering, Rows.without_answer}
 
+-- all words of signal semaphores
 abbrev pub semaphore_words : List SemaphoreWord
 semaphore_words = NewSem ∷ FreeSem ∷ ObtainSemaphore ∷ AttemptSemaphore ∷ ReleaseSemaphore ∷ []
 

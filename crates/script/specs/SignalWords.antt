@@ -3,6 +3,7 @@ use Rattle.std.specs.Prelude.{codes, List, [], ◌∷◌}
 use Rattle.script.specs.declared.word.task_signals.SignalWord.TheVariants.{AllocSignal, FreeSignal, SetSignal, Signal, Wait}
 use Rattle.script.specs.{declared.word.task_signals.SignalWord.SignalWord, declared.word.row.Kind.TheVariants.Value, Rows.RowData, Rows.answering, Rows.without_answer}
 
+-- all words of signals
 abbrev pub signal_words : List SignalWord
 signal_words = AllocSignal ∷ FreeSignal ∷ SetSignal ∷ Signal ∷ Wait ∷ []
 

@@ -3,7 +3,7 @@ use Rattle.std.specs.Prelude.{ℕ, codes, bytes_eq, List, Option, Some, None, if
 use Rattle.softint.specs.declared.source.Source.TheVariants.{Ports, Exter}
 use Rattle.softint.specs.declared.source.Source.{Source}
 
--- the source that an event may request: the vertical blank comes with ticks alone
+-- the source of a name that an event may request: PORTS or EXTER; VERTB comes with ticks alone
 abbrev pub requested_source_of : List ℕ → Option Source
 requested_source_of name =
     if bytes_eq name (codes "PORTS") then Some Ports

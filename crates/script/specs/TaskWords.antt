@@ -4,6 +4,7 @@ use Rattle.script.specs.declared.word.tasks.TaskWord.TheVariants.{SetTaskPri, Ad
 use Rattle.script.specs.declared.word.row.Kind.TheVariants.{Value, NameOrNone}
 use Rattle.script.specs.{declared.word.tasks.TaskWord.TaskWord, Rows.RowData, Rows.answering, Rows.without_answer}
 
+-- all words of tasks
 abbrev pub task_words : List TaskWord
 task_words = SetTaskPri ∷ AddTask ∷ RemTask ∷ FindTask ∷ []
 

@@ -4,7 +4,7 @@ use Rattle.std.specs.Prelude.{ℕ, Bool, bytes_eq, find, map, List, ◌++◌, Op
 use Rattle.script.specs.declared.word.Word.TheVariants.{Plain, Signals, Nesting, Tasks, Lists, Memory, Ports, Semaphores, Interrupts, Libraries, Requests}
 use Rattle.script.specs.{declared.word.Word.Word, declared.word.row.Kind.Kind, Rows.RowData, PlainWords.plain_words, PlainWords.plain_row, SignalWords.signal_words, SignalWords.signal_row, NestingWords.nesting_words, NestingWords.nesting_row, TaskWords.task_words, TaskWords.task_row, ListWords.list_words, ListWords.list_row, MemoryWords.memory_words, MemoryWords.memory_row, PortWords.port_words, PortWords.port_row, SemaphoreWords.semaphore_words, SemaphoreWords.semaphore_row, InterruptWords.interrupt_words, InterruptWords.interrupt_row, LibraryWords.library_words, LibraryWords.library_row, RequestWords.request_words, RequestWords.request_row}
 
--- the row of a word, by its group
+-- what is known of a word by itself, which is its row, by the group of the word
 abbrev pub row : Word → RowData
 row (Plain word) = plain_row word
 row (Signals word) = signal_row word
@@ -22,7 +22,7 @@ row (Requests word) = request_row word
 abbrev pub word_text : Word → List ℕ
 word_text word = (row word).text
 
--- whether a word answers: only before such a word a target may be
+-- whether a word answers, that is, returns a value: only such a word may have a target before it
 abbrev pub answers : Word → Bool
 answers word = (row word).answers
 
@@ -30,6 +30,7 @@ answers word = (row word).answers
 abbrev pub kinds : Word → List Kind
 kinds word = (row word).kinds
 
+-- all words, group by group
 abbrev pub all_words : List Word
 all_words =
     map Plain plain_words ++ map Signals signal_words ++ map Nesting nesting_words ++ map Tasks task_words ++ map Lists list_words

@@ -5,25 +5,30 @@ ghost use Rattle.script.specs.Alerts.{alert_text};
 /// Why a call is refused; the machine stops then.
 #[derive(Clone, Copy, Debug, PartialEq, Eq)]
 pub enum Alert {
-    /// No live object of the kind begins at an address, or no task has a number.
+    /// No object of the kind begins at the address, or no task has the number; for SetTaskPri and RemTask, no live
+    /// task.
     Handle,
-    /// A request under way, not begun or not open.
+    /// A request is in progress where it must not be, was never begun, or is not open.
     Io,
-    /// A library that is not open.
+    /// A library is to be closed that is not open.
     Lib,
-    /// Linked where it must not be, or the other way.
+    /// A node, message, request or port is in a list or queue, or public, where it must not be, or is not where it must
+    /// be; or a list that is to be freed is not empty.
     Link,
-    /// A mask that names signals a script may not name.
+    /// A mask names signals that a script may not name, which are 0 to 11; or FreeSignal names neither one of 16 to 31
+    /// nor -1.
     Mask,
-    /// No block of that size begins there.
+    /// No block that AllocMem gave begins there, or the size does not round up to the size of the block.
     Mem,
-    /// Permit or Enable with none outstanding.
+    /// A Permit or Enable has nothing to take back, or a Forbid or Disable would take the count past 127.
     Nest,
-    /// A port in use, or not the caller's to wait at.
+    /// A port to be deleted has messages, is public, or is the reply port of a request in progress; or a port to wait
+    /// at does not signal the caller.
     Port,
-    /// A semaphore owned, not owned by the caller, or obtained too often.
+    /// A semaphore is to be freed that a task owns, is to be released by a task that does not own it, or is obtained
+    /// too often.
     Sem,
-    /// A value that is none of those that the call takes.
+    /// An argument has a value that the call does not take.
     Value,
 }
 

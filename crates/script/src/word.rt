@@ -33,7 +33,7 @@ use std::alloc::{AllocError, Global};
 pub use task_signals::SignalWord;
 pub use tasks::TaskWord;
 
-/// A word of a body. It begins a line, or is after its target.
+/// A word of a body. It begins a line, or comes after a target and `=`.
 #[derive(Clone, Copy, Debug, PartialEq, Eq)]
 pub enum Word {
     /// A word that sets a variable, calculates, jumps or prints.

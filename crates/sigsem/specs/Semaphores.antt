@@ -1,4 +1,4 @@
--- What calls on signal semaphores see: the semaphores by number, the tasks that wait at each, and if each task waits
+-- What calls on signal semaphores see: the semaphores by number, the tasks that wait at each, and where each task waits
 -- (RKM Libraries, Exec Semaphores).
 use Rattle.std.specs.Prelude.{◌≡◌, ℕ, ◌+◌, ◌-◌, ◌≤◌, ◌==◌, ◌&&◌, ◌||◌, nat_lt, Bool, not, is_some, IsTrue, MatchOption, if◌then◌else◌, List, [], ◌∷◌, ◌++◌, length, drop, replicate, slice_set, Option, Some, None, unwrap_or}
 use Rattle.execlist.specs.{Order.first, Order.without, Lists.sequence, Lists.home, Lists.is_at, Lists.times, Pool.Pooled, Pool.all_free, Pool.given, Pool.released, Pool.slot, Pool.written}
@@ -17,11 +17,11 @@ pub record Semaphores : Type 0 where
 
 -- ---- one semaphore
 
--- the greatest count (project rule: that of a signed word, as ss_NestCount is in exec/semaphores.h)
+-- 32767, the greatest count (project rule: that of a signed word, as ss_NestCount is in exec/semaphores.h)
 abbrev pub most_obtained : ℕ
 most_obtained = 32767
 
--- a semaphore that no task owns
+-- a semaphore that no task owns, with the count 0
 abbrev pub free_sem : Sem
 free_sem = record { owner = None; count = 0 }
 
@@ -41,11 +41,11 @@ is_owner t sem = is_at sem.owner t
 abbrev pub is_free_for : ℕ → Sem → Bool
 is_free_for t sem = not (is_owned sem) || is_owner t sem
 
--- a task that asks for a semaphore owns it, or waits for it (autodoc ObtainSemaphore)
+-- a task that asks for a semaphore becomes its owner, or waits for it (autodoc ObtainSemaphore)
 abbrev pub outcome_for : ℕ → Sem → Obtained
 outcome_for t sem = if is_free_for t sem then Owner else Waits
 
--- task t owns a semaphore so often that once more is too often
+-- task t owns a semaphore, and once more would take its count past the greatest
 abbrev pub is_too_deep : ℕ → Sem → Bool
 is_too_deep t sem = is_owner t sem && nat_lt most_obtained (sem.count + 1)
 
@@ -53,15 +53,16 @@ is_too_deep t sem = is_owner t sem && nat_lt most_obtained (sem.count + 1)
 abbrev pub once_more : ℕ → Sem → Sem
 once_more t sem = record { owner = Some t; count = sem.count + 1 }
 
--- the owner of a semaphore is to release it once more, and no more than that
+-- the owner has to release a semaphore just once more
 abbrev pub is_last : Sem → Bool
 is_last sem = sem.count == 1
 
--- the owner has to release the semaphore once less
+-- the owner has to release the semaphore once less than before
 abbrev pub once_less : Sem → Sem
 once_less sem = record sem { count = sem.count - 1 }
 
--- a semaphore whose owner is that task, which has to release it once, or which no task owns (autodoc ReleaseSemaphore)
+-- a semaphore after its last release: owned by this task, which has to release it once, or free if there is none
+-- (autodoc ReleaseSemaphore)
 abbrev pub owned_next : Option ℕ → Sem
 owned_next None = free_sem
 owned_next (Some t) = owned_by t
@@ -169,7 +170,7 @@ pub record IsHeld (m : Semaphores) : Type 0 where
   pub counted : (s : ℕ) → IsCounted (sem_at s m)
   pub owned : (t s : ℕ) → waits_at t m ≡ Some s → IsTrue (is_owned (sem_at s m))
 
--- A task that waits is once in the queue of the semaphore if it waits and in no other, and that semaphore lives and is owned: at a
+-- A task that waits is once in the queue of the semaphore where it waits and in no other, and that semaphore lives and is owned: at a
 -- free one nobody waits. A free semaphore has the count 0, an owned one a count from 1 to 32767.
 pub record IsSound (m : Semaphores) : Type 0 where
   pub stands : (s t : ℕ) → times t (waiters_of s m) ≡ (if is_at (waits_at t m) s then 1 else 0)

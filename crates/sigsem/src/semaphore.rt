@@ -3,7 +3,7 @@
 /// The number of a task, from 0.
 pub type TaskId = usize;
 
-/// A semaphore beside its waiting tasks: its owner, and how often the owner has to release it. A free one has no owner and the count 0.
+/// A semaphore without the tasks that wait for it: its owner, and how often the owner has to release it. A free one has no owner and the count 0.
 /// RKM Libraries, Exec Semaphores: `ss_Owner` and `ss_NestCount`.
 #[derive(Clone, Copy, Debug)]
 pub struct Sem {
@@ -11,7 +11,7 @@ pub struct Sem {
     pub count: u16,
 }
 
-/// What comes of asking for a semaphore. The semaphores do not make the task wait themselves.
+/// What comes of asking for a semaphore. Whoever keeps the tasks has to make the task wait.
 #[derive(Clone, Copy)]
 pub enum Obtained {
     /// The task is the owner.

@@ -14,7 +14,7 @@ source_text Ports = codes "PORTS"
 source_text Vertb = codes "VERTB"
 source_text Exter = codes "EXTER"
 
--- the source of a name
+-- the source of a name, if it is the name of one
 abbrev pub source_of : List ℕ → Option Source
 source_of name =
     if bytes_eq name (codes "PORTS") then Some Ports
@@ -35,7 +35,7 @@ is_source Vertb Vertb = true
 is_source Exter Exter = true
 is_source _ _ = false
 
--- a source asks to be served
+-- a source asks to be served: its latch is set
 abbrev pub is_latched : Source → Latches → Bool
 is_latched Ports latches = latches.ports
 is_latched Vertb latches = latches.vertb
@@ -45,12 +45,12 @@ is_latched Exter latches = latches.exter
 abbrev pub no_latches : Latches
 no_latches = record { ports = false; vertb = false; exter = false }
 
--- one source's latch set or cleared
+-- the latch of one source is set or cleared
 abbrev pub with_latch : Source → Bool → Latches → Latches
 with_latch Ports set latches = record latches { ports = set }
 with_latch Vertb set latches = record latches { vertb = set }
 with_latch Exter set latches = record latches { exter = set }
 
--- the source of highest level among those that ask to be served
+-- the source of highest level among those that ask to be served, if any does
 abbrev pub highest : Latches → Option Source
 highest latches = chosen (λ source. pos (level source)) (filter (λ source. is_latched source latches) sources)

@@ -4,7 +4,7 @@ ghost use Rattle.softint.specs.Sources.{highest, with_latch, no_latches};
 
 use crate::source::Source;
 
-/// For each source whether it asks to be served. RKM Libraries, Exec Interrupts: interrupt requests.
+/// For each source, whether it asks to be served. RKM Libraries, Exec Interrupts: interrupt requests.
 #[derive(Clone, Copy, Debug)]
 pub struct Latches {
     pub ports: bool,

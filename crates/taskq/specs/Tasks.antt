@@ -1,6 +1,6 @@
--- What calls on the tasks speak of: the state, the priority and the name of each task, by its number,
--- and the ready tasks: for a `TaskQ` in the order in which they are to run, for the abstract machine in order of arrival.
--- RKM Libraries, Exec Tasks.
+-- What calls on the tasks speak of: the state, the priority and the name of each task, by its number, and the ready
+-- tasks. The program (`TaskQ`) keeps the ready tasks in the order in which they are to run, the abstract machine in
+-- order of arrival. RKM Libraries, Exec Tasks.
 use Rattle.std.specs.Prelude.{◌≡◌, ℕ, ℤ, length, List, [], Option, Some, None, Bool, true, false, ◌&&◌, ◌==◌, slice_index_or, map}
 use Rattle.std.specs.Cmp.Lexicographic.{pointwise}
 use Rattle.execlist.specs.Lists.{KeyData}
@@ -14,7 +14,7 @@ pub record Tasks : Type 0 where
   pub pris : List ℤ
   pub names : List (List ℕ)
 
--- the state of task t
+-- the state of task t; Absent if no task has that number
 abbrev pub state_at : List TaskState → ℕ → TaskState
 state_at states t = slice_index_or states t Absent
 

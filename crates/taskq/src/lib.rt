@@ -38,7 +38,7 @@ pub enum Why {
 /// Where a task is in its life. RKM Libraries, Exec Tasks: task states.
 #[derive(Clone, Copy, Debug, PartialEq, Eq)]
 pub enum TaskState {
-    /// It never was added.
+    /// It was never added.
     Absent,
     /// It may run, and another one runs or none has been chosen.
     Ready,

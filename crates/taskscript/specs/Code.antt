@@ -9,7 +9,7 @@ use Rattle.taskscript.specs.{declared.fault.FileFault.FileFault, declared.place.
 
 -- ---- lines
 
--- the text of an item; one that is no string is read as the empty text, which says nothing
+-- the text of an item; an item that is not a string counts as the empty text, which says nothing
 abbrev pub line_in : Data → List ℕ
 line_in (string text) = text
 line_in _ = []
@@ -43,19 +43,20 @@ labels_of lines = filter_map (λ line. label_said (line_meaning line)) lines
 abbrev pub is_label_of : List ℕ → List ℕ → Bool
 is_label_of name line = option_map_or (bytes_eq name) (label_said (line_meaning line)) false
 
--- the place that a label names: as many commands are before it
+-- the place that a label names: the number of commands before it
 abbrev pub place_of : List (List ℕ) → List ℕ → ℕ
 place_of lines name = length (commands_of (before_first (is_label_of name) lines))
 
--- all names of variables in the order of first sight; a line that is no command names none
+-- all names of variables in the order of first sight, after the shared ones that were seen before; a line that is not a
+-- command names none
 abbrev pub names_of : List (List ℕ) → List (List ℕ) → Names
 names_of shared lines = names_after (record { private = []; shared = shared }) (flat_map variables_of (commands_of lines))
 
 -- ---- faults
 
--- what a line says, after the labels before it: BadCommand if it says nothing, or names a software interrupt that the file lacks;
--- NotInInterrupt if the body is an interrupt's and may not have it; BadLabel where it is a label that was before; TooMany if it has
--- a variable past its limit
+-- The faults of what a line says, after the labels before it: BadCommand if it says nothing, or names a software
+-- interrupt that the file lacks; NotInInterrupt if the body is that of an interrupt, which may not have such a line;
+-- BadLabel if the line is a label that was there before; TooMany if it has a variable past the limit.
 abbrev pub line_faults : Setting → Names → List (List ℕ) → Option LineData → List FileFault
 line_faults setting names before None = BadCommand ∷ []
 line_faults setting names before (Some (label_line name)) =
@@ -65,29 +66,30 @@ line_faults setting names before (Some (command_line c)) =
     ++ (check (may_stand setting c) NotInInterrupt
     ++ check (list_all (λ v. keeps_variable_limits (variable_in names v)) (variables_of c)) TooMany)
 
--- the lines of the body of an item from that number on, each after the labels before it
+-- the faults of the lines of a body from that number on, each after the labels before it
 abbrev pub lines_faults : Owner → ℕ → ℕ → Setting → Names → List (List ℕ) → List (List ℕ) → List Refused
 lines_faults owner item number setting names before [] = []
 lines_faults owner item number setting names before (line ∷ others) =
     at (line_at owner item number) (line_faults setting names before (line_meaning line))
     ++ lines_faults owner item (number + 1) setting names (before ++ labels_of (line ∷ [])) others
 
--- a jump to a label that is not among these
+-- BadLabel, if a command jumps to a label that is not among these
 abbrev pub jump_faults : List (List ℕ) → NamedCommandData → List FileFault
 jump_faults labels c = check (list_all (λ name. list_any (bytes_eq name) labels) (labels_of_arguments c.arguments)) BadLabel
 
--- the jumps of a line, if it is a command
+-- the fault of the jump of a line, if it is a command that jumps
 abbrev pub jumps_said : List (List ℕ) → Option NamedCommandData → List FileFault
 jumps_said labels None = []
 jumps_said labels (Some c) = jump_faults labels c
 
--- the jumps of the lines from that number on
+-- the faults of the jumps of the lines from that number on
 abbrev pub jumps_faults : Owner → ℕ → ℕ → List (List ℕ) → List (List ℕ) → List Refused
 jumps_faults owner item number labels [] = []
 jumps_faults owner item number labels (line ∷ others) =
     at (line_at owner item number) (jumps_said labels (command_said (line_meaning line))) ++ jumps_faults owner item (number + 1) labels others
 
--- a body has at most 1,024 lines, and else its fault is at the line after them; then its lines in their order, and then its jumps in theirs
+-- The faults of a body: TooMany at the line after the 1,024th, if there are more; then those of its lines in their
+-- order, and then those of its jumps in their order.
 unfoldable pub body_faults : Owner → ℕ → Setting → List (List ℕ) → List (List ℕ) → List Refused
 body_faults owner item setting shared lines =
     at (line_at owner item 1024) (check (nat_le (length lines) 1024) TooMany)
@@ -100,6 +102,6 @@ body_faults owner item setting shared lines =
 unfoldable pub code_of : List (List ℕ) → List (List ℕ) → List CommandData
 code_of shared lines = map (command_in (names_of shared lines) (place_of lines)) (commands_of lines)
 
--- the shared names, as the bodies after it find them
+-- the names of the shared variables, in order of first sight, after a body
 unfoldable pub shared_after : List (List ℕ) → List (List ℕ) → List (List ℕ)
 shared_after shared lines = (names_of shared lines).shared

@@ -10,15 +10,15 @@ use Rattle.script.specs.Events.{is_within}
 
 -- ---- one line
 
--- a number of turns: 1 to 1,000,000, decimal and without leading zeros
+-- a number of steps or ticks: 1 to 1,000,000
 abbrev pub in_turns : ℕ → Option ℕ
 in_turns n = if nat_le 1 n && nat_le n 1000000 then Some n else None
 
--- the number of steps or ticks that digits are, from 1 to 1,000,000
+-- the number of steps or ticks that digits state: 1 to 1,000,000, decimal and without leading zeros
 abbrev pub turns_of : List ℕ → Option ℕ
 turns_of digits = option_and_then in_turns (decimal_of digits)
 
--- a line begins with some bytes
+-- a line begins with these bytes
 abbrev pub begins_with : List ℕ → List ℕ → Bool
 begins_with front line = bytes_eq (take (length front) line) front
 
@@ -30,7 +30,7 @@ event_of line =
     else if begins_with (codes "irq ") line then option_map Irq (requested_source_of (drop 4 line))
     else None
 
--- an empty line, and one that begins with #, is skipped
+-- a line is skipped: it is empty, or begins with #
 abbrev pub is_skipped : List ℕ → Bool
 is_skipped [] = true
 is_skipped (b ∷ bs) = b == 35
@@ -46,7 +46,8 @@ abbrev pub events_of : List (List ℕ) → List Event
 events_of [] = []
 events_of (line ∷ lines) = events_on line ++ events_of lines
 
--- the fault of a line: of what it states, of its number, and of the events of all lines up to it
+-- the fault of a line with this number: it states no event, or the events of all lines up to it are more than a text
+-- may ask for
 abbrev pub fault_by : Option Event → ℕ → List Event → List EventFault
 fault_by None number events = BadLine number ∷ []
 fault_by (Some event) number events = if is_within events then [] else TooMany ∷ []
@@ -61,7 +62,7 @@ abbrev pub event_faults : List (List ℕ) → List (List ℕ) → List EventFaul
 event_faults before [] = []
 event_faults before (line ∷ lines) = event_line_faults before line ++ event_faults (before ++ line ∷ []) lines
 
--- a text is cut at its line feeds
+-- the lines of a text, which is cut at its line feeds
 abbrev pub text_lines : List ℕ → List (List ℕ)
 text_lines text = slice_split (λ b. b == 10) text
 

@@ -1,23 +1,23 @@
--- Which lines a body may have. That of a software interrupt or of a server has few words and no variables of its own; and whichever body it
--- is, a word that names a software interrupt names one of the file.
+-- Which lines a body may have. The body of a software interrupt or of a server may have only some words, and no
+-- variables of its own. In every body, a word that names a software interrupt names one of the file.
 use Rattle.std.specs.Prelude.{ℕ, Bool, true, not, ◌&&◌, ◌||◌, bytes_eq, List, [], ◌∷◌, Option, Some, None}
 use Rattle.std.specs.List.{list_all, list_any, cons_option}
 use Rattle.script.specs.{declared.word.row.Kind.Kind, declared.word.row.Kind.TheVariants.Softint, Words.kinds}
 use Rattle.taskscript.specs.{Lines.NamedVariableData, Lines.NamedArgumentData, Lines.variable, Lines.quoted, Lines.NamedCommandData, Numbering.variables_of}
 use Rattle.script.specs.Interrupting.{is_word_of_interrupt}
 
--- what a body is judged by, beside its lines: whether it is that of an interrupt, and the names of the software interrupts of the file
+-- what a body is judged by, besides its lines: whether it is that of an interrupt, and the names of the software interrupts of the file
 pub record Setting : Type 0 where
   pub of_interrupt : Bool
   pub softints : List (List ℕ)
 
 -- ---- the words of an interrupt (project rule)
 
--- a command that the body of an interrupt may have: its word is one of those, and its variables are shared
+-- the body of an interrupt may have this command: its word is allowed there, and its variables are shared
 abbrev pub is_of_interrupt : NamedCommandData → Bool
 is_of_interrupt c = is_word_of_interrupt c.word && list_all (λ (v : NamedVariableData). v.is_shared) (variables_of c)
 
--- a command may be in a body
+-- a body that is judged by this setting may have this command
 abbrev pub may_stand : Setting → NamedCommandData → Bool
 may_stand setting c = not setting.of_interrupt || is_of_interrupt c
 

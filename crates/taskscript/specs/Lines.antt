@@ -29,7 +29,7 @@ pub data NamedArgumentData : Type 0 where
 
 -- ---- commands
 
--- a word, the variable that its answer goes to, and its arguments from left to right
+-- a word, the variable that its answer goes to, or none, and its arguments from left to right
 pub record NamedCommandData : Type 0 where
   pub word : Word
   pub target : Option NamedVariableData

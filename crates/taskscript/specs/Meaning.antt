@@ -1,8 +1,9 @@
--- What a line says, as the function that the relation determines.
+-- What a line says, as a function that is determined by the relation `Says`.
 use Rattle.std.specs.Prelude.{ℕ, List, Option}
 use Rattle.taskscript.specs.{Lines.fields, Lines.LineData, Says.Meaning, Reader.reader}
 
--- Such a function is there, and by its type alone it is known: no definition and no proof sees more of it.
+-- There is a function that gives what the fields of a line say. It is known by its type alone: no definition and no
+-- proof uses more of it.
 abbrev pub meaning : Meaning
 meaning = reader
 

@@ -1,4 +1,4 @@
--- Variables by number: a name's number is its place in the order of first sight. Jumps by place.
+-- Variables by number: the number of a name is its place in the order of first sight. Jumps by place.
 use Rattle.std.specs.Prelude.{◌≡◌, ℕ, Bool, true, false, ◌&&◌, nat_lt, bytes_eq, List, [], ◌∷◌, ◌++◌, map, Option, Some, None, option_map, Result, Ok, Err, if◌then◌else◌, fold}
 use Rattle.std.specs.List.{list_any, position_or_len}
 use Rattle.arrayvec.specs.ArrayString.{ArrayString}
@@ -15,11 +15,12 @@ use Rattle.script.specs.Names.{texts}
 abbrev pub seen_after : List (List ℕ) → List ℕ → List (List ℕ)
 seen_after seen name = if list_any (bytes_eq name) seen then seen else seen ++ name ∷ []
 
--- the place of a name among those seen; after them, if it is new
+-- the place of a name among those that were seen; after them, if it is new
 abbrev pub number_in : List (List ℕ) → List ℕ → ℕ
 number_in seen name = position_or_len (bytes_eq name) seen
 
--- the names of a body's private variables, and those of the shared ones from the file's begin on
+-- the names of the private variables of a body, and those of the shared variables of the file up to here, both in the
+-- order of first sight
 pub record Names : Type 0 where
   pub private : List (List ℕ)
   pub shared : List (List ℕ)
@@ -30,7 +31,7 @@ names_with names v =
     if v.is_shared then record { private = names.private; shared = seen_after names.shared v.name }
     else record { private = seen_after names.private v.name; shared = names.shared }
 
--- the names of the variables after some more of them
+-- the names of variables, with those of some more variables that are new
 abbrev pub names_after : Names → List NamedVariableData → Names
 names_after names variables = fold names_with names variables
 
@@ -52,7 +53,7 @@ abbrev pub command_in : Names → (List ℕ → ℕ) → NamedCommandData → Co
 command_in names places c =
     record { word = c.word; target = option_map (variable_in names) c.target; arguments = map (argument_in names places) c.arguments }
 
--- 32 private variables a body, 64 shared ones
+-- a variable is within the limits: a body has at most 32 private variables, and a file at most 64 shared ones
 abbrev pub keeps_variable_limits : Variable → Bool
 keeps_variable_limits (Private n) = nat_lt n 32
 keeps_variable_limits (Shared n) = nat_lt n 64
@@ -64,7 +65,7 @@ abbrev pub variables_of_target : Option NamedVariableData → List NamedVariable
 variables_of_target None = []
 variables_of_target (Some v) = v ∷ []
 
--- the variables among some arguments
+-- the variables among some arguments, from left to right
 abbrev pub variables_of_arguments : List NamedArgumentData → List NamedVariableData
 variables_of_arguments [] = []
 variables_of_arguments (number n ∷ others) = variables_of_arguments others
@@ -72,11 +73,11 @@ variables_of_arguments (variable v ∷ others) = v ∷ variables_of_arguments ot
 variables_of_arguments (label n ∷ others) = variables_of_arguments others
 variables_of_arguments (quoted n ∷ others) = variables_of_arguments others
 
--- the target, and then the arguments from left to right
+-- the variables of a command: the target, and then the arguments from left to right
 abbrev pub variables_of : NamedCommandData → List NamedVariableData
 variables_of c = variables_of_target c.target ++ variables_of_arguments c.arguments
 
--- the labels that it jumps to
+-- the labels among some arguments: those that the command jumps to
 abbrev pub labels_of_arguments : List NamedArgumentData → List (List ℕ)
 labels_of_arguments [] = []
 labels_of_arguments (number n ∷ others) = labels_of_arguments others

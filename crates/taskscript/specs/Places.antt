@@ -16,7 +16,7 @@ array_key Softint = codes "softint"
 array_key Server = codes "server"
 array_key Task = codes "task"
 
--- the greatest number of items
+-- the greatest number of items of each array
 abbrev pub limit : Array → ℕ
 limit Region = 8
 limit Library = 32
@@ -42,23 +42,23 @@ key_text key.Code = codes "code"
 
 -- ---- places
 
--- a key that a table may not have
+-- the place of a key that a table may not have
 abbrev pub unknown_key_at : TablePlace → Place
 unknown_key_at of = Tree (tree.UnknownKey of)
 
--- what a key of a table holds, or that it is absent
+-- the place of a key of a table, whether it is there or not
 abbrev pub key_at : TablePlace → Key → Place
 key_at of k = Tree (tree.Key of k)
 
--- an array as a whole
+-- the place of an array as a whole
 abbrev pub array_at : Array → Place
 array_at of = Tree (tree.Array of)
 
--- the item of that number of an array
+-- the place of the item of that number of an array
 abbrev pub item_at : Array → ℕ → Place
 item_at of number = Tree (tree.Item of number)
 
--- the line of that number, from 0, of the body of an item
+-- the place of a line of the body of an item; items and lines are numbered from 0
 abbrev pub line_at : Owner → ℕ → ℕ → Place
 line_at owner number line = Line (record { owner = owner; item = number; line = line })
 
@@ -68,7 +68,7 @@ line_at owner number line = Line (record { owner = owner; item = number; line = 
 abbrev pub refused : Place → FileFault → Refused
 refused place fault = record { fault = fault; place = place }
 
--- the faults of one place
+-- these faults, all at one place
 abbrev pub at : Place → List FileFault → List Refused
 at place faults = map (refused place) faults
 

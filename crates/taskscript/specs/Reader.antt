@@ -124,7 +124,7 @@ meaning_of : (fs : List (List ℕ)) (o : Option LineData) → line_of fs ≡ o �
 meaning_of fs (Some x) is = read_line_is_said fs x is
 meaning_of fs None is = λ x. refused_line_says_nothing fs x is
 
--- the reading of a line, and that it is right
+-- the function that reads the fields of a line; in the original, with the proof that it is right
 pub reader : Meaning
 reader = record { answer = line_of; right = λ fs. meaning_of fs (line_of fs) refl }
 

@@ -4,11 +4,11 @@ use Rattle.script.specs.declared.word.row.Kind.TheVariants.{Value, Label, Name, 
 use Rattle.script.specs.{declared.word.row.Kind.Kind, Names.is_name, Words.word_text, Words.answers, Words.kinds}
 use Rattle.taskscript.specs.{Identifiers.is_identifier, Numbers.number_of, Lines.NamedVariableData, Lines.NamedArgumentData, Lines.variable, Lines.number, Lines.label, Lines.quoted, Lines.NamedCommandData, Lines.LineData, Lines.label_line, Lines.command_line}
 
--- `"`
+-- a double quote, `"`
 abbrev pub quote : List ℕ
 quote = 34 ∷ []
 
--- a name represents a private variable, and with `@` before it for a shared one
+-- the text of a variable: its name, with `@` before it if the variable is shared
 abbrev pub variable_text : NamedVariableData → List ℕ
 variable_text v = if v.is_shared then 64 ∷ v.name else v.name
 
@@ -17,8 +17,8 @@ pub record IsVariable (field : List ℕ) (v : NamedVariableData) : Type 0 where
   pub text : field ≡ variable_text v
   pub named : is_identifier v.name ≡ true
 
--- a value is a variable or a number, a label is as it is, a name between double quotes, and `0` alone may be
--- for no name
+-- A field is an argument of a kind. A value is a variable or a number, and a label is the field itself. A name is
+-- between double quotes; where there may be no name, `0` alone means that.
 abbrev pub IsArgument : Kind → List ℕ → NamedArgumentData → Type 0
 IsArgument Value field (variable v) = IsVariable field v
 IsArgument Value field (number n) = number_of field ≡ Some n
@@ -29,13 +29,13 @@ IsArgument NameOrNone field (number n) = (field ≡ codes "0") × (n ≡ 0)
 IsArgument Softint field (quoted n) = (field ≡ quote ++ n ++ quote) × (is_name n ≡ true)
 IsArgument _ _ _ = ⊥
 
--- one field of each kind
+-- there is one field for each kind, and it is the argument
 abbrev pub AreArguments : List Kind → List (List ℕ) → List NamedArgumentData → Type 0
 AreArguments [] [] [] = Unit {0}
 AreArguments (kind ∷ kinds) (field ∷ fields) (a ∷ others) = IsArgument kind field a × AreArguments kinds fields others
 AreArguments _ _ _ = ⊥
 
--- nothing, or if the word answers a variable and `=`
+-- there is no field; or, if the word answers, there are a variable and `=`
 abbrev pub IsTarget : Bool → List (List ℕ) → Option NamedVariableData → Type 0
 IsTarget may [] None = Unit {0}
 IsTarget true (target ∷ equals ∷ []) (Some v) = (equals ≡ codes "=") × IsVariable target v
@@ -54,7 +54,7 @@ pub record IsLabel (fields : List (List ℕ)) (name : List ℕ) : Type 0 where
   pub one : fields ≡ (name ++ codes ":") ∷ []
   pub named : is_identifier name ≡ true
 
--- a line is a label or a command
+-- fields say a label, or a command
 abbrev pub Says : List (List ℕ) → LineData → Type 0
 Says fields (label_line name) = IsLabel fields name
 Says fields (command_line c) = IsLine fields c
@@ -66,7 +66,8 @@ abbrev pub IsMeaning : List (List ℕ) → Option LineData → Type 0
 IsMeaning fields (Some x) = Says fields x
 IsMeaning fields None = (x : LineData) → ¬ Says fields x
 
--- a function that answers this for all fields; any two are the same, since fields say one thing at most
+-- A function that gives what fields say, if they say something, and none else. Any two such functions are equal, since
+-- fields say at most one thing.
 pub record Meaning : Type 0 where
   pub answer : List (List ℕ) → Option LineData
   pub right : (fields : List (List ℕ)) → IsMeaning fields (answer fields)

@@ -113,7 +113,7 @@ fn events_of(alloc: Global, lines: &[&[u8]]) -> Result<Events, EventFault>
 ///
 /// # Errors
 ///
-/// The first faulty line decides: `BadLine` if it is no event, `TooMany` if it takes the sum of the steps or that of the
+/// The first faulty line decides: `BadLine` if it is not an event, `TooMany` if it takes the sum of the steps or that of the
 /// ticks past 1,000,000 or the events past 100,000. `OutOfMemory` may come wherever memory is refused.
 ///
 /// The format is a project rule.

@@ -7,12 +7,11 @@ ghost use Rattle.taskscript.specs.Faults.{file_fault_name, file_fault_number, ev
 use std::alloc::{AllocError, AllocFailed};
 use thiserror::Error;
 
-/// The fault of a machine file. It is shown by its name, as the program shows it.
-///
-/// The first faulty place of the file decides. Each fault has a number, from 1 in the order in which they are here (project rule).
+/// The fault of a machine file: the first one, in the order in which its places are judged. It is printed by its name.
+/// The faults are numbered from 1, in the order in which they are here (project rule).
 #[derive(Clone, Copy, Debug, PartialEq, Eq, Error)]
 pub enum FileFault {
-    /// The bytes are no text in UTF-8, or the text is no TOML document.
+    /// The bytes are not text in UTF-8, or the text is not a TOML document.
     #[error("NotToml")]
     NotToml = 1,
     /// A table has a key that is not listed for it.
@@ -30,7 +29,7 @@ pub enum FileFault {
     /// The regions of memory overlap, are misaligned or too large.
     #[error("BadRegions")]
     BadRegions = 6,
-    /// A line of a body has not the form of a label or of a command, or it names a software interrupt that the file lacks.
+    /// A line of a body is neither a label nor a command, or it names a software interrupt that the file lacks.
     #[error("BadCommand")]
     BadCommand = 7,
     /// A label is twice in a body, or a jump names a label that is not in its body.
@@ -91,12 +90,11 @@ impl<T: Drop> From<AllocFailed<T>> for FileFault {
     }
 }
 
-/// The fault of an event text. It is shown by its name, and the number of the line that is no event, as the program shows it.
-///
-/// The first faulty line decides. The numbers are 1, 2 and 3 in the order in which they are here (project rule).
+/// The fault of an event text: that of its first faulty line. It is printed by its name, and BadLine with the number of
+/// that line. The faults are numbered 1, 2 and 3, in the order in which they are here (project rule).
 #[derive(Clone, Copy, Debug, PartialEq, Eq, Error)]
 pub enum EventFault {
-    /// The line of this number, counted from 1 with the lines that are skipped, is no event.
+    /// The line of this number is not an event. Lines are counted from 1, and those that are skipped are counted too.
     #[error("BadLine {0}")]
     BadLine(usize),
     /// A line takes the sum of the steps or that of the ticks past 1,000,000, or the number of the events past 100,000.

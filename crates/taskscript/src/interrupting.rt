@@ -13,7 +13,7 @@ use crate::named::{NamedArgument, NamedCommand};
 use crate::variable::NamedVariable;
 use script::{Kind, Name, is_word_of_interrupt};
 
-/// What a body is judged by, beside its lines.
+/// What a body is judged by, besides its lines.
 #[derive(Clone, Copy)]
 pub struct Setting<'a> {
     /// Whether it is the body of a software interrupt or of a server.

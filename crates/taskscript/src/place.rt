@@ -100,13 +100,13 @@ pub enum TablePlace {
 /// A place of the tree of a machine file.
 #[derive(Clone, Copy, Debug, PartialEq, Eq)]
 pub enum TreePlace {
-    /// The first key of a table that is none of its keys.
+    /// The first key of a table that the table may not have.
     UnknownKey(TablePlace),
     /// What a key of a table holds, or that it is absent.
     Key(TablePlace, Key),
     /// An array as a whole.
     Array(Array),
-    /// The item of an array, by its number from 0, which is no table.
+    /// The item of an array, by its number from 0, which is not a table.
     Item(Array, usize),
 }
 
@@ -132,7 +132,7 @@ pub struct LinePlace {
 /// A place of a machine file.
 #[derive(Clone, Copy, Debug, PartialEq, Eq)]
 pub enum Place {
-    /// The file as a whole: it is no document, or memory was refused while it was read.
+    /// The file as a whole: it is not a TOML document, or memory was refused while it was read.
     File,
     /// A place of the tree.
     Tree(TreePlace),

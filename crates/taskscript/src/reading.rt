@@ -144,8 +144,8 @@ pub fn read_listed(alloc: Global, bytes: &[u8]) -> Result<Listed, FileFault>
 /// # Errors
 ///
 /// The first faulty place decides. First the whole tree is judged: the keys of the file, then `version`, `quantum`, `tick_micros` and
-/// `pool`, then `region`, `library`, `softint`, `server` and `task` (`BadValue` if it is no array, `TooMany` if it is too long), then
-/// item by item: `BadValue` if it is no table, `UnknownKey`, then its keys in the order `base`, `size`, `attrs`, `pri`, or `name`,
+/// `pool`, then `region`, `library`, `softint`, `server` and `task` (`BadValue` if it is not an array, `TooMany` if it is too long), then
+/// item by item: `BadValue` if it is not a table, `UnknownKey`, then its keys in the order `base`, `size`, `attrs`, `pri`, or `name`,
 /// `version`, `size`, or `name`, `pri`, `code`, or `name`, `source`, `pri`, `claim`, `code`, or `name`, `pri`, `start`, `code`, each
 /// `MissingKey` or `BadValue`, with `NameTwice` right after the name and `TooMany` after a `code` of strings. `BadRegions` comes after the
 /// last region, if `memlist::check_regions` refuses them, which in version 1 may have 1,048,576 bytes in all, and in version 2 may have

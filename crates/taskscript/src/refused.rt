@@ -77,7 +77,7 @@ pub fn at_array(of: Array, fault: FileFault) -> Refused
     }
 }
 
-/// The fault of the item of that number of an array that is no table.
+/// The fault of the item of that number of an array that is not a table.
 pub fn no_table(of: Array, number: usize) -> Refused
     ensures { result ≡ refused (item_at of number) file_fault.BadValue }
 {

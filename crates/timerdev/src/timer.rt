@@ -160,7 +160,7 @@ impl<S: ListSpace> Timer<S> {
 
     /// Takes off the first request whose time has come and answers it, or answers none if there is none. First is the one of the first
     /// due time, and of those of one due time the one that was begun first; the due time of a request that waits for system time is that time
-    /// less what system time is ahead of the clock now. Devices, timer device: TR_ADDREQUEST.
+    /// less how far system time is ahead of the clock now. Devices, timer device: TR_ADDREQUEST.
     pub fn due(&mut self) -> Option<ReqId>
         ensures value { result ≡ due_next self.old.timer }
         ensures next { self.new ≡ on_timer (taken_off (due_next self.old.timer)) self.old }

@@ -705,7 +705,7 @@ impl<S: ListSpace> Heap<S> {
 
     /// Finishes the first request whose time has come, with error 0, and answers its address and what is to be done for its reply; none if
     /// no time has come. First is the one of the first due time, and of those of one due time the one that was begun first; the due time of a
-    /// request that waits for system time is that time less what system time is ahead of the clock now. Devices, timer device: TR_ADDREQUEST.
+    /// request that waits for system time is that time less how far system time is ahead of the clock now. Devices, timer device: TR_ADDREQUEST.
     pub fn finish_due(&mut self) -> Option<(u32, Action)>
         ensures answer { result ≡ finishing self.old.heap (due_next self.old.timer) }
         ensures next { self.new ≡ ended_if (due_next self.old.timer) self.old }

@@ -11,7 +11,7 @@ use execlist::space::ListSpace;
 use execlist::walk::next_node;
 
 impl<S: ListSpace> Ports<S> {
-    /// A port beside its messages; if there is none of that number, a new one of task 0 and signal 0.
+    /// A port without its messages; if there is none of that number, a new one of task 0 and signal 0.
     ///
     /// Source: RKM Libraries, Exec Messages and Ports: `struct MsgPort`.
     pub fn port_at(&self, p: PortId) -> Port
@@ -23,7 +23,7 @@ impl<S: ListSpace> Ports<S> {
         }
     }
 
-    /// A message beside its place; if there is none of that number, a new one without a reply port and with word 0.
+    /// A message without its place; if there is none of that number, a new one without a reply port and with word 0.
     ///
     /// Source: RKM Libraries, Exec Messages and Ports: `struct Message`.
     pub fn message_at(&self, m: MsgId) -> Message

@@ -10,13 +10,13 @@ use crate::word::row::{Kind, Row};
 pub enum PlainWord {
     /// Gives its argument to the target. It prints nothing.
     Set,
-    /// Gives the sum of its arguments to the target. It prints nothing.
+    /// Gives the sum of its arguments, modulo 2^32, to the target. It prints nothing.
     Add,
-    /// Gives their difference. It prints nothing.
+    /// Gives the first argument minus the second, modulo 2^32, to the target. It prints nothing.
     Sub,
-    /// Gives their bitwise and. It prints nothing.
+    /// Gives the bitwise and of its arguments to the target. It prints nothing.
     And,
-    /// Gives their bitwise or. It prints nothing.
+    /// Gives the bitwise or of its arguments to the target. It prints nothing.
     Or,
     /// Goes on at the label.
     Jump,

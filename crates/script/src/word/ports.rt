@@ -8,7 +8,7 @@ use crate::word::row::{Kind, Row};
 /// A call on message ports and messages.
 #[derive(Clone, Copy, Debug, PartialEq, Eq)]
 pub enum PortWord {
-    /// Makes a port that signals the caller, which is not public (autodoc exec.library/CreateMsgPort).
+    /// Makes a port that signals the caller and is not public (autodoc exec.library/CreateMsgPort).
     CreateMsgPort,
     /// Ends a port that holds no message and is not public (autodoc exec.library/DeleteMsgPort).
     DeleteMsgPort,

@@ -14,7 +14,7 @@ pub enum RequestWord {
     DeleteIORequest,
     /// Opens a request for a unit of a device (autodoc exec.library/OpenDevice).
     OpenDevice,
-    /// Leaves a request not open (autodoc exec.library/CloseDevice).
+    /// Closes a request, which is not open any more (autodoc exec.library/CloseDevice).
     CloseDevice,
     /// Gives a request a command and a time (RKM Devices, Introduction to Amiga System Devices: io_Command; Devices, timer device: tr_time).
     SetIO,
@@ -22,11 +22,11 @@ pub enum RequestWord {
     DoIO,
     /// Begins a request (autodoc exec.library/SendIO).
     SendIO,
-    /// Asks whether a request is under way (autodoc exec.library/CheckIO).
+    /// Asks whether a request is in progress (autodoc exec.library/CheckIO).
     CheckIO,
     /// Waits until a request is done, and takes its reply (autodoc exec.library/WaitIO).
     WaitIO,
-    /// Has a request that is under way replied at once (autodoc exec.library/AbortIO).
+    /// Has a request that is in progress replied at once (autodoc exec.library/AbortIO).
     AbortIO,
     /// Asks for the seconds of the time of a request (Devices, timer device: tr_time).
     IOSecs,

@@ -1,4 +1,4 @@
--- The proof of `MemHeader::head`: if the first chunk begins, or 0 if nothing is free.
+-- The proof of `MemHeader::head`: where the first chunk begins, or 0 if nothing is free.
 use Rattle.std.proofs.Common.{ap, ◌∙◌}
 use Rattle.memlist.specs.Chain.{first_or}
 use Rattle.memlist.proofs.Headers.{gaps_shown}

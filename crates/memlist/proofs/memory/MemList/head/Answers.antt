@@ -1,4 +1,4 @@
--- The proof of `MemList::head`: if the first free chunk of a region begins, or 0 if nothing of it is free.
+-- The proof of `MemList::head`: where the first free chunk of a region begins, or 0 if nothing of it is free.
 use Rattle.std.proofs.Common.{arith, sym, subst, length, ◌<◌, ◌≡◌, IfSome, slice_get}
 use Rattle.memlist.specs.{Blocks.gaps, Chain.first_or, Memory.Memory}
 use Rattle.memlist.proofs.Memories.{free_head, read_area, within_areas}

@@ -1,4 +1,4 @@
--- The proof of `FreeSpace::head`: if the first chunk begins, or 0 if there is none.
+-- The proof of `FreeSpace::head`: where the first chunk begins, or 0 if there is none.
 use Rattle.std.proofs.Common.{ap, ◌∙◌}
 use Rattle.memlist.specs.Chain.{Space, first_or}
 use Rattle.memlist.proofs.space.FreeSpace.head.Goals as goal
