@@ -27,7 +27,7 @@ pub enum Refusal {
     #[error("a library that is not open")]
     Lib,
     /// A request is in progress where it must not be, or is not begun or not open where it must be.
-    #[error("a request under way, not begun or not open")]
+    #[error("a request in progress, not begun or not open")]
     Io,
 }
 

@@ -8,7 +8,7 @@ use thiserror::Error;
 #[derive(Clone, Copy, Debug, PartialEq, Eq, Error)]
 pub enum ReqFault {
     /// The request is in progress.
-    #[error("the request is under way")]
+    #[error("the request is in progress")]
     InUse = 1,
     /// The request that is to begin is not open.
     #[error("the request is not open")]

@@ -328,7 +328,7 @@ impl<S: ListSpace> Ports<S> {
     /// Holds a message, after those that are held: it is in no port, and only a reply puts it at one.
     ///
     /// It is Unknown if there is no such message, and else Link if a port has it or it is held. Project rule: a device holds a request that
-    /// is under way.
+    /// is in progress.
     pub fn hold(&mut self, m: MsgId) -> Result<(), PortFault>
         ensures answer { result ≡ fault_or (loose_fault m self.old) tt }
         ensures next { self.new ≡ kept_or (loose_fault m self.old) self.old (held m self.old) }
