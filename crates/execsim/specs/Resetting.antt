@@ -34,9 +34,9 @@ abbrev pub server_shape : ServerData → ServerShape
 server_shape s = record { name = s.name; source = s.source; pri = s.pri; claim = s.claim; commands = length s.code }
 
 -- the software interrupts and the servers are those of a file but for the words and the arguments of their commands
-pub record AreShaped (softints : List SoftintData) (servers : List ServerData) (bodies : Bodies) : Type 0 where
-  pub softints : map softint_shape bodies.softints ≡ map softint_shape softints
-  pub servers : map server_shape bodies.servers ≡ map server_shape servers
+pub record AreShaped (stated_softints : List SoftintData) (stated_servers : List ServerData) (bodies : Bodies) : Type 0 where
+  pub softints : map softint_shape bodies.softints ≡ map softint_shape stated_softints
+  pub servers : map server_shape bodies.servers ≡ map server_shape stated_servers
 
 -- A machine has room for that of a file: as many tasks, each with as many commands; the same regions and libraries, and as many objects of each kind;
 -- the same interrupts, each with as many commands. What commands do, the quantum, the length of a tick, and the names and priorities of tasks may differ.

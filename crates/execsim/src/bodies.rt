@@ -149,6 +149,13 @@ fn names_of(alloc: Global, softints: &[SoftintRecord]) -> Result<IndexSet<Name>,
     Ok(names)
 }
 
+/// Whether a software interrupt has the name and the priority of one of a file.
+fn is_alike(softint: &Softint, file: &SoftintRecord) -> bool
+    ensures { (result ≡ true) ↔ ((softint.now.name.bytes ≡ file.now.name.bytes) × (softint.now.pri ≡ file.now.pri)) }
+{
+    softint.name.as_str() == file.name.as_str() && softint.pri == file.pri
+}
+
 /// Gives a software interrupt the commands of one of a file, if it has its name, its priority and as many commands, and answers whether it has.
 fn reset_softint(softint: &mut Softint, file: &SoftintRecord) -> bool
     ensures answer { (result ≡ true) ↔ (softint_shape (softint_view softint.old) ≡ softint_shape (records.softint_view file.now)) }
@@ -157,9 +164,10 @@ fn reset_softint(softint: &mut Softint, file: &SoftintRecord) -> bool
     ensures name { softint.new.name ≡ softint.old.name }
     ensures pri { softint.new.pri ≡ softint.old.pri }
 {
-    softint.name.as_str() == file.name.as_str()
-        && softint.pri == file.pri
-        && copy_code(&file.code, &mut softint.code)
+    if !is_alike(softint, file) {
+        return false;
+    }
+    copy_code(&file.code, &mut softint.code)
 }
 
 /// Gives the software interrupts the commands of those of a file, if all else is the same, and answers whether it is.
@@ -180,6 +188,17 @@ fn reset_softints(softints: &mut Vec<Softint>, file: &[SoftintRecord]) -> bool
     true
 }
 
+/// Whether a server has the name, the source and the priority of one of a file, and ends the chain of its source as that one does.
+fn is_alike_server(server: &Server, file: &ServerRecord) -> bool
+    ensures { (result ≡ true) ↔ ((server.now.name.bytes ≡ file.now.name.bytes) × (server.now.source ≡ file.now.source)
+        × (server.now.pri ≡ file.now.pri) × (server.now.claim ≡ file.now.claim)) }
+{
+    server.name.as_str() == file.name.as_str()
+        && server.source == file.source
+        && server.pri == file.pri
+        && server.claim == file.claim
+}
+
 /// Gives a server the commands of one of a file, if all else is the same and it has as many commands, and answers whether it is.
 fn reset_server(server: &mut Server, file: &ServerRecord) -> bool
     ensures answer { (result ≡ true) ↔ (server_shape (server_view server.old) ≡ server_shape (records.server_view file.now)) }
@@ -188,11 +207,10 @@ fn reset_server(server: &mut Server, file: &ServerRecord) -> bool
     ensures source { server.new.source ≡ server.old.source }
     ensures pri { server.new.pri ≡ server.old.pri }
 {
-    server.name.as_str() == file.name.as_str()
-        && server.source == file.source
-        && server.pri == file.pri
-        && server.claim == file.claim
-        && copy_code(&file.code, &mut server.code)
+    if !is_alike_server(server, file) {
+        return false;
+    }
+    copy_code(&file.code, &mut server.code)
 }
 
 /// Gives the servers the commands of those of a file, if all else is the same, and answers whether it is.

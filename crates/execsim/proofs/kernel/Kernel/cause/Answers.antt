@@ -10,7 +10,7 @@ returns-then-i-softint_count g c =
     let old = c.self.inside in
     let known : nat_lt c.args.i (length old.bodies.softints) ≡ true =
     nat_lt-true c.args.i (length old.bodies.softints) (rw c.softint_count.ensures at c.if-i-softint_count.true) in
-    let next = ap pending_of c.cause.ensures ∙ causes_known c.args.i old.ints old.bodies c.self.invariant.2 known in
+    let next = ap pending_of c.cause.ensures ∙ causes_known c.args.i old.ints old.bodies c.self.invariant.3 known in
     rw (← c.self.view_is) (ap (λ (p : Pending). record {
       schedule = old.sched;
       scripts = record { programs = old.programs.items; shared = old.shared };

@@ -5,4 +5,4 @@ use Rattle.execsim.proofs.kernel.Kernel.server_at.Goals as goal
 
 pub returns : goal.returns
 returns g c = rw (← c.self.view_is)
-    (c.server.ensures.value ∙ ap (λ chain. slice_get chain c.args.place) (chain_same c.args.source c.self.inside.ints c.self.inside.bodies c.self.invariant.2))
+    (c.server.ensures.value ∙ ap (λ chain. slice_get chain c.args.place) (chain_same c.args.source c.self.inside.ints c.self.inside.bodies c.self.invariant.3))
