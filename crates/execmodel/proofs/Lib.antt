@@ -55,6 +55,10 @@ pub mod VersionOne
 pub mod UnaskedLibraries
 pub mod OtherBlocks
 pub mod OtherLists
+pub mod OtherSemaphores
+pub mod OtherTasks
+pub mod OtherPorts
+pub mod OtherRequests
 pub mod Waiting
 pub mod WaitingLaw
 pub mod Words

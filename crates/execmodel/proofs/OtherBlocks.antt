@@ -11,7 +11,7 @@ use Rattle.script.specs.declared.word.memory.MemoryWord.TheVariants as memory
 use Rattle.execlib.specs.Libraries.{public_memory}
 use Rattle.execmodel.specs.State.{Call, Object, Plain, Library, Block, Heap, Memory, State, Outcome}
 use Rattle.execmodel.specs.Libraries.{is_library, is_library_at, count_of, is_delayed, with_library, after_expunge, base_of, library_at, library_to_open, entered_or_loaded, library_opened, ready_to_load, ready_to_open, opened, closed, close_alert, library_alert, does_libraries, does_open_library, does_close_library, does_rem_library, does_lib_open_cnt}
-use Rattle.execmodel.specs.{Calls.argument, Calls.name_argument, Calls.answered, Calls.alerted, Calls.done, Calls.unless, Deeds.performs, GivingWay.after_asking, Memory.memory_deed, Memory.is_plain, Memory.is_named, Memory.free_alert, Memory.alloc_alert, Memory.avail_alert, Memory.does_memory, Objects.object_at, Objects.is_kind, Places.block_at, Places.extents, Places.freed, Places.place_for, Places.placed, Step.run, OtherBlocks.LeavesOtherBlocks, OtherBlocks.LibraryWordsLeaveOtherBlocks, OtherBlocks.MemoryWordsLeaveOtherBlocks}
+use Rattle.execmodel.specs.{Calls.argument, Calls.name_argument, Calls.answered, Calls.alerted, Calls.done, Calls.unless, Deeds.performs, GivingWay.after_asking, GivingWay.after_asking_for_object, Memory.memory_deed, Memory.is_plain, Memory.is_named, Memory.free_alert, Memory.alloc_alert, Memory.avail_alert, Memory.does_memory, Objects.object_at, Objects.is_kind, Objects.is_allowed, Objects.place_for_object, Places.block_at, Places.extents, Places.freed, Places.place_for, Places.placed, Step.run, OtherBlocks.LeavesOtherBlocks, OtherBlocks.LibraryWordsLeaveOtherBlocks, OtherBlocks.MemoryWordsLeaveOtherBlocks}
 use Rattle.execmodel.proofs.Libraries.{block_elsewhere, block_rid_there, block_placed_there}
 use Rattle.execmodel.proofs.{Heaps.rid, Heaps.true_is_not_false, Heaps.object_placed_here, Commands.none_some, Commands.passed_first, Formed.placed_fresh, Formed.counted_formed, Formed.rid_formed, GivingWay.asking_keeps, GivingWayLaw.asking_leaves_others, Loaded.base_is_loaded, Moves.is_library_there, Posts.IsTidy, Taking.HoldsBefore, Taking.asking_before, TidyLaw.tidy_in_every_state}
 
@@ -73,7 +73,7 @@ after_asking_is size reqs a memory formed none = record {
   same = asking_leaves_others size reqs memory formed a none;
 }
 
-alike_kind : (kind : Object → Bool) (a : ℕ) (old new : Heap) → block_at a new ≡ block_at a old
+pub alike_kind : (kind : Object → Bool) (a : ℕ) (old new : Heap) → block_at a new ≡ block_at a old
     → is_kind kind (object_at a new) ≡ is_kind kind (object_at a old)
 alike_kind kind a old new e = ap (λ found. is_kind kind (option_map (λ (block : Block). block.object) found)) e
 
@@ -110,10 +110,37 @@ module _ (s : State) (tidy : IsTidy s) (a : ℕ) (none : is_library_at a s.memor
   refused_leaves kind None t call effect passing = passing refl
   refused_leaves kind (Some code) t call effect passing = inl refl
 
-  either_leaves : (kind : Object → Bool) (test : Bool) (o p : Outcome) → BecomesIn kind o.state → BecomesIn kind p.state
+  pub either_leaves : (kind : Object → Bool) (test : Bool) (o p : Outcome) → BecomesIn kind o.state → BecomesIn kind p.state
       → BecomesIn kind (if test then o else p).state
   either_leaves kind true o p one other = one
   either_leaves kind false o p one other = other
+
+  -- an object is made once libraries were asked, if the pool allows one more
+  either_asked : (test : Bool) (m : Memory) → IsAsked a s.memory m → IsAsked a s.memory (if test then m else s.memory)
+  either_asked true m asked = asked
+  either_asked false m asked = record { regions = refl; formed = tidy.formed; same = refl }
+
+  pub asked_for : (kind : Object → Bool) (size : ℕ) → IsAsked a s.memory (after_asking_for_object kind size s.memory)
+  unfolding after_asking_for_object
+  asked_for kind size =
+      either_asked (is_allowed kind s.memory) (after_asking size public_memory s.memory)
+      (after_asking_is size public_memory a s.memory tidy.formed none)
+
+  either_placed : (kinds : Object → Bool) (test : Bool) (size : ℕ) (object : Object) (asked : Memory) → IsAsked a s.memory asked → kinds object ≡ true
+      → Becomes kinds a heap (placed size object (if test then place_for size public_memory asked else None) asked).heap
+  either_placed kinds true size object asked is of_kind = allotted_leaves kinds size public_memory object _ a s.memory asked is of_kind refl
+  either_placed kinds false size object asked is of_kind = inl is.same
+
+  pub placed_object_leaves : (kinds kind : Object → Bool) (size : ℕ) (object : Object) (asked : Memory) → IsAsked a s.memory asked → kinds object ≡ true
+      → Becomes kinds a heap (placed size object (place_for_object kind size asked) asked).heap
+  unfolding place_for_object
+  placed_object_leaves kinds kind size object asked is of_kind = either_placed kinds (is_allowed kind asked) size object asked is of_kind
+
+  pub made_leaves : (kinds kind : Object → Bool) (size : ℕ) (object : Object) → kinds object ≡ true
+      → Becomes kinds a heap
+      (placed size object (place_for_object kind size (after_asking_for_object kind size s.memory)) (after_asking_for_object kind size s.memory)).heap
+  made_leaves kinds kind size object of_kind =
+      placed_object_leaves kinds kind size object (after_asking_for_object kind size s.memory) (asked_for kind size) of_kind
 
   -- a library at another address is counted, or freed
   counted_leaves : (base count : ℕ) (delayed : Bool) → is_library_at base heap ≡ true → Becomes is_library a heap (with_library base count delayed heap)

@@ -1,13 +1,12 @@
 -- Words on lists leave the blocks of all other objects as they are.
-use Rattle.std.proofs.Common.{inl, ◌≡◌, ℕ, Bool, true, false, ◌≢◌, List, [], Option, None, Some, refl, sym, ap, ◌∙◌, if◌then◌else◌, option_map}
+use Rattle.std.proofs.Common.{inl, ◌≡◌, ℕ, true, false, ◌≢◌, List, [], Option, None, Some, refl, sym, ap, ◌∙◌, option_map}
 use Rattle.std.specs.Int.{cast_signed, w32}
 use Rattle.script.specs.declared.word.lists.ListWord.{ListWord}
 use Rattle.script.specs.declared.word.lists.ListWord.TheVariants as lists
-use Rattle.execlib.specs.Libraries.{public_memory}
-use Rattle.execmodel.specs.State.{Call, Object, ListHead, Node, Block, Memory, State}
-use Rattle.execmodel.specs.{Calls.argument, Calls.name_argument, Calls.answered, Calls.done, Deeds.performs, GivingWay.after_asking, GivingWay.after_asking_for_object, Libraries.is_library_at, Lists.is_list, Lists.is_node, Lists.is_list_at, Lists.is_node_at, Lists.list_size, Lists.node_size, Lists.left_by, Lists.with_nodes, Lists.new_node_alert, Lists.free_list_alert, Lists.free_node_alert, Lists.link_alert, Lists.linked_alert, Lists.list_alert, Lists.insert_alert, Lists.find_alert, Lists.does_lists, Lists.list_rules, Objects.object_at, Objects.is_kind, Objects.is_allowed, Objects.place_for_object, Places.block_at, Places.place_for, Places.placed, Step.run, OtherBlocks.is_of_lists, OtherBlocks.ListWordsLeaveOtherBlocks}
+use Rattle.execmodel.specs.State.{Call, Object, ListHead, Node, Block, State}
+use Rattle.execmodel.specs.{Calls.argument, Calls.name_argument, Calls.answered, Calls.done, Deeds.performs, Libraries.is_library_at, Lists.is_list, Lists.is_node, Lists.is_list_at, Lists.is_node_at, Lists.list_size, Lists.node_size, Lists.left_by, Lists.with_nodes, Lists.new_node_alert, Lists.free_list_alert, Lists.free_node_alert, Lists.link_alert, Lists.linked_alert, Lists.list_alert, Lists.insert_alert, Lists.find_alert, Lists.does_lists, Lists.list_rules, Objects.object_at, Objects.is_kind, Places.block_at, Step.run, OtherBlocks.is_of_lists, OtherBlocks.ListWordsLeaveOtherBlocks}
 use Rattle.execmodel.proofs.Libraries.{block_elsewhere, block_rid_there}
-use Rattle.execmodel.proofs.OtherBlocks.{apart_by, IsAsked, after_asking_is, Becomes, allotted_leaves, BecomesIn, refused_leaves}
+use Rattle.execmodel.proofs.OtherBlocks.{apart_by, Becomes, BecomesIn, refused_leaves, made_leaves}
 use Rattle.execmodel.proofs.{Heaps.block_remade, Heaps.true_is_not_false, Commands.passed_first, Posts.IsTidy, TidyLaw.tidy_in_every_state}
 
 list_is : (found : Option Object) → is_kind is_list found ≡ true → is_kind is_of_lists found ≡ true
@@ -32,29 +31,6 @@ other_block node (Some block) apart = ap (λ (object : Object). Some (record blo
 
 module _ (s : State) (tidy : IsTidy s) (a : ℕ) (none : is_library_at a s.memory.heap ≡ false)
     (apart : is_kind is_of_lists (object_at a s.memory.heap) ≡ false) where
-  either_asked : (test : Bool) (m : Memory) → IsAsked a s.memory m → IsAsked a s.memory (if test then m else s.memory)
-  either_asked true m asked = asked
-  either_asked false m asked = record { regions = refl; formed = tidy.formed; same = refl }
-
-  asked_for : (kind : Object → Bool) (size : ℕ) → IsAsked a s.memory (after_asking_for_object kind size s.memory)
-  unfolding after_asking_for_object
-  asked_for kind size =
-      either_asked (is_allowed kind s.memory) (after_asking size public_memory s.memory)
-      (after_asking_is size public_memory a s.memory tidy.formed none)
-
-  either_placed : (test : Bool) (size : ℕ) (object : Object) (asked : Memory) → IsAsked a s.memory asked → is_of_lists object ≡ true
-      → Becomes is_of_lists a s.memory.heap (placed size object (if test then place_for size public_memory asked else None) asked).heap
-  either_placed true size object asked is of_kind = allotted_leaves is_of_lists size public_memory object _ a s.memory asked is of_kind refl
-  either_placed false size object asked is of_kind = inl is.same
-
-  made_leaves : (kind : Object → Bool) (size : ℕ) (object : Object) → is_of_lists object ≡ true
-      → Becomes is_of_lists a s.memory.heap
-      (placed size object (place_for_object kind size (after_asking_for_object kind size s.memory)) (after_asking_for_object kind size s.memory)).heap
-  unfolding place_for_object
-  made_leaves kind size object of_kind =
-      let asked = after_asking_for_object kind size s.memory in
-      either_placed (is_allowed kind asked) size object asked (asked_for kind size) of_kind
-
   apart_list : (list : ℕ) → is_list_at list s.memory.heap ≡ true → a ≢ list
   unfolding is_list_at
   apart_list list is = apart_by is_of_lists a list s.memory.heap apart (list_is (object_at list s.memory.heap) is)
@@ -66,11 +42,11 @@ module _ (s : State) (tidy : IsTidy s) (a : ℕ) (none : is_library_at a s.memor
 
   list_leaves : (word : ListWord) (t : ℕ) (call : Call) → BecomesIn s tidy a none is_of_lists (does_lists word t call s).state
   unfolding performs list_rules answered done
-  list_leaves lists.NewList t call = made_leaves is_list list_size (ListHead []) refl
+  list_leaves lists.NewList t call = made_leaves s tidy a none is_of_lists is_list list_size (ListHead []) refl
   list_leaves lists.NewNode t call =
       let pri = cast_signed w32 (argument 0 call) in
       refused_leaves s tidy a none is_of_lists (new_node_alert pri) t call _
-      (λ passes. made_leaves is_node node_size (Node (record { pri = pri; name = name_argument 1 call })) refl)
+      (λ passes. made_leaves s tidy a none is_of_lists is_node node_size (Node (record { pri = pri; name = name_argument 1 call })) refl)
   list_leaves lists.FreeList t call =
       refused_leaves s tidy a none is_of_lists (free_list_alert (argument 0 call) s.memory.heap) t call _
       (λ passes. inl (block_rid_there a (argument 0 call) s.memory.heap

@@ -269,6 +269,13 @@ module _ (request : ℕ) (s : State) (may : MayBegin request s.memory.heap) wher
       let quiet = quick_quiet (pos 0) (quick_done (NewTime time) e refl) in
       record { answers_none = quiet.answers_none; none_replied = quiet.none_replied }
 
+-- so the task that begins it finds no reply to take
+pub never_replied : {A : Type 0} (request : ℕ) (s : State) → MayBegin request s.memory.heap
+    → (request_of request (begun_at true request s.memory).heap).state ≡ Replied → A
+unfolding begun_at is_replied
+never_replied request s may e =
+    true_is_not_false (sym (ap is_replied e) ∙ (do_quiet request s may (outcome_at request s.memory) refl).none_replied)
+
 -- ---- how calls end that begin a request, or end it
 
 replied_works : (found : Option ℕ) (request t : ℕ) (call : Call) (s : State) (o : Outcome) → o.marks ≡ []
@@ -380,7 +387,7 @@ queued_lives request s there queued tidy = tested (is_port_at (request_of reques
 
 -- ---- a task looks for a request
 
-replied_there : (test : Bool) (code : Alert) → (if test then None else Some code) ≡ None → test ≡ true
+pub replied_there : (test : Bool) (code : Alert) → (if test then None else Some code) ≡ None → test ≡ true
 replied_there true code e = refl
 replied_there false code e = none_some e
 

@@ -3,7 +3,7 @@ ghost use Rattle.std.specs.Prelude.{◌≡◌, true, List};
 ghost use Rattle.script.specs.declared.event.Event.{Event};
 ghost use Rattle.execmodel.specs.Keeping.{PlainWordsChangeScripts, SignalWordsChangeSignalsAndStates, NestingWordsChangeNestings, TaskWordsChangeStatesPrioritiesAndObjects, ListWordsChangeTheMemory, MemoryWordsChangeTheMemory, PortWordsChangePortsSignalsAndStates, SemaphoreWordsChangeStatesAndObjects, InterruptWordsChangeWhatIsCaused, LibraryWordsChangeTheMemory, RequestWordsChangeRequestsPortsSignalsAndStates};
 ghost use Rattle.execmodel.specs.Laws.{FirstInFirstOut, EachByteHasOneOwner, FreeMemRefusesObjects, OwnersChangeAtTheLastRelease, FreeSemaphoresHaveNoWaiters, SemaphoresPassInOrder, QueuesAgreeWithTheSchedule, EachStateIsSettled, SwitchesGoToTheChosen, EachSwitchLineIsAChoice, OnlySwitchesSaySo, WaitersHaveReceivedNone, ReceivedSignalsStay, InterruptsKeepNestings, ThreeServingsAtMost, OpenLibrariesStay, LibrariesHaveOneBase, LibrariesAreAskedInVersionTwo, UnaskedMemoryStays, AskingChangesTheBlocks, ReplyPortsLive, RequestsUnderWayWait, TheClockCountsTicks, SystemTimeGoesWithTheClock, CallsFitTheirWords, LinesAreShort, LibrariesGiveWayAsFarAsNeeded, OnlyClosedLibrariesGiveWay};
-ghost use Rattle.execmodel.specs.OtherBlocks.{ListWordsLeaveOtherBlocks, LibraryWordsLeaveOtherBlocks, MemoryWordsLeaveOtherBlocks};
+ghost use Rattle.execmodel.specs.OtherBlocks.{ListWordsLeaveOtherBlocks, LibraryWordsLeaveOtherBlocks, MemoryWordsLeaveOtherBlocks, PortWordsLeaveOtherBlocks, RequestWordsLeaveOtherBlocks, SemaphoreWordsLeaveOtherBlocks, TaskWordsLeaveOtherBlocks};
 ghost use Rattle.execmodel.specs.VersionOne.{UnaskedWordsTakeMemoryAsItIs, VersionOneTakesMemoryAsItIs, UnaskedLibrariesStay};
 ghost use Rattle.execmodel.specs.{State.State, State.Outcome, State.quiet, State.andthen, State.unless_stopped, Step.event, Step.events};
 
@@ -25,9 +25,12 @@ pub fn an_alert_ends_all()
 /// and the priorities, and words of interrupts which software interrupts are caused; words of requests the objects, which requests wait for the
 /// timer, system time, signals, which tasks are ready, running or waiting, and which software interrupts are caused, but neither the clock nor
 /// which ports are public. An alert stops the machine.
-/// Of the blocks, in every state of every run, words of libraries leave each as it is that is no library's; words of lists each that holds another
-/// object than a list or a node, and words of memory each that holds another than a plain block, but for libraries that are expunged under low memory.
-#[tactic(auto, using(crate::proofs::Words::plain_words_change_scripts, crate::proofs::Words::signal_words_change_signals_and_states, crate::proofs::Words::nesting_words_change_nestings, crate::proofs::Words::task_words_change_states_priorities_and_objects, crate::proofs::Words::list_words_change_the_memory, crate::proofs::Words::memory_words_change_the_memory, crate::proofs::Words::port_words_change_ports_signals_and_states, crate::proofs::Words::semaphore_words_change_states_and_objects, crate::proofs::Words::interrupt_words_change_what_is_caused, crate::proofs::Words::library_words_change_the_memory, crate::proofs::Words::request_words_change_requests_ports_signals_and_states, crate::proofs::OtherLists::list_words_leave_other_blocks, crate::proofs::OtherBlocks::library_words_leave_other_blocks, crate::proofs::OtherBlocks::memory_words_leave_other_blocks))]
+/// Of the blocks, in every state of every run, the words of a group leave each as it is whose object is of another kind, but for libraries that are
+/// expunged under low memory: words of libraries each that is no library's, words of lists each that holds neither a list nor a node, words of
+/// memory each that holds no plain block, words of ports each that holds neither a port nor a message, words of semaphores each that holds no
+/// semaphore, and words of requests, with what finishes if one sets system time, each that holds neither a request nor a port. Words of tasks leave
+/// all blocks, libraries too, and place none: of a semaphore they change only which tasks wait for it.
+#[tactic(auto, using(crate::proofs::Words::plain_words_change_scripts, crate::proofs::Words::signal_words_change_signals_and_states, crate::proofs::Words::nesting_words_change_nestings, crate::proofs::Words::task_words_change_states_priorities_and_objects, crate::proofs::Words::list_words_change_the_memory, crate::proofs::Words::memory_words_change_the_memory, crate::proofs::Words::port_words_change_ports_signals_and_states, crate::proofs::Words::semaphore_words_change_states_and_objects, crate::proofs::Words::interrupt_words_change_what_is_caused, crate::proofs::Words::library_words_change_the_memory, crate::proofs::Words::request_words_change_requests_ports_signals_and_states, crate::proofs::OtherLists::list_words_leave_other_blocks, crate::proofs::OtherBlocks::library_words_leave_other_blocks, crate::proofs::OtherBlocks::memory_words_leave_other_blocks, crate::proofs::OtherPorts::port_words_leave_other_blocks, crate::proofs::OtherRequests::request_words_leave_other_blocks, crate::proofs::OtherSemaphores::semaphore_words_leave_other_blocks, crate::proofs::OtherTasks::task_words_leave_other_blocks))]
 pub fn each_group_keeps_to_its_part()
     ensures plain { PlainWordsChangeScripts }
     ensures signals { SignalWordsChangeSignalsAndStates }
@@ -43,6 +46,10 @@ pub fn each_group_keeps_to_its_part()
     ensures blocks_of_lists { ListWordsLeaveOtherBlocks }
     ensures blocks_of_libraries { LibraryWordsLeaveOtherBlocks }
     ensures blocks_of_memory { MemoryWordsLeaveOtherBlocks }
+    ensures blocks_of_ports { PortWordsLeaveOtherBlocks }
+    ensures blocks_of_semaphores { SemaphoreWordsLeaveOtherBlocks }
+    ensures blocks_of_tasks { TaskWordsLeaveOtherBlocks }
+    ensures blocks_of_requests { RequestWordsLeaveOtherBlocks }
 {}
 
 /// Messages leave a port in the order in which they came: over every stretch of every run, the messages that the port had at first and
