@@ -2,11 +2,13 @@
 ghost use Rattle.std.specs.Prelude.{◌≡◌, ◌<◌, ◌≤◌, ◌⊎◌, []};
 
 use crate::bodies::{Begun, after_line, begun_by, command_at, count_of};
+use crate::failing::Failings;
 use crate::next::{Next, Part};
 use crate::page::Spot;
 use crate::past::{Past, TaskPast, Time, is_reached, rank_of};
 use crate::room::Room;
 use crate::scene::Linked;
+use crate::sends::{Deed, END, Sends, field_in, is_clearing, is_sending, number_in};
 use crate::step::{Site, Turn, When, prints};
 use crate::value::value_of;
 use crate::words::row_of;
@@ -43,9 +45,15 @@ pub struct Course<'a> {
     late: Vec<Option<Site>>,
     /// What has freed the object or the block at an address.
     pub freed: HashMap<u32, Site>,
+    /// Which signals came, which messages were put, and what was sent to tasks that had ended.
+    pub sends: Sends,
+    /// Which calls have failed.
+    pub failings: Failings,
     /// How many steps and ticks were done.
     pub steps: u64,
     pub ticks: u64,
+    /// How many ticks and requests of interrupts there were.
+    passed: u64,
     /// The last step that ended a task or did nothing.
     fresh: u64,
     /// The last step that did no command of a task.
@@ -87,13 +95,21 @@ impl<'a> Course<'a> {
             bodies: 0,
             late: vec![in alloc; None; VARIABLES]?,
             freed: HashMap::new(alloc),
+            sends: Sends::new(alloc, file.tasks().len())?,
+            failings: Failings::new(alloc, file.tasks().len())?,
             steps: 0,
             ticks: 0,
+            passed: 0,
             fresh: 0,
             other: 0,
             stopped_in: None,
             is_whole: true,
         })
+    }
+
+    /// The number of the last step, tick or request, as the log has it.
+    pub fn moment(&self) -> u64 {
+        self.steps.saturating_add(self.passed)
     }
 
     /// The command of a task at a place of its code.
@@ -118,6 +134,7 @@ impl<'a> Course<'a> {
         ) {
             (Some(task), Some(past)) => {
                 let steps = self.steps;
+                past.passed = self.passed;
                 if most > LONG && past.is_endless(&task.code, turn.place, steps, RECENT) {
                     return Part::new(most - LONG, Next::Noted);
                 }
@@ -149,12 +166,8 @@ impl<'a> Course<'a> {
     }
 
     /// Notes what a command has freed.
-    fn note_freed(&mut self, machine: &Linked, turn: Turn, command: &Command) {
+    fn note_freed(&mut self, machine: &Linked, turn: Turn, command: &Command, site: Site) {
         if row_of(command.word).frees {
-            let site = Site {
-                spot: turn.spot(),
-                when: When::Step(self.steps),
-            };
             if let Some(address) = value_of(machine, Some(turn.task), command, 0) {
                 if self.freed.insert(address, site).is_err() {
                     self.is_whole = false;
@@ -176,13 +189,83 @@ impl<'a> Course<'a> {
         let is_waiting = machine.call(turn.task).is_some();
         let steps = self.steps;
         if let Some(past) = self.tasks.get_mut(turn.task) {
+            past.passed = self.passed;
             if is_waiting {
                 past.note_waiting(turn.place, steps);
                 return;
             }
             past.note_done(turn.place, steps);
         }
-        self.note_freed(machine, turn, command);
+        self.note_call(machine, turn, command);
+    }
+
+    /// Notes a call that a task has done: what it has freed, which signals it has cleared, and whether it has failed.
+    fn note_call(&mut self, machine: &Linked, turn: Turn, command: &Command) {
+        let (spot, moment) = (turn.spot(), self.moment());
+        let site = Site {
+            spot,
+            when: When::Step(moment),
+        };
+        self.note_freed(machine, turn, command, site);
+        if is_clearing(command.word) {
+            let spot = Some(spot);
+            self.sends.clear(machine, turn.task, Deed { spot, moment });
+        }
+        self.failings.note(machine, self.file, turn, command, site);
+    }
+
+    /// Notes what a line of a command says that was sent.
+    fn note_line(&mut self, machine: &Linked, line: &str, spot: Spot) {
+        let word = command_at(self.file, spot).map_or(END, |command| command.word);
+        if is_sending(word) && field_in(line, 1) == word.text() {
+            let deed = Deed {
+                spot: Some(spot),
+                moment: self.moment(),
+            };
+            let values = (number_in(line, 2), number_in(line, 3));
+            self.sends.note(machine, word, values, deed);
+        }
+    }
+
+    /// Notes that the timer has finished a request, if a line says so.
+    fn note_timer(&mut self, machine: &Linked, line: &str) {
+        if line.starts_with("timer $") {
+            let deed = Deed {
+                spot: None,
+                moment: self.moment(),
+            };
+            self.sends.put(machine, number_in(line, 1), deed);
+        }
+    }
+
+    /// The command whose line is the first of a step, if one has a line.
+    fn first_spot(&self, next: Next) -> Option<Spot> {
+        match next {
+            Next::Task(turn)
+                if self
+                    .command(turn)
+                    .is_none_or(|command| prints(command.word)) => { Some(turn.spot()) }
+            _ => None,
+        }
+    }
+
+    /// Notes what the lines of some steps, a tick or a request say that was sent.
+    fn note_lines(&mut self, machine: &Linked, next: Next, room: &Room) {
+        let Ok(text) = from_utf8(&room.bytes) else {
+            return
+        };
+        let mut first = self.first_spot(next);
+        let mut last: Option<Begun<'a>> = None;
+        for line in text.lines() {
+            last = after_line(last, begun_by(self.file, line));
+            let of_body = last.map(|body| body.spot(body.alerted_place()));
+            if let Some(spot) = first.or(of_body) {
+                self.note_line(machine, line, spot);
+            }
+            first = None;
+            self.note_timer(machine, line);
+        }
+        self.is_whole = self.is_whole && self.sends.is_whole;
     }
 
     /// Notes that some bodies of interrupts were run together, at most that many, and answers that.
@@ -262,16 +345,19 @@ impl<'a> Course<'a> {
         match one {
             Event::Run(steps) => {
                 self.steps = self.steps.saturating_add(u64::from(steps));
-                When::Step(self.steps)
+                When::Step(self.moment())
             }
             Event::Tick(_) => {
                 self.ticks = self.ticks.saturating_add(1);
+                self.passed = self.passed.saturating_add(1);
                 self.asking[place_of(Source::Vertb)] = true;
                 When::Tick(self.ticks)
             }
             Event::Irq(source) => {
+                let before = self.moment();
+                self.passed = self.passed.saturating_add(1);
                 self.asking[place_of(source)] = true;
-                When::Request(self.steps)
+                When::Request(before)
             }
         }
     }
@@ -310,6 +396,7 @@ impl<'a> Course<'a> {
             self.note_step(machine, next, when);
         }
         self.note_served(machine, when);
+        self.note_lines(machine, next, room);
     }
 
     /// Empties the room before the next event; after an alert it is as the alert left it.
@@ -356,11 +443,11 @@ impl<'a> Course<'a> {
     fn time_of(&self, spot: Spot) -> Option<Time> {
         match spot.owner {
             Owner::Task => {
-                let done = self.tasks.get(spot.item)?.at(spot.place).done;
-                (done > 0).then_some(Time {
-                    steps: done,
+                let past = self.tasks.get(spot.item)?.at(spot.place);
+                (past.done > 0).then_some(Time {
+                    steps: past.done,
                     turn: 0,
-                    when: When::Step(done),
+                    when: When::Step(past.moment),
                 })
             }
             Owner::Softint => *self.softints.get(spot.item)?,

@@ -13,13 +13,14 @@ use std::alloc::{AllocError, Global};
 
 /// When the alert came.
 fn when(alloc: Global, course: &Course<'_>) -> Result<String, AllocError> {
-    let (steps, ticks) = (course.steps, course.ticks);
+    let (moment, ticks) = (course.moment(), course.ticks);
+    let before = moment.saturating_sub(1);
     match course.stopped_in {
-        Some(Event::Tick(_)) => format!(in alloc; "at tick {ticks}, after step {steps}"),
+        Some(Event::Tick(_)) => format!(in alloc; "at tick {ticks}, after step {before}"),
         Some(Event::Irq(_)) => {
-            format!(in alloc; "at a request of an interrupt, after step {steps}")
+            format!(in alloc; "at a request of an interrupt, after step {before}")
         }
-        _ => format!(in alloc; "at step {steps}"),
+        _ => format!(in alloc; "at step {moment}"),
     }
 }
 

@@ -1,5 +1,5 @@
 //! Explains how a run ends: the alert that stopped it, each task that still waits, a deadlock, and a task that runs without end.
-//! `course` notes what each step did, `following` makes the run, `lap` goes on from its end, and the other files ask the machine there.
+//! `course`, `sends` and `failing` note what each step did, `following` makes the run, `lap` goes on from its end, and the other files ask the machine there.
 #![tactic(auto)]
 
 mod alert;
@@ -9,6 +9,7 @@ mod check;
 mod course;
 mod deadlock;
 mod ending;
+mod failing;
 mod following;
 mod handles;
 mod lap;
@@ -22,12 +23,14 @@ mod room;
 mod rules;
 mod running;
 mod scene;
+mod sends;
 mod snapshot;
 mod step;
 mod value;
 mod wait;
 mod waiting;
 mod wakers;
+mod why;
 mod words;
 
 pub use check::{Alert, Report, check_run};

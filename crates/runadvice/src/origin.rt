@@ -1,5 +1,6 @@
 //! Where a value comes from: the command that set a variable, or freed what is at an address.
 use crate::bodies::command_at;
+use crate::failing::cause_text;
 use crate::handles::Asking;
 use crate::page::name_of;
 use crate::step::{Site, when_text};
@@ -10,7 +11,7 @@ use std::alloc::{AllocError, Global};
 use taskscript::Owner;
 
 /// What has a body, in words.
-fn kind_of_owner(owner: Owner) -> &'static str {
+pub fn kind_of_owner(owner: Owner) -> &'static str {
     match owner {
         Owner::Task => "task",
         Owner::Server => "server",
@@ -42,7 +43,7 @@ fn call_text(alloc: Global, command: &Command) -> Result<String, AllocError> {
 
 impl Asking<'_, '_> {
     /// The place of a command: its line, and its body if that is not the one of the refused call.
-    fn site_text(&self, site: Site) -> Result<String, AllocError> {
+    pub fn site_text(&self, site: Site) -> Result<String, AllocError> {
         let (spot, who) = (site.spot, self.refused.spot);
         let line = spot.number_in(self.listing);
         if who.owner == spot.owner && who.item == spot.item {
@@ -70,16 +71,25 @@ impl Asking<'_, '_> {
             Word::Plain(_) => "gave",
             _ => "returned",
         };
-        if value == 0 {
-            let row = row_of(command.word);
-            let reason = if row.takes && self.machine.region(0).is_none() {
-                NO_REGION
-            } else {
-                row.zero
-            };
-            return format!(in self.alloc; ": {call} {place} {verb} 0 {time}{reason}");
+        let reason = self.reason(site, command, value)?;
+        let value = if value == 0 { "0" } else { "it" };
+        format!(in self.alloc; ": {call} {place} {verb} {value} {time}{reason}")
+    }
+
+    /// Why a command has answered a value, as the end of a sentence; nothing if it was as the caller wants it.
+    fn reason(&self, site: Site, command: &Command, value: u32) -> Result<String, AllocError> {
+        let row = row_of(command.word);
+        if value != 0 && value != u32::MAX {
+            return Ok(String::new(self.alloc));
         }
-        format!(in self.alloc; ": {call} {place} {verb} it {time}")
+        if row.takes && self.machine.region(0).is_none() {
+            return String::from_str(self.alloc, NO_REGION);
+        }
+        match self.course.failings.cause(site) {
+            Some(cause) => cause_text(self.alloc, cause),
+            None if value == 0 => String::from_str(self.alloc, row.zero),
+            None => Ok(String::new(self.alloc)),
+        }
     }
 
     /// Where the value of a variable comes from, as the end of a sentence; nothing if that is not known.

@@ -16,6 +16,8 @@ pub struct Past {
     pub visited: u64,
     /// In which it was done.
     pub done: u64,
+    /// The same, by its number among steps, ticks and requests.
+    pub moment: u64,
 }
 
 impl Past {
@@ -23,6 +25,7 @@ impl Past {
     pub const NONE: Past = Past {
         visited: 0,
         done: 0,
+        moment: 0,
     };
 }
 
@@ -35,6 +38,8 @@ pub struct TaskPast {
     pub fresh: u64,
     /// After how many steps it is asked again whether the task runs without end.
     asks_at: u64,
+    /// How many ticks and requests there were before the step that is noted.
+    pub passed: u64,
 }
 
 impl TaskPast {
@@ -44,6 +49,7 @@ impl TaskPast {
             commands: vec![in alloc; Past::NONE; count]?,
             fresh: 0,
             asks_at: 0,
+            passed: 0,
         })
     }
 
@@ -56,6 +62,7 @@ impl TaskPast {
             *past = Past {
                 visited: step,
                 done: step,
+                moment: step.saturating_add(self.passed),
             };
         }
     }

@@ -3,6 +3,7 @@ use crate::alert::Refused;
 use crate::argument::{kind_of, object_at, owner_at, port_at, request_at};
 use crate::handles::Asking;
 use crate::memory::{list_with, request_for};
+use crate::step::when_text;
 use crate::value::variable_at;
 use crate::words::{Flaw, Row, answers_signal, row_of};
 use execsim::ObjectView;
@@ -230,7 +231,8 @@ impl Asking<'_, '_> {
     /// The alert IO.
     fn request_fault(&self, row: Row) -> Result<Fault, AllocError> {
         let number = row.wanted.len().saturating_sub(1);
-        let why = match request_at(self.machine, self.refused.value(number)) {
+        let address = self.refused.value(number);
+        let why = match request_at(self.machine, address) {
             None => "is not a request that this call accepts",
             Some(request) => match request.state {
                 ReqState::UnderWay => {
@@ -239,10 +241,31 @@ impl Asking<'_, '_> {
                 ReqState::Idle if request.is_open() || row.flaw == Flaw::TakenReply => {
                     "is a request that was never begun"
                 }
-                _ => "is a request that is not open; OpenDevice opens it",
+                _ => return Ok(Fault::of(number, self.unopened_text(address)?, false)),
             },
         };
         Fault::new(self.alloc, Some(number), why)
+    }
+
+    /// Why a request is not open.
+    fn unopened_text(&self, address: u32) -> Result<String, AllocError> {
+        let alloc = self.alloc;
+        let Some(failed) = self.course.failings.unopened(address) else {
+            return format!(in alloc; "is a request that is not open; OpenDevice opens it");
+        };
+        let (place, time) = (
+            self.site_text(failed.site)?,
+            when_text(alloc, failed.site.when)?,
+        );
+        let unit = failed.unit;
+        let why = if failed.is_timer {
+            format!(in alloc; "unit {unit} is not one of timer.device, which has 0, 1 and 3")?
+        } else {
+            format!(in alloc; "the only device is timer.device")?
+        };
+        format!(in alloc;
+            "is a request that is not open: OpenDevice {place} returned -1 {time}: {why}"
+        )
     }
 
     /// What the row of the word says to be at fault.

@@ -168,7 +168,7 @@ impl Scene<'_, '_> {
             return Ok(());
         }
         let turn = running.turn;
-        let steps = counted(self.alloc, self.course.steps, "step")?;
+        let steps = counted(self.alloc, self.course.moment(), "step")?;
         let ready = running.ready.as_str();
         let (place, state) = if self.course.command(turn).is_none() && turn.place == 0 {
             (0, "its code has no command, and it ends at its next step")

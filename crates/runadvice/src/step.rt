@@ -4,18 +4,18 @@ use script::{PlainWord, Word};
 use std::alloc::{AllocError, Global};
 
 /// When something was done in a run.
-#[derive(Clone, Copy)]
+#[derive(Clone, Copy, PartialEq, Eq)]
 pub enum When {
-    /// In the step of this number, from 1.
+    /// In the step of this number, from 1. Ticks and requests of interrupts count too.
     Step(u64),
     /// In the tick of this number, from 1.
     Tick(u64),
-    /// In a request of an interrupt, after that many steps.
+    /// In a request of an interrupt, after the step of this number.
     Request(u64),
 }
 
 /// A command that was done.
-#[derive(Clone, Copy)]
+#[derive(Clone, Copy, PartialEq, Eq)]
 pub struct Site {
     pub spot: Spot,
     pub when: When,

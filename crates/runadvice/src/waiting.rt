@@ -3,6 +3,7 @@ use crate::argument::{counted, grouped, port_at, request_at};
 use crate::page::Page;
 use crate::scene::{Linked, Scene};
 use crate::wait::{Awaited, Waiter, awaited_text, owner_awaited, wait_of};
+use crate::why::{Unread, unread_by, unread_ports};
 use msgport::action::PortAction;
 use std::alloc::{AllocError, Global};
 use taskq::TaskState;
@@ -74,15 +75,6 @@ fn of_server(alloc: Global, awaited: Awaited, wakers: &str) -> Result<Verdict, A
     Verdict::new(alloc, Level::Noted, end)
 }
 
-/// The signals that a task has received and does not wait for, as the end of a sentence.
-fn received_text(alloc: Global, waiter: &Waiter) -> Result<String, AllocError> {
-    if waiter.received == 0 {
-        return Ok(String::new(alloc));
-    }
-    let received = waiter.received;
-    format!(in alloc; "; the task has received ${received:08X}, which this call does not wait for")
-}
-
 /// The words before the reason.
 fn header_of(level: Level) -> &'static str {
     match level {
@@ -94,7 +86,7 @@ fn header_of(level: Level) -> &'static str {
 
 impl Scene<'_, '_> {
     /// Whether no task runs and none is ready.
-    fn is_idle(&self) -> bool {
+    pub fn is_idle(&self) -> bool {
         self.machine.view().running.is_none() && self.machine.ready_after(None).is_none()
     }
 
@@ -177,10 +169,9 @@ impl Scene<'_, '_> {
             _ => self.of_signal(waiter, wakers)?,
         };
         let awaited = awaited_text(alloc, waiter.awaited)?;
-        let received = received_text(alloc, waiter)?;
-        let end = verdict.end.as_str();
+        let why = self.why_text(page, waiter, verdict.end.as_str())?;
         let mute = mute_text(self.machine, waiter.awaited);
-        let reason = format!(in alloc; "waits for {awaited}{mute}{end}{received}")?;
+        let reason = format!(in alloc; "waits for {awaited}{mute}{why}")?;
         if verdict.level != Level::Noted {
             page.warns = true;
         }
@@ -188,21 +179,36 @@ impl Scene<'_, '_> {
         page.add(spot, None, header_of(verdict.level), reason.as_str())
     }
 
-    /// Adds what there is to say of each task that waits.
+    /// Adds what there is to say of a task that waits: that it is in a circle, that its port has a message, or else what would end its wait.
+    fn add_wait<'a>(
+        &self,
+        page: &mut Page<'a>,
+        waiter: &Waiter,
+        wakers: &str,
+        ports: &[Unread],
+    ) -> Result<(), AllocError> {
+        if let Some(circle) = self.circle_of(waiter.turn.task)? {
+            return self.add_deadlock(page, &circle, waiter);
+        }
+        match unread_by(waiter, ports) {
+            None => self.add_waiter(page, waiter, wakers),
+            Some(port) => self.add_unread(page, waiter.turn, port),
+        }
+    }
+
+    /// Adds what there is to say of each task that waits, and of what was sent to tasks that had ended.
     pub fn add_waits<'a>(&self, page: &mut Page<'a>) -> Result<(), AllocError> {
         let wakers = if self.is_idle() {
             self.wakers_text()?
         } else {
             String::new(self.alloc)
         };
+        let ports = unread_ports(self.alloc, self.machine)?;
         for task in 0..self.machine.view().tasks {
             if let Some(waiter) = wait_of(self.machine, task) {
-                match self.circle_of(task)? {
-                    None => self.add_waiter(page, &waiter, wakers.as_str())?,
-                    Some(circle) => self.add_deadlock(page, &circle, &waiter)?,
-                }
+                self.add_wait(page, &waiter, wakers.as_str(), &ports)?;
             }
         }
-        Ok(())
+        self.add_lates(page)
     }
 }

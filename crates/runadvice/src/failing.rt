@@ -1,0 +1,277 @@
+//! Why a call has answered 0 or -1: the one cause, as the machine shows it after the call. Such a call changes nothing.
+use crate::argument::request_at;
+use crate::scene::Linked;
+use crate::sends::mask_of;
+use crate::step::{Site, Turn};
+use crate::value::{held_by, value_of, variable_at};
+use script::{
+    Command, LibraryWord, MachineFile, MemoryWord, PortWord, RequestWord, SignalWord, Word,
+};
+use std::alloc::{AllocError, Global};
+
+/// For how many calls of a run the cause is asked.
+const MOST_ASKED: u32 = 100;
+
+/// How many regions a machine has at most.
+const REGIONS: usize = 8;
+
+/// MEMF_PUBLIC, with which objects and libraries take memory (exec/memory.h).
+const PUBLIC: u32 = 1;
+
+/// The bytes that a port takes (exec/ports.h).
+const PORT_SIZE: u32 = 34;
+
+/// The bits of requirements that name attributes of regions.
+const ATTRIBUTES: u32 = 7;
+
+/// The signals that AllocSignal gives: 16 to 31.
+const GIVEN: u32 = 0xFFFF_0000;
+
+/// Why a call has failed.
+#[derive(Clone, Copy)]
+pub enum Cause {
+    /// The file has no such library.
+    NoLibrary,
+    /// The library has this version, and a higher one was asked for.
+    Version(u16, u32),
+    /// No region has the attributes.
+    NoRegion,
+    /// There is no gap of so many bytes, and the largest has so many.
+    NoGap(u32, u32),
+    /// A block has at least one byte.
+    NoSize,
+    /// There are so many ports already, which is the pool.
+    NoPort(u32),
+    /// All signals are allocated.
+    NoSignal,
+    /// That signal is allocated.
+    Allocated(u32),
+}
+
+/// The last call of a task that has failed.
+#[derive(Clone, Copy)]
+pub struct Failure {
+    site: Site,
+    cause: Cause,
+}
+
+/// The last OpenDevice of a task that has failed.
+#[derive(Clone, Copy)]
+pub struct Unopened {
+    request: u32,
+    pub site: Site,
+    pub unit: u32,
+    pub is_timer: bool,
+}
+
+/// What is noted of calls that have failed.
+#[derive(Drop)]
+pub struct Failings {
+    calls: Vec<Option<Failure>>,
+    unopened: Vec<Option<Unopened>>,
+    asked: u32,
+}
+
+/// The largest gap of a region.
+fn largest_in(machine: &Linked, region: usize) -> u32 {
+    let mut largest = 0u32;
+    let mut from = 0u32;
+    for _gap in 0..u32::MAX {
+        match machine.gap_from(region, from) {
+            None => break,
+            Some(gap) => {
+                largest = largest.max(gap.size);
+                from = gap.address.saturating_add(gap.size);
+            }
+        }
+    }
+    largest
+}
+
+/// The largest gap of the regions that have these attributes, if there is such a region.
+fn largest_gap(machine: &Linked, attributes: u32) -> Option<u32> {
+    let mut largest: Option<u32> = None;
+    for k in 0..REGIONS {
+        if let Some(region) = machine.region(k) {
+            if region.attrs & attributes == attributes {
+                largest = Some(largest_in(machine, k).max(largest.unwrap_or(0)));
+            }
+        }
+    }
+    largest
+}
+
+/// Why no block of that many bytes was found, if memory is the cause.
+fn of_memory(machine: &Linked, size: u32, attributes: u32) -> Option<Cause> {
+    let wanted = size.saturating_add(7) & !7;
+    match largest_gap(machine, attributes) {
+        None => Some(Cause::NoRegion),
+        Some(largest) if largest < wanted => Some(Cause::NoGap(wanted, largest)),
+        Some(_) => None,
+    }
+}
+
+/// Why a library was not opened.
+fn of_library(machine: &Linked, file: &MachineFile, name: &str, version: u32) -> Option<Cause> {
+    for library in file.libraries() {
+        if library.name.as_str() == name {
+            if u32::from(library.version) < version {
+                return Some(Cause::Version(library.version, version));
+            }
+            return of_memory(machine, library.size, PUBLIC);
+        }
+    }
+    Some(Cause::NoLibrary)
+}
+
+/// Why no signal was allocated.
+fn of_signal(machine: &Linked, task: usize, number: u32) -> Option<Cause> {
+    let allocated = machine.task(task)?.allocated;
+    if allocated & GIVEN == GIVEN {
+        return Some(Cause::NoSignal);
+    }
+    if allocated & mask_of(number) != 0 {
+        return Some(Cause::Allocated(number));
+    }
+    None
+}
+
+/// Why no port was made.
+fn of_port(machine: &Linked, file: &MachineFile, task: usize) -> Option<Cause> {
+    of_signal(machine, task, 32)
+        .or(of_memory(machine, PORT_SIZE, PUBLIC))
+        .or(Some(Cause::NoPort(file.pool())))
+}
+
+/// Whether the answer of a command goes into a variable that is an argument, so that its value is gone.
+fn overwrites(command: &Command) -> bool {
+    let mut numbers = 0..4usize;
+    command.target.is_some() && numbers.any(|number| variable_at(command, number) == command.target)
+}
+
+/// Why a call of a task has failed.
+fn cause_of(machine: &Linked, file: &MachineFile, task: usize, command: &Command) -> Option<Cause> {
+    let first = value_of(machine, Some(task), command, 0).unwrap_or(0);
+    let second = value_of(machine, Some(task), command, 1).unwrap_or(0);
+    match command.word {
+        Word::Memory(MemoryWord::AllocMem) if first == 0 => Some(Cause::NoSize),
+        Word::Memory(MemoryWord::AllocMem) => of_memory(machine, first, second & ATTRIBUTES),
+        Word::Libraries(LibraryWord::OpenLibrary) => {
+            of_library(machine, file, command.name.as_str(), second)
+        }
+        Word::Signals(SignalWord::AllocSignal) => of_signal(machine, task, first),
+        Word::Ports(PortWord::CreateMsgPort) => of_port(machine, file, task),
+        _ => None,
+    }
+}
+
+/// The cause as the end of a sentence.
+pub fn cause_text(alloc: Global, cause: Cause) -> Result<String, AllocError> {
+    match cause {
+        Cause::NoLibrary => format!(in alloc; ", since the file has no library of that name"),
+        Cause::Version(has, wanted) => {
+            format!(in alloc; ", since its version {has} is below {wanted}")
+        }
+        Cause::NoRegion => format!(in alloc; ", since no region has these attributes"),
+        Cause::NoGap(wanted, largest) => {
+            format!(in alloc;
+                ", since there was no gap of {wanted} bytes (the largest was {largest})"
+            )
+        }
+        Cause::NoSize => format!(in alloc; ", since its size was 0"),
+        Cause::NoPort(pool) => {
+            format!(in alloc; ", since the pool was used up, which has {pool} of a kind")
+        }
+        Cause::NoSignal => format!(in alloc; ", since no signal was free"),
+        Cause::Allocated(number) => format!(in alloc; ", since signal {number} was not free"),
+    }
+}
+
+impl Failings {
+    /// Nothing is noted of that many tasks.
+    pub fn new(alloc: Global, count: usize) -> Result<Failings, AllocError> {
+        Ok(Failings {
+            calls: vec![in alloc; None; count]?,
+            unopened: vec![in alloc; None; count]?,
+            asked: 0,
+        })
+    }
+
+    /// Notes an OpenDevice of a task: it has failed if its request is not open.
+    fn note_open(&mut self, machine: &Linked, task: usize, command: &Command, site: Site) {
+        let request = value_of(machine, Some(task), command, 2).unwrap_or(0);
+        let unopened = Unopened {
+            request,
+            site,
+            unit: value_of(machine, Some(task), command, 1).unwrap_or(0),
+            is_timer: command.name.as_str() == "timer.device",
+        };
+        let is_open = request_at(machine, request).is_none_or(|one| one.is_open());
+        if let Some(last) = self.unopened.get_mut(task) {
+            *last = (!is_open).then_some(unopened);
+        }
+    }
+
+    /// Notes a call of a task, if it has answered 0 or -1 into a variable.
+    fn note_answer(
+        &mut self,
+        machine: &Linked,
+        file: &MachineFile,
+        turn: Turn,
+        command: &Command,
+        site: Site,
+    ) {
+        let Some(target) = command.target else {
+            return;
+        };
+        let answer = held_by(machine, Some(turn.task), target);
+        if self.asked >= MOST_ASKED || answer != 0 && answer != u32::MAX {
+            return;
+        }
+        let Some(cause) = cause_of(machine, file, turn.task, command) else {
+            return;
+        };
+        self.asked = self.asked.saturating_add(1);
+        if let Some(call) = self.calls.get_mut(turn.task) {
+            *call = Some(Failure { site, cause });
+        }
+    }
+
+    /// Notes a call of a task, if it has failed.
+    pub fn note(
+        &mut self,
+        machine: &Linked,
+        file: &MachineFile,
+        turn: Turn,
+        command: &Command,
+        site: Site,
+    ) {
+        if overwrites(command) {
+            return;
+        }
+        match command.word {
+            Word::Requests(RequestWord::OpenDevice) => {
+                self.note_open(machine, turn.task, command, site);
+            }
+            _ => self.note_answer(machine, file, turn, command, site),
+        }
+    }
+
+    /// Why a call of a task has failed, if it is the last of that task that has.
+    pub fn cause(&self, site: Site) -> Option<Cause> {
+        let failure = (*self.calls.get(site.spot.task()?)?)?;
+        (failure.site == site).then_some(failure.cause)
+    }
+
+    /// The OpenDevice of a request that has failed last, if it is the last of its task.
+    pub fn unopened(&self, request: u32) -> Option<Unopened> {
+        for last in self.unopened.iter() {
+            if let Some(one) = *last {
+                if one.request == request {
+                    return Some(one);
+                }
+            }
+        }
+        None
+    }
+}
