@@ -34,8 +34,8 @@ pub enum Cause {
     NoLibrary,
     /// The library has this version, and a higher one was asked for.
     Version(u16, u32),
-    /// No region has the attributes.
-    NoRegion,
+    /// No region has these attributes.
+    NoRegion(u32),
     /// There is no gap of so many bytes, and the largest has so many.
     NoGap(u32, u32),
     /// A block has at least one byte.
@@ -68,7 +68,7 @@ pub struct Unopened {
 #[derive(Drop)]
 pub struct Failings {
     calls: Vec<Option<Failure>>,
-    unopened: Vec<Option<Unopened>>,
+    opens: Vec<Option<Unopened>>,
     asked: u32,
 }
 
@@ -105,7 +105,7 @@ fn largest_gap(machine: &Linked, attributes: u32) -> Option<u32> {
 fn of_memory(machine: &Linked, size: u32, attributes: u32) -> Option<Cause> {
     let wanted = size.saturating_add(7) & !7;
     match largest_gap(machine, attributes) {
-        None => Some(Cause::NoRegion),
+        None => Some(Cause::NoRegion(attributes)),
         Some(largest) if largest < wanted => Some(Cause::NoGap(wanted, largest)),
         Some(_) => None,
     }
@@ -172,7 +172,9 @@ pub fn cause_text(alloc: Global, cause: Cause) -> Result<String, AllocError> {
         Cause::Version(has, wanted) => {
             format!(in alloc; ", since its version {has} is below {wanted}")
         }
-        Cause::NoRegion => format!(in alloc; ", since no region has these attributes"),
+        Cause::NoRegion(bits) => {
+            format!(in alloc; ", since no region has the attributes ${bits:X}")
+        }
         Cause::NoGap(wanted, largest) => {
             format!(in alloc;
                 ", since there was no gap of {wanted} bytes (the largest was {largest})"
@@ -192,7 +194,7 @@ impl Failings {
     pub fn new(alloc: Global, count: usize) -> Result<Failings, AllocError> {
         Ok(Failings {
             calls: vec![in alloc; None; count]?,
-            unopened: vec![in alloc; None; count]?,
+            opens: vec![in alloc; None; count]?,
             asked: 0,
         })
     }
@@ -207,7 +209,7 @@ impl Failings {
             is_timer: command.name.as_str() == "timer.device",
         };
         let is_open = request_at(machine, request).is_none_or(|one| one.is_open());
-        if let Some(last) = self.unopened.get_mut(task) {
+        if let Some(last) = self.opens.get_mut(task) {
             *last = (!is_open).then_some(unopened);
         }
     }
@@ -265,7 +267,7 @@ impl Failings {
 
     /// The OpenDevice of a request that has failed last, if it is the last of its task.
     pub fn unopened(&self, request: u32) -> Option<Unopened> {
-        for last in self.unopened.iter() {
+        for last in self.opens.iter() {
             if let Some(one) = *last {
                 if one.request == request {
                     return Some(one);

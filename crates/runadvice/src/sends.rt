@@ -36,7 +36,7 @@ pub struct Came {
 #[derive(Drop)]
 pub struct Sends {
     /// The last time that a signal came to a task, by both.
-    came: HashMap<usize, Came>,
+    signals: HashMap<usize, Came>,
     /// Which signals came to each task and were not cleared.
     kept: Vec<u32>,
     /// The task to which each signal came last.
@@ -109,11 +109,11 @@ impl Sends {
     /// Nothing is noted of that many tasks.
     pub fn new(alloc: Global, count: usize) -> Result<Sends, AllocError> {
         Ok(Sends {
-            came: HashMap::new(alloc),
-            kept: vec![in alloc; 0; count]?,
+            signals: HashMap::new(alloc),
+            kept: vec![in alloc; 0u32; count]?,
             aims: vec![in alloc; None; SIGNALS as usize]?,
             puts: HashMap::new(alloc),
-            ended: vec![in alloc; 0; count]?,
+            ended: vec![in alloc; 0u64; count]?,
             late: vec![in alloc; None; count]?,
             is_whole: true,
         })
@@ -121,7 +121,7 @@ impl Sends {
 
     /// The last time that a signal came to a task, if it did.
     pub fn came(&self, task: usize, signal: u32) -> Option<Came> {
-        self.came.get(&key(task, signal)).copied()
+        self.signals.get(&key(task, signal)).copied()
     }
 
     /// The task to which a signal came last.
@@ -131,7 +131,7 @@ impl Sends {
 
     /// Notes that a signal came to a task, or was cleared.
     fn set(&mut self, task: usize, signal: u32, came: Came) {
-        if self.came.insert(key(task, signal), came).is_err() {
+        if self.signals.insert(key(task, signal), came).is_err() {
             self.is_whole = false;
         }
     }

@@ -280,7 +280,11 @@ impl Scene<'_, '_> {
         };
         let lost = self.lost_text(page, waiter.turn, mask)?;
         let other = self.other_text(waiter.turn, mask, waiter.received)?;
-        let received = if other.is_empty() { received } else { "" };
+        let received = if other.as_str().is_empty() {
+            received
+        } else {
+            ""
+        };
         format!(in self.alloc; "{lost}{other}{end}{received}")
     }
 
