@@ -43,37 +43,35 @@ fn paths<'a>(alloc: Global) -> Arg<'a> {
         .required(true)
         .num_args(1..)
         .action(ArgAction::Append)
-        .help("MACHINE and EVENTS: the machine file, in TOML, and the event text, an event a line")
+        .help("MACHINE and EVENTS: the machine file, in TOML, and the event text")
 }
 
 /// The command, whose words are given without its own name.
 fn command<'a>(alloc: Global) -> Result<Command<'a>, AllocError> {
     Command::new(alloc, "execexplore")
-        .about(
-            "Runs every way in which interrupts can come among the events of a run of execsim, and says what is seen of each",
-        )
+        .about("Runs every way in which interrupts can come in a run, and says what each shows")
         .override_usage("execexplore [OPTIONS] MACHINE EVENTS\n       execexplore --sum REPORT..")
         .after_help(
-            "Example: `execexplore --extra 2 lost.toml lost.events` runs the events of lost.events with at most two more ticks, anywhere among them.\n`execexplore --extra 2 --events 3 lost.toml lost.events >third.events` keeps the events of the first way of outcome 3, and\n`execsim lost.toml third.events` prints the trace of that run.\n\nexecexplore --version, with nothing else, prints the version.",
+            "Without --of, the kinds are tick and the sources that servers of MACHINE serve.\n\nExample: `execexplore --extra 2 lost.toml lost.events` runs the events of\nlost.events with at most two more ticks, anywhere among them.\n`execexplore --extra 2 --events 3 lost.toml lost.events >third.events` keeps the\nevents of the first way of outcome 3, and `execsim lost.toml third.events`\nprints the trace of that run.\n\nexecexplore --version, with nothing else, prints the version.",
         )
         .no_binary_name(true)
         .arg(option(
             alloc,
             "extra",
             "N",
-            "How many extra interrupts a way has at most, 0 to 8 [default: 1]",
+            "The most extra interrupts of a way, 0 to 8 [default: 1]",
         ))?
         .arg(option(
             alloc,
             "of",
             "LIST",
-            "Their kinds, of tick, PORTS and EXTER with commas between [default: tick, and the sources that servers of MACHINE serve]",
+            "Their kinds, such as tick,PORTS,EXTER [default: see below]",
         ))?
         .arg(option(
             alloc,
             "see",
             "WHAT",
-            "What is seen of a way: end, prints or trace [default: prints]",
+            "What is compared: end, prints or trace [default: prints]",
         ))?
         .arg(option(
             alloc,
@@ -85,17 +83,17 @@ fn command<'a>(alloc: Global) -> Result<Command<'a>, AllocError> {
             alloc,
             "events",
             "K",
-            "Prints only the events of the first way of outcome K, as an event text",
+            "Prints only the events of the first way of outcome K",
         ))?
         .arg(flag(
             alloc,
             "progress",
-            "Reports on standard error, at most once a second, how far the search is, also if that is not a terminal",
+            "Reports progress on standard error, terminal or not",
         ))?
         .arg(flag(
             alloc,
             "sum",
-            "Reads the reports of all parts, in any order, and prints the report of the whole",
+            "Reads the reports of all parts, and prints that of the whole",
         ))?
         .arg(paths(alloc))
 }

@@ -74,12 +74,10 @@ fn bare_command<'a>(alloc: Global) -> Result<Command<'a>, AllocError> {
     let machine = path(alloc, "MACHINE", "The machine file, in TOML");
     let events = path(alloc, "EVENTS", "The event text, an event a line");
     Command::new(alloc, "execlog")
-        .about(
-            "Runs a machine as execsim does, and prints each line of its trace with the step, the time, and the line and the text of its command",
-        )
+        .about("Prints the trace of a run, each line with its step, time, place and command")
         .override_usage("execlog [OPTIONS] MACHINE EVENTS")
         .after_help(
-            "Example: `execlog --task daemon --from 30 daemon.toml daemon.events` shows what daemon does from step 30 on, and\n`execlog --state 30 daemon.toml daemon.events` all that the machine shows after step 30.\n\nexeclog --version, with nothing else, prints the version.",
+            "Example: `execlog --task daemon --from 30 daemon.toml daemon.events` shows what\ndaemon does from step 30 on, and\n`execlog --state 30 daemon.toml daemon.events` all that the machine shows after\nstep 30.\n\nexeclog --version, with nothing else, prints the version.",
         )
         .no_binary_name(true)
         .arg(machine)?
@@ -92,7 +90,7 @@ fn command_of_forms<'a>(alloc: Global) -> Result<Command<'a>, AllocError> {
         .arg(flag(
             alloc,
             "plain-words",
-            "Shows also the words that print nothing in a trace, each after a tilde",
+            "Shows also the words that print nothing, each after a tilde",
         ))?
         .arg(flag(alloc, "json", "Prints one JSON object a line"))?
         .arg(flag(alloc, "svg", "Prints a picture of the run"))?
@@ -105,7 +103,7 @@ fn command_of_forms<'a>(alloc: Global) -> Result<Command<'a>, AllocError> {
             alloc,
             "state",
             "N",
-            "Prints all that the machine shows after step N, and no log; step 0 is the start",
+            "Prints no log, but the machine after step N; 0 is the start",
         ))
 }
 
@@ -134,7 +132,7 @@ fn command<'a>(alloc: Global) -> Result<Command<'a>, AllocError> {
             alloc,
             "task",
             "NAME",
-            "Shows only what that task, server or software interrupt does",
+            "Shows only that task, server or software interrupt",
         ))
 }
 
