@@ -1,5 +1,6 @@
 # Completion of execsim, execcheck, execlog and execexplore for bash: options and their values, and then a machine file, *.toml, and an event text,
-# *.events. After --task come the names in the machine file that stands on the line, or that is the only one in the folder.
+# *.events. After --task come the names in the machine file that stands on the line, or that is the only one in the folder. And of execc: options, and
+# then programs, *.c, and an event text.
 
 # The names of the tasks, servers and software interrupts in a machine file.
 _execsim_names() {
@@ -33,43 +34,67 @@ _execsim_kinds() {
 }
 
 _execsim() {
-    local command=${1##*/} word=$2 it at paths=0 option='' used=' ' is_path=''
+    local command=${1##*/} word=$2 it at paths=0 option='' used=' ' is_path='' events=''
     COMPREPLY=()
-    # What stands before: paths, the options that are used, and an option whose value is asked for.
+    # What stands before: paths, an event text, the options that are used, and an option whose value is asked for.
     for ((at = 1; at < COMP_CWORD; at++)); do
         it=${COMP_WORDS[at]}
         case $is_path$option$it in
         *=) ;;
-        --state | --from | --to | --at | --task | --extra | --of | --see | --part | --events) option=$it used+="$it " ;;
+        --state | --from | --to | --at | --task | --extra | --of | --see | --part | --events | --record | --explore | --quantum | --accesses | --jobs)
+            option=$it used+="$it "
+            ;;
+        --cc | --cflags | --keep) option=$it used+="$it= " ;;
         --?* | -h) [[ -n $option ]] && option='' || used+="$it " ;;
         --) is_path=/ ;;
-        *) ((++paths)) ;;
+        *)
+            ((++paths))
+            [[ $it != *.events ]] || events=1
+            ;;
         esac
     done
     [[ $word != '=' ]] || word=''
+    local endings=()
     case $option in
     --task) _execsim_offer "$(_execsim_names)" && return ;;
-    --extra) _execsim_offer "$(printf '%s\n' 0 1 2 3 4 5 6 7 8)" && return ;;
+    --extra | --explore) _execsim_offer "$(printf '%s\n' 0 1 2 3 4 5 6 7 8)" && return ;;
     --see) _execsim_offer $'end\nprints\ntrace' && return ;;
     --of) compopt -o nospace 2>/dev/null; _execsim_offer "$(_execsim_kinds)" && return ;;
+    --accesses) _execsim_offer $'shared\nnone' && return ;;
+    --cc) _execsim_offer $'gcc\nclang' && return ;;
+    --record | --keep) endings=('') ;;
     ?*) return ;;
     esac
-    if [[ $word == -* && -z $is_path ]]; then
+    if [[ $word == -* && -z $is_path$option ]]; then
         local options='--help'
-        [[ $command == execsim ]] || options+=' --version'
+        [[ $command == execsim || $command == execc ]] || options+=' --version'
         [[ $command != execlog ]] || options+=' --plain-words --json --svg --chrome --state --from --to --at --task'
         [[ $command != execexplore ]] || options+=' --extra --of --see --part --events --progress --sum'
+        [[ $command != execc ]] || options+=' --log --check --svg --state --record --explore --of --events --twice --quantum --accesses --jobs --cc= --cflags= --keep='
         for it in $options; do
             [[ $used == *" $it "* ]] || _execsim_offer "$it"
+            [[ $it != *= || ${COMPREPLY[*]} != *= ]] || compopt -o nospace 2>/dev/null
         done
         return
     fi
-    # Then a machine file, an event text, and nothing; or the reports to sum.
-    local ending=.toml
-    if [[ $used == *' --sum '* ]]; then ending=''; elif ((paths == 1)); then ending=.events; elif ((paths > 1)); then return; fi
+    # Then a machine file, an event text, and nothing; or the reports to sum; or programs and an event text.
+    if [[ -n $option ]]; then
+        :
+    elif [[ $command == execc ]]; then
+        endings=(.c)
+        [[ -n $events ]] || endings+=(.events)
+    elif [[ $used == *' --sum '* ]]; then
+        endings=('')
+    elif ((paths == 1)); then
+        endings=(.events)
+    elif ((paths > 1)); then
+        return
+    else
+        endings=(.toml)
+    fi
     compopt -o filenames 2>/dev/null
     while IFS= read -r it; do
         [[ -z $it ]] || COMPREPLY+=("$it")
-    done <<<"$(compgen -d -- "$word"; compgen -f -X "!*$ending" -- "$word" | while IFS= read -r it; do [[ -d $it ]] || echo "$it"; done)"
+    done <<<"$(compgen -d -- "$word"; for it in "${endings[@]}"; do compgen -f -X "!*$it" -- "$word"; done | while IFS= read -r it; do [[ -d $it ]] || echo "$it"; done)"
 }
-complete -F _execsim execsim execcheck execlog execexplore
+complete -F _execsim execsim execcheck execlog execexplore execc

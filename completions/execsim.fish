@@ -1,5 +1,6 @@
 # Completion of execsim, execcheck, execlog and execexplore for fish: options and their values, and then a machine file, *.toml, and an event text,
-# *.events. After --task come the names in the machine file that stands on the line, or that is the only one in the folder.
+# *.events. After --task come the names in the machine file that stands on the line, or that is the only one in the folder. And of execc: options, and
+# then programs, *.c, and an event text.
 
 # How many paths stand before the cursor: words that are no options and no values of options.
 function __execsim_paths
@@ -18,6 +19,9 @@ function __execsim_paths
 end
 function __execsim_sums
     contains -- --sum (commandline -opc)
+end
+function __execsim_has_events
+    string match -q -- '*.events' (commandline -opc)
 end
 # The folders, and the files of an ending.
 function __execsim_files
@@ -69,3 +73,22 @@ complete -c execexplore -l events -x -d 'Print the events of the first way of an
 complete -c execexplore -l progress -d 'Report how far the search is'
 complete -c execexplore -l sum -d 'Print the report of the whole, of the reports of all parts'
 complete -c execexplore -n __execsim_sums -F
+complete -c execc -f
+complete -c execc -s h -l help -d 'Print the help'
+complete -c execc -a '(__execsim_files .c)' -d 'Program'
+complete -c execc -n 'not __execsim_has_events' -a '(__execsim_files .events)' -d 'Event text'
+complete -c execc -l log -d 'Print the log of the run'
+complete -c execc -l check -d 'Say what is wrong, and how the run ends'
+complete -c execc -l svg -d 'Print a picture of the run'
+complete -c execc -l state -x -d 'Print what the machine shows after a step'
+complete -c execc -l record -r -F -d 'Keep the run as a machine file'
+complete -c execc -l explore -x -a '0 1 2 3 4 5 6 7 8' -d 'Run every way of so many more interrupts'
+complete -c execc -l of -x -a '(__execsim_kinds)' -d 'Their kinds, with commas between'
+complete -c execc -l events -x -d 'Print the events of the first way of an outcome'
+complete -c execc -l twice -d 'Say whether the programs do the same twice'
+complete -c execc -l quantum -x -d 'The VERTBs of a full quantum'
+complete -c execc -l accesses -x -a 'shared none' -d 'Steps at accesses'
+complete -c execc -l jobs -x -d 'How many processors a search takes'
+complete -c execc -l cc -x -a 'gcc clang' -d 'The compiler'
+complete -c execc -l cflags -x -d 'More options of the compiler'
+complete -c execc -l keep -r -F -d 'Keep the compiled programs'
