@@ -74,7 +74,7 @@ def summary():
     return (
         f"On {kept['date']} exec.library {kept['exec']} of AROS was asked, in the m68k ROM {kept['rom']} of Debian's fs-uae {kept['emulator']}, on an emulated 68020. "
         f"Of the {len(kept['rows'])} rows of the [table of differences](#where-this-machine-differs-by-choice) {len(asked)} were measured: "
-        f"in {same} the lines are the same, in {len(asked) - same - stopped} others came, and {stopped} stopped it; {others} cannot be asked there. "
+        f"in {same} the lines are the same, in {len(asked) - same - stopped} they differ, and {stopped} stopped it; {others} cannot be asked there. "
         f"The traces are the same, byte for byte, in {equal['recordings']:,} of {done['recordings']:,} random scenarios, {equal['examples']} of {done['examples']} examples "
         f"and {equal['tables']} of {done['tables']} runs of the tables."
     )
