@@ -2,30 +2,66 @@
 import collections
 import pathlib
 import re
+import textwrap
 
 from reading.language import Definition, Module, Type
-from reading.layout import comment
-from reading.python import Python
+from reading.layout import WIDTH, comment
+from reading.python import Python, py
 
 HERE = pathlib.Path(__file__).parent
 MARK = "# ---- the words of the standard library\n"
 HEAD = '''"""The definitions of execsim: what a run of a machine file over an event text is, and what is printed of it.
 
 This file was made by tools/reading from the definitions that the project's theorem speaks of, name for name. It is
-no program of the project: it computes what they say. Read it from the top: a run, a step, settling, interrupts, calls,
-the words of each group, the services beneath them, the state, the trace, the texts, the words of the standard library.
-Above each definition is its comment, with its source in the manual (RKM: the Amiga ROM Kernel Reference Manual) or
-"project rule"; then its type, and file and line of the original. Nothing is changed in place: an action takes a State
-and gives an Outcome: the next state, the lines that are printed on the way, and marks, of which only laws speak.
-A name that Python keeps for itself has `_` at its end{kept}.
+no program of the project: it computes what they say. Read it from the top. Above each definition is its comment, with
+its source in the manual (RKM: the Amiga ROM Kernel Reference Manual) or "project rule"; then its type, and file and
+line of the original. Nothing is changed in place: an action takes a State and gives an Outcome: the next state, the
+lines that are printed on the way, and marks, of which only laws speak.
+
+    python3 definitions.py MACHINE EVENTS             prints the trace of a run
+    python3 definitions.py --show DoIO                prints what is done for a call, or any definition by its name
+    python3 definitions.py --why 4 MACHINE EVENTS     says which definitions made line 4 of the trace
+    python3 definitions.py --check PROJECT            makes the stored runs, and the recordings of a real Exec
+
+An example. The machine file
+
+{machine}
+
+and the event text
+
+{events}
+
+come to this trace:
+
+{trace}
+
+In the types, which stand above the definitions, ℕ are the whole numbers from 0, and ℤ those with a sign: both are Python's
+int, and have no width. A value of a script is a word of 32 bits: what calculates one, as Add and Sub do, says % 2 ** 32.
+A × B is a pair; A → B → C is a function of an A and a B that gives a C; Type 0 is a statement, here True or False. Texts
+are List ℕ, their bytes. An Option is None or Some(value), and a Result Ok(value) or Err(fault).
+
+Names are those of the originals, but for these:
+{renamed}
 
 The tree of a TOML text is made by Python's tomllib, of TOML 1.0, within the limits of the project's reader (64 bits for
 integers, 80 levels, no infinite number by its digits), which reads TOML 1.1: what only that has is NotToml here. All
 that is read from the tree is in the definitions.
 
-    python3 definitions.py MACHINE EVENTS      prints the trace; --help says what else it does
+Contents, by line; of each part the longer sections:
+
+{contents}
 """
 '''
+MACHINE = """[[task]]
+name = "server"
+pri = 5
+code = ["m = Wait $10000", "Print m"]
+
+[[task]]
+name = "client"
+code = ["Signal 1 $10000"]
+"""
+EVENTS = "run 5\n"
 ROOTS = ("run", "printed", "script_of", "placed_file_of_document")
 # What laws of every run speak of, as the file of that law sees them: --check asks them of each run.
 LAW, LAWS = "FirstInFirstOut", ("IsInOrder", "turns_at_port", "turns_at_semaphore", "CountsTicks", "AreDisjoint", "IsSettled",
@@ -33,6 +69,7 @@ LAW, LAWS = "FirstInFirstOut", ("IsInOrder", "turns_at_port", "turns_at_semaphor
 THEOREM = ("file_of", "script_of", "Simulates")
 PARTS = ("A run", "Services beneath it", "The state and the objects", "The trace", "The texts",
          "Laws that are asked of each run")
+EVERYWHERE = "What is used everywhere"
 
 
 class File:
@@ -44,17 +81,22 @@ class File:
         # what a line says: the relation, and the function that it determines
         says = next(it for it in said.definitions.values() if it.name != "meaning")
         relation = project.find(project.named("IsMeaning").module, "Says")
-        self.laws = {it: project.find(law, it) for it in LAWS}
-        self.laws |= {"says": says, "Says": relation, "fields": project.find(said, "fields")}
-        self.laws |= {it.name: it for it in statements}
-        self.python = Python(project, [*self.roots, *self.laws.values()])
+        self.laws = [*(project.find(law, it) for it in LAWS), says, relation, project.find(said, "fields"), *statements]
+        self.python = Python(project, [*self.roots, *self.laws])
         self.types = {}
         while missing := [it for it in self.python.types if it not in self.types]:  # a type may name others
             self.types |= {it: self.python.type_lines(it) for it in missing}
+        self.combinators = [it for it in self.python.written if self.is_combinator(it)]
         self.order = self.in_order()
         reached = self.reached()
-        self.count, self.bare = len(reached), [f"{it.module.place}:{it.line} {it.name}" for it in reached if not it.comment]
+        self.count = len(reached)
+        everything = dict.fromkeys([*reached, *self.python.written, *self.types])
+        self.bare = [f"{it.module.place}:{it.line} {it.name}" for it in everything if not it.comment and self.is_own(it)]
         self.left_out = [it for it in reached if it not in self.python.written and it not in self.types]
+
+    def is_own(self, entity):
+        """Whether a definition is of a file of the project, and not of the kit."""
+        return isinstance(entity.module, Module) and entity.module.path.is_relative_to(self.project.top)
 
     def reached(self):
         """All definitions of the project that the theorem rests on: what its statement cites. Of one that is shut to others
@@ -62,16 +104,31 @@ class File:
         found = [self.project.named(it) for it in THEOREM]
         for it in found:
             cited = dict.fromkeys(self.project.cites(it, isinstance(it, Definition) and not it.is_open))
-            own = [x for x in cited if isinstance(x.module, Module) and x.module.path.is_relative_to(self.project.top)]
-            found += [x for x in own if x not in found]
+            found += [x for x in cited if self.is_own(x) and x not in found]
         return found
 
     def why(self, entity):
         """Why a definition is not in the file."""
-        if self.project.is_type(entity) and not self.project.states(entity):
-            return "the type " + " ".join(entity.items[0][1].partition("=")[2].split())
         is_record = isinstance(entity, Type) and (entity.parameters or self.project.states(entity))
         return "a statement" if is_record or self.project.is_type(entity) else "only statements speak of it"
+
+    # ---- the order
+
+    def is_combinator(self, entity):
+        """Whether a definition makes an action of others: it takes a function to what it gives, or from one thing to its like."""
+        types, result = self.python.parameters(entity)
+        functions = [self.project.arrows(it) for it in types if it and self.project.arrows(it)[0]]
+        return any(taken[-1:] == [given] or given == result and taken for taken, given in functions)
+
+    def often(self):
+        """What is used everywhere: combinators of more than two files, and what many definitions of more than three use."""
+        users = collections.defaultdict(list)
+        for it, written in self.python.written.items():
+            for other in written.rests:
+                users[other].append(it)
+        files = {it: len({x.module for x in found}) for it, found in users.items()}
+        return [it for it, found in users.items()
+                if files[it] > 2 and it in self.combinators or files[it] > 3 and len(found) > 11]
 
     def parts_of(self):
         """The part of the file that each module is in, and the modules in order of first use."""
@@ -80,7 +137,7 @@ class File:
         for it in state:
             state += [x for x in self.project.cites(it) if isinstance(x, Type) and x not in state]
         holders, modules = {it.module for it in state} - {run.module}, {}
-        for roots, place in (([run], 1), ([printed], 3), (self.roots, 4), (self.laws.values(), 5)):
+        for roots, place in (([run], 1), ([printed], 3), (self.roots, 4), (self.laws, 5)):
             for module in (it.module for it in self.sequence(roots)):
                 own = place
                 if place < 5 and module.crate == printed.module.crate:
@@ -113,36 +170,83 @@ class File:
 
     def in_order(self):
         """The definitions and types of each module: (part, module, types, definitions)."""
-        modules, sequence = self.parts_of(), self.sequence([*self.roots, *self.laws.values()])
+        modules, sequence, often = self.parts_of(), self.sequence([*self.roots, *self.laws]), self.often()
         for module in (it.module for it in self.types):
             modules.setdefault(module, next((part for it, part in modules.items() if it.crate == module.crate), 4))
-        return [(modules[module], module, sorted((it for it in self.types if it.module is module), key=lambda it: it.line),
-                 [it for it in sequence if it.module is module]) for module in sorted(modules, key=modules.get)]
+        rows = [(EVERYWHERE, module, [], [it for it in sequence if it.module is module and it in often]) for module in modules]
+        for module in sorted(modules, key=modules.get):
+            rows.append((PARTS[modules[module]], module, sorted((it for it in self.types if it.module is module), key=lambda it: it.line),
+                         [it for it in sequence if it.module is module and it not in often]))
+        return [it for it in rows if it[2] or it[3]]
 
-    def text(self):
-        python, kept = self.python, ", ".join(sorted(self.python.kept))
+    # ---- the text
+
+    def lines(self):
+        """All lines below the head."""
         prelude, words = (HERE / "words.py").read_text(encoding="utf-8").split(MARK)
+        used = collections.Counter(it for x in self.python.written.values() for it in set(re.findall(r"\w+", "\n".join(x.lines))))
+        first = [it for it in words.split("\n") if (word := re.match(r"def (\w+)\(.*: return", it)) and used[word[1]] >= 10]
+        words = "\n".join(it for it in words.split("\n") if it not in first)
+        lines, part = ["", *prelude.strip("\n").split("\n")], None
 
         def title(text):
             return ["", "", "# " + "=" * 118, f"# {text}", "# " + "=" * 118]
 
-        lines = [HEAD.format(kept=f" ({kept})" if kept else ""), prelude.strip("\n"), ""]
-        part = None
-        for place, module, types, definitions in self.order:
-            lines += title(PARTS[place]) if place != part else []
-            part, said = place, " ".join(module.comment) or f"Types of the code in {module.path.name}"
+        for name, module, types, definitions in self.order:
+            lines += title(name) if name != part else []
+            lines += ["", *first] if name == EVERYWHERE and part is None else []
+            part, said = name, " ".join(module.comment) or f"Types of the code in {module.path.name}"
             lines += ["", "", *comment(f"---- {said} [{module.place.removeprefix('crates/')}]")]
             for it in types:
                 lines += ["", *self.types[it]]
             for it in definitions:
-                lines += ["", *python.above(it), *python.written[it].lines]
-        lines += [*title("The words of the standard library"), words.rstrip("\n")]
+                lines += ["", *self.python.above(it), *self.python.written[it].lines]
+        lines += [*title("The words of the standard library"), *words.rstrip("\n").split("\n")]
         lines += [*title("What the theorem speaks of, and is not above"), ""]
         for it in self.left_out:
             lines += comment(f"{it.name}: {self.why(it)} [{it.module.place.removeprefix('crates/')}:{it.line}]")
-        step = python.name(self.project.named("settle"))
-        lines += [*title("How this file is run"), "", "RUN, PRINTED, EVENTS_OF, MACHINE_OF_TREE, STEP = "
-                  f"{', '.join(map(python.name, self.roots))}, {step!r}", "LAWS = {"]
-        lines += [*(f"    {name!r}: {python.name(it)}," for name, it in self.laws.items()), "}", ""]
-        lines.append((HERE / "running.py").read_text(encoding="utf-8").strip("\n"))
-        return re.sub(r"\n{4,}", "\n\n\n", "\n".join(it.rstrip() for it in "\n".join(lines).split("\n"))) + "\n"
+        lines += [*title("How this file is run"), ""]
+        lines += [f"COMBINATORS = {{{', '.join(repr(self.python.name(it)) for it in self.combinators)}}}"]
+        lines += (HERE / "running.py").read_text(encoding="utf-8").strip("\n").split("\n")
+        return re.sub(r"\n{4,}", "\n\n\n", "\n".join(it.rstrip() for it in lines)).split("\n")
+
+    def text(self):
+        lines = self.lines()
+        contents = []
+        for number, line in enumerate(lines):
+            if line == "# " + "=" * 118 and lines[number - 1] == "":
+                contents.append((number + 1, lines[number + 1][2:]))
+            elif line.startswith("# ---- ") and is_long(lines, number):
+                contents.append((number, "    " + re.split(r" \[|[:(]|\.(?: |$)", line[7:])[0].strip()))
+        words = {"machine": indented(MACHINE), "events": indented(EVENTS), "trace": indented(trace_of(lines)), "renamed": self.renamed()}
+        above = HEAD.format(contents="\n".join([""] * len(contents)), **words).count("\n")
+        words["contents"] = "\n".join(f"{above + number + 1:8}  {it}" for number, it in contents)
+        return HEAD.format(**words) + "\n".join(lines) + "\n"
+
+    def renamed(self):
+        """What the head says of names that are changed."""
+        names = [it.name for it in self.python.written]
+        for it in self.types:
+            names += [it.name, *(x[0] for x in getattr(it, "members", ()))]
+        kept = sorted({py(it) for it in names if py(it) == it + "_"} | {it for it in self.python.kept})
+        others = [f"{it} is {py(it)}. " for it in names if not it.replace("'", "_").isidentifier()]
+        return textwrap.fill(f"One that Python keeps for itself has `_` at its end: {', '.join(kept)}. {''.join(others)}`'` in a name is "
+                             "`_`. A variable that would hide another one has a number at its end. A parameter that is only matched "
+                             "in the original has the name of its type.", WIDTH)
+
+
+def indented(text):
+    return "\n".join("    " + it if it else "" for it in text.rstrip("\n").split("\n"))
+
+
+def is_long(lines, number):
+    """Whether a section has more than four definitions."""
+    ends = (it for it in range(number + 1, len(lines)) if lines[it].startswith(("# ---- ", "# ====")))
+    return sum(it.startswith(("def ", "@once")) for it in lines[number:next(ends, None)]) > 4
+
+
+def trace_of(lines):
+    """The trace of the example, by the definitions themselves."""
+    found = {"__name__": "definitions", "__file__": __file__}
+    exec("\n".join(lines), found)
+    return found["_outcome"](MACHINE.encode(), EVENTS.encode())[1].decode()

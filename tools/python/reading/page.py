@@ -1,6 +1,5 @@
 """Writes docs/DEFINITIONS.md: the definitions as they stand in their files, in the order of the Python file."""
-from reading.file import PARTS
-from reading.language import Definition, Module
+from reading.language import Definition
 
 HEAD = """# Definitions
 
@@ -31,8 +30,7 @@ def section(module, entities):
 
 
 def page_of(file):
-    own = [it for it in file.order if isinstance(it[1], Module) and it[1].path.is_relative_to(file.project.top)]
-    parts = [(PARTS[place], module, [*types, *definitions]) for place, module, types, definitions in own]
+    parts = [(name, module, own) for name, module, *rows in file.order if (own := [x for it in rows for x in it if file.is_own(x)])]
     for module in dict.fromkeys(it.module for it in file.left_out):
         them = sorted((it for it in file.left_out if it.module is module), key=lambda it: it.line)
         parts.append(("Agreement and the headline", module, them))

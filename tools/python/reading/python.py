@@ -72,6 +72,9 @@ class Python:
             if it not in self.written:
                 self.written[it] = Written(self, it)
                 open_ += self.written[it].rests
+        for it in self.written:
+            if isinstance(it, Definition):
+                self.signature(it)
 
     def name(self, entity):
         """The name of a definition or a type. Two of one name are refused."""
@@ -80,7 +83,8 @@ class Python:
         if other is not entity or hasattr(words, name):
             place = f"{other.module.place}:{other.line}" if other is not entity else "words.py"
             raise refusal(entity, f"`{entity.name}` means another thing in {place}")
-        if isinstance(entity, Type) and not self.project.states(entity):
+        is_of_data = isinstance(entity, Type) or entity not in self.written and self.project.is_type(entity)
+        if is_of_data and not self.project.states(entity):
             self.types[entity] = None
         return name
 
@@ -95,6 +99,9 @@ class Python:
     def type_lines(self, entity):
         """A record or data, with a line for each field or constructor that has a comment."""
         head = f"{self.name(entity)} = "
+        if isinstance(entity, Definition):  # another name of a type
+            text = " ".join(entity.items[0][1].partition("=")[2].split())
+            return [*self.above(entity), head + repr(self.type_text(text, entity.module))]
         if entity.kind == "record":
             members = [(repr(py(it)), said) for it, _, said in self.project.fields(entity)]
         else:
@@ -109,8 +116,23 @@ class Python:
     def above(self, entity):
         """The comment, and where the original stands, with its type."""
         place = f"[{entity.module.place.removeprefix('crates/')}:{entity.line}]"
-        text = "" if isinstance(entity, Type) else " ".join(entity.item.text().split()) + "  "
-        return comment(" ".join(entity.comment)) + comment(re.sub(r"^((abbrev|unfoldable|pub) )+", "", text) + place)
+        text = f"{self.signature(entity)}  " if entity in self.written and isinstance(entity, Definition) else ""
+        return comment(" ".join(entity.comment)) + comment(text + place)
+
+    @functools.cache
+    def signature(self, entity):
+        """The name and the type of a definition, by the names that are in the file."""
+        text = re.sub(r"^((abbrev|unfoldable|pub) )+", "", " ".join(entity.item.text().split()))
+        return self.type_text(text, entity.module)
+
+    def type_text(self, text, module):
+        """A type by the names that are in the file."""
+        def named(match):
+            found = self.project.find(module, match[0])
+            is_short = isinstance(found, Definition) and self.project.is_type(found) and not self.project.states(found)
+            return self.name(found) if is_short or isinstance(found, Type) else match[0]
+
+        return re.sub(r"[A-Za-z_][\w.']*", named, text)
 
 
 class Written:

@@ -1,8 +1,5 @@
-# Nothing above is changed by this, but that steps are counted, and calls are watched for --check, --show and --why.
-HERE = ("IMPORTED", "RUN", "PRINTED", "EVENTS_OF", "MACHINE_OF_TREE", "STEP", "LAWS")
-OWN = [it for it in globals() if it not in IMPORTED and it not in HERE]
-
-
+# Nothing above is changed by this, but that calls are watched for --check, --show and --why.
+import argparse
 import difflib
 import os
 import pathlib
@@ -18,9 +15,11 @@ from functools import reduce
 LIMIT = 4_194_304
 
 
-class _Unread(Exception):
-    """A file that cannot be read."""
+class _Told(Exception):
+    """What is said instead of an answer, and the status."""
 
+
+# ---- the texts
 
 def _data_of(value):
     """The data of a TOML value."""
@@ -45,7 +44,7 @@ def _float_of(digits):
     """The number that digits are, unless it is too large for one."""
     number = float(digits)
     if abs(number) == float("inf") and "inf" not in digits:
-        raise ValueError("too large")
+        raise ValueError("a number is too large")
     return number
 
 
@@ -57,37 +56,53 @@ def _is_within(value, deep=0):
     return not isinstance(value, int) or -2**63 <= value < 2**63
 
 
-def MACHINE_OF(text):
-    """The machine that the bytes of a file state, or its first fault with its place."""
+def _tree_of(text):
+    """The tree of the bytes of a machine file, or none, and why there is none."""
     try:
         tree = tomllib.loads(bytes(text).removeprefix(b"\xef\xbb\xbf").decode(), parse_float=_float_of)
-    except (ValueError, RecursionError):
-        tree = None
-    return MACHINE_OF_TREE(None if tree is None or not _is_within(tree) else Some(_members_of(tree)))
+    except (ValueError, RecursionError) as why:
+        return None, str(why)
+    return (Some(_members_of(tree)), "") if _is_within(tree) else (None, "a number or a depth past the limits")
+
+
+def _place_of(place):
+    """Where a fault of a machine file is."""
+    def table(item): return "the top table" if item is TablePlace.Top else f"{name(item.a0)} {item.a1 + 1}"
+    def name(key): return re.sub(r"(?<=[a-z])(?=[A-Z])", "_", type(key).__name__).lower()
+    match place:
+        case Place.Line(it): return f"line {it.line + 1} of the code of {name(it.owner)} {it.item + 1}"
+        case Place.Tree(TreePlace.UnknownKey(it)): return f"a key of {table(it)}"
+        case Place.Tree(TreePlace.Key(it, key)): return f"key {name(key)} of {table(it)}"
+        case Place.Tree(TreePlace.Array(array)): return f"array {name(array)}"
+        case Place.Tree(TreePlace.Item(array, item)): return f"{name(array)} {item + 1}"
+    return "the file as a whole"
 
 
 def _outcome(machine, events):
-    """The status of a run, what is printed, the line of a refusal, and all that came of it."""
-    file = MACHINE_OF(machine)
+    """The status of a run, what is printed, the line of a refusal and its place, and all that came of it."""
+    tree, why = _tree_of(machine)
+    file, script = placed_file_of_document(tree), None
     if isinstance(file, Err):
-        return 1, b"", f"execsim: machine: {type(file.fault.fault).__name__}", None
-    script = EVENTS_OF(list(events))
+        said = f"execsim: machine: {type(file.fault.fault).__name__}"
+        return 1, b"", said, f"in the machine: {why or _place_of(file.fault.place)}", None
+    script = script_of(list(events))
     if isinstance(script, Err):
         fault = script.fault
         said = [type(fault).__name__, *(str(getattr(fault, it)) for it in getattr(fault, "__slots__", ()))]
-        return 1, b"", f"execsim: events: {' '.join(said)}", None
-    done = RUN(file.value, script.value)
-    return 3 if done.state.stopped else 0, bytes(PRINTED(done.lines)), "", (file.value, script.value, done)
+        return 1, b"", f"execsim: events: {' '.join(said)}", "", None
+    done = run(file.value, script.value)
+    return 3 if done.state.stopped else 0, bytes(printed(done.lines)), "", "", (file.value, script.value, done)
 
 
 def _read(path):
+    """The bytes of a file, if it is not too large."""
     try:
         with open(path, "rb") as file:
             text = file.read(LIMIT + 1)
     except OSError:
         text = None
     if text is None or len(text) > LIMIT:
-        raise _Unread(f"execsim: cannot read {path}")
+        raise _Told(f"execsim: cannot read {path}", 4)
     return text
 
 
@@ -95,37 +110,40 @@ def _watch(name, before):
     """Has a function called before each call of a definition."""
     inner = globals()[name]
 
-    def _watched(*arguments):
+    @wraps(inner)
+    def watched(*arguments):
         before()
         return inner(*arguments)
 
-    globals()[name] = _watched
+    globals()[name] = watched
 
 
-def _show_progress(name, what):
-    """Says on a terminal, once a second, how often a definition was used."""
-    if not sys.stderr.isatty():
-        return
+def _show_progress():
+    """Says on a terminal, once a second, how often the machine has settled."""
     count, last = 0, time.monotonic() + 1
 
-    def _before():
+    def before():
         nonlocal count, last
         count += 1
         if time.monotonic() >= last + 1:
             last += 1
-            print(f"\r{count} {what}", end="", file=sys.stderr, flush=True)
+            print(f"\r{count} steps, ticks and requests", end="", file=sys.stderr, flush=True)
 
-    _watch(name, _before)
+    _watch("settle", before)
 
 
 def _run_files(machine, events):
-    machine, events = _read(machine), _read(events)
-    _show_progress(STEP, "steps, ticks and requests")
-    status, trace, said, _ = _outcome(machine, events)
-    sys.stdout.buffer.write(trace)
-    sys.stdout.flush()
+    """Prints the trace of a run."""
+    if sys.stderr.isatty():
+        _show_progress()
+    status, trace, said, place, _ = _outcome(_read(machine), _read(events))
+    try:
+        sys.stdout.buffer.write(trace)
+        sys.stdout.flush()
+    except OSError:
+        raise _Told("execsim: write failed", 4) from None
     if said:
-        print(said, file=sys.stderr)
+        print(*filter(None, (said, place)), sep="\n", file=sys.stderr)
     return status
 
 
@@ -142,7 +160,7 @@ def _stored_runs(project):
     with tarfile.open(os.path.join(data, "real-exec", "recordings.tar.xz")) as archive:
         texts = {it.name: archive.extractfile(it).read() for it in archive if it.isfile()}
     for path in sorted(texts):
-        stem, dot, end = path.rpartition(".")
+        stem, _, end = path.rpartition(".")
         if end == "trace":
             machine, events = texts[stem + ".toml"], texts[stem + ".events"]
             yield f"recordings/{stem} (a real exec)", machine, events, None, texts[path], ""
@@ -155,39 +173,37 @@ def _difference(got, wanted):
         return f"status {status} {said}, and stored is {wanted_status} {wanted_said}"
     if said != wanted_said:
         return f"{said!r}, and stored is {wanted_said!r}"
-    if trace != wanted_trace:
-        short = min(len(trace), len(wanted_trace))
-        at = next((it for it in range(short) if trace[it] != wanted_trace[it]), short)
-        start = trace.rfind(b"\n", 0, at) + 1
-        lines = [(it[start:].split(b"\n") + [b""])[0].decode(errors="replace") for it in (trace, wanted_trace)]
-        return f"byte {at + 1}, in line {trace.count(10, 0, at) + 1}: {lines[0]!r}, and stored is {lines[1]!r}"
-    return ""
+    if trace == wanted_trace:
+        return ""
+    short = min(len(trace), len(wanted_trace))
+    at = next((it for it in range(short) if trace[it] != wanted_trace[it]), short)
+    start = trace.rfind(b"\n", 0, at) + 1
+    lines = [it[start:].partition(b"\n")[0].decode(errors="replace") for it in (trace, wanted_trace)]
+    return f"byte {at + 1}, in line {trace.count(10, 0, at) + 1}: {lines[0]!r}, and stored is {lines[1]!r}"
 
 
-def _check(project, first=False, seconds=0, part="0/1", only=""):
+def _check(project, first, seconds, part, only):
     """Runs all that is stored, or each Nth of it, or the runs of some names. Laws are asked of each too, unless the
     first is sought that differs."""
-    counts, wrong, begun = [0, 0], 0, time.monotonic()
+    counts, wrong, begun, (place, parts) = [0, 0], 0, time.monotonic(), map(int, part.split("/"))
     if not first:
         _check_lines()
-    place, parts = map(int, part.split("/"))
     runs = [it for it in _stored_runs(project) if it[0].startswith(tuple(only.split()) or "")]
     if first:  # the first ones of each table before others, and long ones last
         runs.sort(key=lambda it: (len(it[1]) + len(it[4]) > 10_000, it[0].partition("/")[2]))
     for name, machine, events, status, trace, said in runs[place::parts]:
         try:
-            *got, whole = _outcome(machine, events)
+            *got, _, whole = _outcome(machine, events)
             told = _difference(got, (status, trace, said)) or (_broken_law(*whole) if whole and not first else "")
-        except Exception as why:  # a mutant may break anything
+        except Exception as why:
             told = f"{type(why).__name__}: {why}"
-        counts[name.startswith("recording")] += 1
+        counts[name.startswith("recordings/")] += 1
+        wrong += bool(told)
         if told:
-            wrong += 1
-            if wrong <= 20:
-                print(f"{name}: {told}", flush=True)
+            print(f"{name}: {told}", flush=True)
             if first:
                 return 1
-        if sys.stderr.isatty() and sum(counts) % 50 == 0:
+        if sys.stderr.isatty():
             print(f"\r{sum(counts)} runs", end="\r", file=sys.stderr, flush=True)
         if seconds and time.process_time() > seconds:
             break
@@ -198,171 +214,274 @@ def _check(project, first=False, seconds=0, part="0/1", only=""):
 
 def _check_lines():
     """From now on each line that is read has to be in the relation with what it is said to say."""
-    name = LAWS["says"].__name__
-    says, asked = LAWS["says"], set()
+    inner, asked = line_meaning, set()
 
-    def _checked(line):
-        found = says(line)
+    def checked(line):
+        found = inner(line)
         if found is not None and tuple(line) not in asked:
             asked.add(tuple(line))
-            if not LAWS["Says"](LAWS["fields"](line), found.value):
+            if not Says(fields(line), found.value):
                 raise NoCase(f"{bytes(line)} does not say {found.value}")
         return found
 
-    globals()[name] = _checked
+    globals()["line_meaning"] = checked
 
 
 def _broken_law(file, script, done):
     """The law of every run that a run breaks, if it breaks one."""
-    law, memory = LAWS, done.state.memory
+    memory = done.state.memory
     addresses = {getattr(it, it.__slots__[0]) for it in done.marks} | {it[0] for it in memory.heap}
     for it in addresses if len(done.marks) <= 300 else ():  # (what these compute takes long for many marks)
-        if not law["IsInOrder"]([], law["turns_at_port"](it, done.marks), law["messages_of"](it, memory.heap)):
+        if not IsInOrder([], turns_at_port(it, done.marks), messages_of(it, memory.heap)):
             return f"the messages of port {it} are out of order"
-        if not law["IsInOrder"]([], law["turns_at_semaphore"](it, done.marks), law["waiters_of"](it, memory.heap)):
+        if not IsInOrder([], turns_at_semaphore(it, done.marks), waiters_of(it, memory.heap)):
             return f"the tasks that wait for semaphore {it} are out of order"
-    if not law["CountsTicks"](file, script, done.state):
+    if not CountsTicks(file, script, done.state):
         return "the clock does not count the ticks"
-    if not law["AreDisjoint"](memory.regions, law["extents"](memory.heap)):
+    if not AreDisjoint(memory.regions, extents(memory.heap)):
         return "two blocks meet, or one lies in no region"
-    if not done.state.stopped and not law["IsSettled"](done.state):
+    if not done.state.stopped and not IsSettled(done.state):
         return "a task of higher priority is ready, or a request is left"
-    return "a line is longer than 160 bytes" if any(len(PRINTED([it])) > 160 for it in done.lines[:1000]) else ""
+    return "a line is longer than 160 bytes" if any(len(printed([it])) > 160 for it in done.lines[:1000]) else ""
 
 
-# ---- --show and --why
+# ---- --show
 
-SOURCE = open(__file__, encoding="utf-8").read().split("\n")
-
-
-def _text_of(name):
-    """A definition, with the comment above it."""
-    head = re.compile(rf"(def|class) {name}\(|{name} = ")
-    start = next((number for number, it in enumerate(SOURCE) if head.match(it)), None)
-    if start is None:
-        return None
-    end = start + 1
-    while SOURCE[end].startswith((" ", ")")) or not SOURCE[end] and SOURCE[end + 1].startswith(" "):
-        end += 1
-    while start and SOURCE[start - 1].startswith(("#", "@")):
-        start -= 1
-    return SOURCE[start:end]
+@cache
+def _texts():
+    """Each definition by its name: the number of its line, and its lines with the comment above it."""
+    found, source = {}, pathlib.Path(__file__).read_text(encoding="utf-8").split("\n")
+    for number, line in enumerate(source[:source.index("# How this file is run")]):
+        if head := re.match(r"(?:def|class) (\w+)\(|(\w+) = ", line):
+            start, end = number, number + 1
+            while source[end].startswith((" ", ")")) or not source[end] and source[end + 1].startswith(" "):
+                end += 1
+            while source[start - 1].startswith(("#", "@")):
+                start -= 1
+            found[head[1] or head[2]] = number + 1, source[start:end]
+    return found
 
 
-def _uses_of(name):
-    text = "\n".join(it for it in _text_of(name) if not it.lstrip().startswith("#"))
-    words = re.findall(r"(?<![.\w'])[A-Za-z_]\w*", text)
-    return [it for it in dict.fromkeys(words) if it != name and it in OWN]
+def _is_action(name):
+    """Whether a name is that of a definition which is called: its comment says where the original stands."""
+    return name in _texts() and any(re.search(r"\[.*:\d+\]$", it) for it in _texts()[name][1]) and hasattr(globals()[name], "__name__") and not isinstance(globals()[name], type)
+
+
+def _uses(lines):
+    """The definitions that some lines name, in the order in which they do."""
+    code = "\n".join(it for it in lines if not it.lstrip().startswith("#"))
+    return [it for it in dict.fromkeys(re.findall(r"(?<![.\w'])[A-Za-z_]\w*", code)) if it in _texts()]
+
+
+def _users(name):
+    return [it for it, (_, lines) in _texts().items() if it != name and name in _uses(lines)]
+
+
+def _rows(name):
+    """The rows of tables for a constructor of that name: (the definition that a row is of, its lines)."""
+    row = re.compile(rf"( +)(case .*\b[A-Z]\w*\.{re.escape(name)}\b.*|{re.escape(name)}='.*)")
+    for owner, (_, lines) in _texts().items():
+        for number, line in enumerate(lines):
+            if found := row.fullmatch(line):
+                start, end = number, number + 1
+                while lines[start - 1].startswith(found[1] + "#"):
+                    start -= 1
+                while end < len(lines) and lines[end].startswith(found[1] + " "):
+                    end += 1
+                yield owner, lines[start:end]
+
+
+def _serving(rows):
+    """What serves some rows alone: all that uses it is among these, and is reached from there."""
+    owners, found, open_ = {it for it, _ in rows}, [], [it for _, lines in rows for it in _uses(lines)]
+    for it in open_:  # which grows on the way
+        if it not in found and _is_action(it) and set(_users(it)) <= owners | set(found):
+            found.append(it)
+            open_ += _uses(_texts()[it][1])
+    return found
 
 
 def _show(name, project):
-    text = _text_of(name)
-    if text is None:
-        near = difflib.get_close_matches(name, OWN, 5)
-        print(f"no definition is named {name}{': see ' + ', '.join(near) if near else ''}", file=sys.stderr)
-        return 2
-    print(*text, sep="\n")
-    print(f"\nIt uses: {', '.join(_uses_of(name)) or 'nothing'}")
-    print(f"It is used by: {', '.join(it for it in OWN if _text_of(it) and name in _uses_of(it)) or 'nothing'}")
+    """A definition, or the rows of one of Exec's words and what serves these alone; what it uses; and a run."""
+    rows = list(_rows(name)) if name not in _texts() else []
+    if not rows and name not in _texts():
+        return _propose(name)
+    for owner, lines in rows:
+        print(f"# in {owner}, line {_texts()[owner][0]}", *lines, "", sep="\n")
+    shown = _serving(rows) if rows else [name]
+    for it in shown:
+        print(*_texts()[it][1], "", sep="\n")
+    uses = dict.fromkeys(it for lines in [*(it for _, it in rows), *(_texts()[it][1] for it in shown)] for it in _uses(lines))
+    print(f"It uses: {', '.join(it for it in uses if it not in shown) or 'nothing'}")
+    if not rows:
+        print(f"It is used by: {', '.join(_users(name)) or 'nothing'}")
+    if rows or _is_action(name):
+        _show_run(name, project)
+    return 0
+
+
+def _propose(name):
+    """Says which names are near to one that is not known, and which definitions speak of it."""
+    texts = {it: "\n".join(lines) for it, (_, lines) in _texts().items()}
+    known = {it.lower(): it for text in texts.values() for it in re.findall(r"(?m)^    (\w+)='", text)} | {it.lower(): it for it in texts}
+    near = [known[it] for it in difflib.get_close_matches(name.lower(), known, 5, 0.5)]
+    speaking = [it for it, text in texts.items() if re.search(rf"(?m)^ *#.*\b{re.escape(name)}\b", text)]
+    said = [f"near it are {', '.join(near)}"] * bool(near) + [f"of it speak {', '.join(speaking[:20])}"] * bool(speaking)
+    raise _Told(": ".join([f"no definition and no word is named {name}", "; ".join(said)][:1 + bool(said)]), 2)
+
+
+def _show_run(name, project):
+    """Prints a stored run that uses a definition or a word."""
     if not os.path.isdir(os.path.join(project, "crates", "runs", "data")):
         print(f"A run that shows it is looked for in PROJECT/crates/runs/data: {project} has none")
-        return 0
-    if not isinstance(globals()[name], type) and hasattr(globals()[name], "__code__"):
-        calls = []
+        return
+    calls, word = [], rf"\b{name}\b".encode()
+    if _is_action(name):
         _watch(name, lambda: calls.append(1))
-        for run, machine, events, *_ in _stored_runs(project):
+    for title, machine, events, status, *_ in _stored_runs(project):
+        if _is_action(name):
             _outcome(machine, events)
-            if calls:
-                print(f"A run that uses it: {run}\n")
-                print(machine.decode(errors="replace"), events.decode(errors="replace"), sep="\n")
-                return 0
-        print("No stored run uses it.")
-    return 0
+        if calls or name not in _texts() and status == 0 and re.search(word, machine):
+            print(f"A run that uses it: {title}\n", machine.decode(errors="replace"), events.decode(errors="replace"), sep="\n")
+            return
+    print("No stored run uses it.")
+
+
+# ---- --why
+
+class _Call:
+    """A call of a definition: what it gave, and the calls that it made and that have ended, the last one of each name."""
+
+    def __init__(self, name):
+        self.name, self.value, self.asked = name, None, {}
+
+
+class _Made(Exception):
+    """The line that is asked for was made: the calls that are at work, outermost first."""
+
+
+def _at_each_line(act):
+    """From now on, what is done as a line is made: as an outcome has it alone."""
+    begin = Outcome.__init__
+
+    def watched(outcome, *arguments, **named):
+        begin(outcome, *arguments, **named)
+        if len(outcome.lines) == 1:
+            act(outcome.lines[0])
+
+    Outcome.__init__ = watched
+
+
+def _calls_for(number, file, script, actions):
+    """The calls that are at work as a line of the trace is made, and the line."""
+    made, stack, place = [], [_Call("")], None
+    _at_each_line(made.append)
+    lines = run(file, script).lines
+    line = lines[number - 1]
+    before = sum(it is line for it in lines[:number - 1])  # a line without a name is one value each time
+    place = [it for it, other in enumerate(made) if other is line][before]
+    made.clear()
+
+    def act(_):
+        if len(made) == place + 1:
+            sys.setprofile(None)
+            raise _Made
+
+    def profile(frame, event, value):
+        name = frame.f_code.co_name
+        if event in ("call", "return") and name in actions and frame.f_globals is globals():
+            if event == "call":
+                stack.append(_Call(name))
+            else:
+                ended = stack.pop()
+                ended.value = value
+                stack[-1].asked.pop(name, None)
+                stack[-1].asked[name] = ended
+
+    _at_each_line(act)
+    sys.setprofile(profile)
+    try:
+        run(file, script)
+    except _Made:
+        return stack[1:], line
 
 
 def _why(number, machine, events):
-    """A line of the trace, and the definitions that made it, outermost first: those at work as the line was made."""
-    machine, events = _read(machine), _read(events)
-    status, trace, said, whole = _outcome(machine, events)
-    done = whole[2] if whole else None
-    if said or not 1 <= number <= len(done.lines):
-        print(said or f"the trace has {len(done.lines)} lines", file=sys.stderr)
-        return status if said else 2
-    made = []
+    """A line of the trace, and the definitions that made it, outermost first, each once: those that are at work as it is
+    made, and beneath each those that it asked, as far as they decide and make no state."""
+    status, _, said, place, whole = _outcome(_read(machine), _read(events))
+    if said:
+        raise _Told("\n".join(filter(None, (said, place))), status)
+    file, script, done = whole
+    if not 1 <= number <= len(done.lines):
+        raise _Told(f"line {number} is asked for, and the trace has {len(done.lines)} lines", 2)
+    state = done.state
+    states, shown = {type(it) for it in (done, state, state.schedule, state.memory, state.scripts, state.pending)}, set(COMBINATORS)
+    calls, line = _calls_for(number, file, script, {it for it in _texts() if _is_action(it)})
+    print(bytes(printed([line])).decode(errors="replace"), end="")
 
-    def _at_work():
-        frame, names = sys._getframe(2), []
-        while frame:
-            names += [frame.f_code.co_name] if frame.f_globals is globals() and frame.f_code.co_name in OWN else []
-            frame = frame.f_back
-        return names[::-1]
+    def show(call, deep):
+        if call.name not in shown:
+            shown.add(call.name)
+            said = " ".join(it[2:] for it in _texts()[call.name][1] if it.startswith("# ")).partition(f"{call.name} : ")[0]
+            head = f"{'  ' * deep}{call.name}  ".ljust(34)
+            print(textwrap.fill(said, 120, initial_indent=head, subsequent_indent=" " * 34) if said else head)
+        for it in call.asked.values() if deep < 3 else ():
+            if type(it.value) not in states:
+                show(it, deep + 1)
 
-    # a line is made as its class is called; of one that is always the same value, as an outcome has it alone
-    def watch_class(kind, line_of):
-        begin = kind.__init__
-
-        def _watched(whole, *arguments, **named):
-            begin(whole, *arguments, **named)
-            if (line := line_of(whole)) is not None:
-                made.append((line, _at_work()))
-
-        kind.__init__ = _watched
-
-    def lone_value(outcome):
-        return outcome.lines[0] if len(outcome.lines) == 1 and not type(outcome.lines[0]).__slots__ else None
-
-    for kind in {type(it) for it in done.lines if type(it).__slots__}:
-        watch_class(kind, lambda line: line)
-    watch_class(type(done), lone_value)
-    lines = RUN(MACHINE_OF(machine).value, EVENTS_OF(list(events)).value).lines
-    line = lines[number - 1]
-    print(bytes(PRINTED([line])).decode(errors="replace"), end="")
-    before = sum(it is line for it in lines[:number - 1])
-    names = ([names for it, names in made if it is line] + [[]] * number)[before if not type(line).__slots__ else 0]
-    for it in names:
-        said = " ".join(part[2:] for part in _text_of(it) if part.startswith("# "))
-        said = re.sub(r" *[^ ]+ : [^.]*\[[^\[]*$", "", said)
-        print(f"  {it:24} {textwrap.shorten(said, 120)}")
+    for it in calls:
+        show(it, 1)
     return 0
 
 
-USAGE = """usage: definitions.py MACHINE EVENTS            the trace of a run, as execsim prints it
-       definitions.py --check PROJECT           all stored runs of the project, and the recordings of a real exec
-       definitions.py --show NAME [PROJECT]     a definition, what it uses, and a run that uses it
-       definitions.py --why N MACHINE EVENTS    line N of the trace, and the definitions that made it"""
+def _words():
+    """What the command line asks for."""
+    parser = argparse.ArgumentParser("definitions.py", "definitions.py [--why N] MACHINE EVENTS | --show NAME [PROJECT] | --check PROJECT")
+    parser.add_argument("texts", nargs="*", help="MACHINE EVENTS: the trace of a run, as execsim prints it")
+    parser.add_argument("--why", type=int, metavar="N", help="line N of the trace, and the definitions that made and decided it")
+    parser.add_argument("--show", metavar="NAME", help="a definition, or what is done for a word such as DoIO; and a run")
+    parser.add_argument("--check", metavar="PROJECT", help="all stored runs of the project, and the recordings of a real exec")
+    parser.add_argument("--first", action="store_true", help="end at the first that differs, and ask no laws")
+    parser.add_argument("--seconds", type=int, default=0, help="end after so many seconds of the processor")
+    parser.add_argument("--part", default="0/1", help="K/N: each Nth run from K on")
+    parser.add_argument("--only", default="", help="the runs whose names begin so")
+    given = parser.parse_args()
+    place, _, parts = given.part.partition("/")
+    if not (place.isdecimal() and parts.isdecimal() and int(place) < int(parts)):
+        parser.error(f"--part {given.part}: K/N is wanted, with K from 0 and below N")
+    if len(given.texts) not in ((0, 1) if given.show else (0,) if given.check else (2,)):
+        parser.error(f"{len(given.texts)} files are named")
+    return given
 
 
-def _main(words):
-    here = os.path.dirname(os.path.dirname(os.path.abspath(__file__)))
-    match words:
-        case ["--check", project, *rest] if os.path.isdir(os.path.join(project, "crates", "runs", "data")):
-            kinds = (("--seconds", int, 0), ("--part", str, "0/1"), ("--only", str, ""))
-            options = [kind(rest[rest.index(word) + 1]) if word in rest else plain for word, kind, plain in kinds]
-            return _check(project, "--first" in rest, *options)
-        case ["--check", project]:
-            raise _Unread(f"execsim: {project} has no folder crates/runs/data")
-        case ["--show", name, *rest]:
-            return _show(name, rest[0] if rest else here)
-        case ["--why", number, machine, events] if number.isdecimal():
-            return _why(int(number), machine, events)
-        case ["--help" | "-h"]:
-            print(USAGE)
-            return 0
-        case [machine, events] if not machine.startswith("-"):
-            return _run_files(machine, events)
-    print(USAGE, file=sys.stderr)
-    return 2
+def _main():
+    """Does what the command line asks for."""
+    given = _words()
+    if given.check:
+        if not os.path.isdir(os.path.join(given.check, "crates", "runs", "data")):
+            raise _Told(f"execsim: {given.check} has no folder crates/runs/data", 4)
+        return _check(given.check, given.first, given.seconds, given.part, given.only)
+    if given.show:
+        return _show(given.show, *(given.texts or [os.path.dirname(os.path.dirname(os.path.abspath(__file__)))]))
+    return _run_files(*given.texts) if given.why is None else _why(given.why, *given.texts)
 
 
 def _begin():
-    """Runs in a thread whose calls may go deep. Ctrl-C ends it."""
+    """Runs in a thread whose calls may go deep. Ctrl-C ends it, and a pipe that is closed at its other end."""
     ended = [4]
 
-    def _inside():
+    def inside():
         try:
-            ended[0] = _main(sys.argv[1:])
-        except _Unread as why:
-            print(why, file=sys.stderr)
+            ended[0] = _main()
+            sys.stdout.flush()
+        except SystemExit as why:
+            ended[0] = why.code
+        except _Told as why:
+            ended[0] = why.args[1]
+            print(why.args[0], file=sys.stderr)
+        except BrokenPipeError:
+            pass
         except OSError:
             print("execsim: write failed", file=sys.stderr)
         except (MemoryError, RecursionError):
@@ -370,7 +489,7 @@ def _begin():
 
     sys.setrecursionlimit(10_000_000)
     threading.stack_size(1 << 29)
-    thread = threading.Thread(target=_inside, daemon=True)
+    thread = threading.Thread(target=inside, daemon=True)
     thread.start()
     try:
         while thread.is_alive():
@@ -378,7 +497,6 @@ def _begin():
     except KeyboardInterrupt:
         print("execsim: ended before the run did", file=sys.stderr)
         os._exit(130)
-    sys.stdout.flush()
     os._exit(ended[0])
 
 

@@ -1,8 +1,6 @@
 from dataclasses import make_dataclass
 from functools import cache, partial, wraps
 
-IMPORTED = set(globals())
-
 
 # What the records and the kinds of data of the definitions are in Python.
 class NoCase(Exception):
