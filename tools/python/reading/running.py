@@ -1,6 +1,7 @@
 # Nothing above is changed by this, but that calls are watched for --check, --show and --why.
 import argparse
 import difflib
+import itertools
 import os
 import pathlib
 import re
@@ -21,23 +22,22 @@ class _Told(Exception):
 
 # ---- the texts
 
-def _data_of(value):
-    """The data of a TOML value."""
+def _data_of(value, deep=0):
+    """The data of a TOML value, within the limits of the project's reader."""
+    if deep > 80 and isinstance(value, (list, dict)) or isinstance(value, int) and not -2**63 <= value < 2**63:
+        raise ValueError("a number or a depth is past the limits")
     match value:
         case bool(): return Data.boolean(value)
         case int(): return Data.integer(value)
         case float(): return Data.float_(value)
         case str(): return Data.string(codes(value))
         case list():
-            return Data.array(reduce(lambda rest, it: Items.item(_data_of(it), rest), reversed(value), Items.no_items))
-        case dict(): return Data.table(_members_of(value))
+            items = [_data_of(it, deep + 1) for it in value]
+            return Data.array(reduce(lambda rest, it: Items.item(it, rest), reversed(items), Items.no_items))
+        case dict():
+            pairs = [(codes(it), _data_of(value[it], deep + 1)) for it in sorted(value, key=str.encode, reverse=True)]
+            return Data.table(reduce(lambda rest, it: Members.member(*it, rest), pairs, Members.no_members))
     return Data.datetime(value)
-
-
-def _members_of(table):
-    """The members of a TOML table, in the order of their keys."""
-    keys = sorted(table, key=str.encode, reverse=True)
-    return reduce(lambda members, it: Members.member(codes(it), _data_of(table[it]), members), keys, Members.no_members)
 
 
 def _float_of(digits):
@@ -48,48 +48,39 @@ def _float_of(digits):
     return number
 
 
-def _is_within(value, deep=0):
-    """Whether a value keeps the limits of the project's reader."""
-    if isinstance(value, (dict, list)):
-        items = value.values() if isinstance(value, dict) else value
-        return deep <= 80 and all(_is_within(it, deep + 1) for it in items)
-    return not isinstance(value, int) or -2**63 <= value < 2**63
-
-
 def _tree_of(text):
     """The tree of the bytes of a machine file, or none, and why there is none."""
     try:
-        tree = tomllib.loads(bytes(text).removeprefix(b"\xef\xbb\xbf").decode(), parse_float=_float_of)
+        tree = tomllib.loads(text.removeprefix(b"\xef\xbb\xbf").decode(), parse_float=_float_of)
+        return Some(_data_of(tree).a0), ""
     except (ValueError, RecursionError) as why:
         return None, str(why)
-    return (Some(_members_of(tree)), "") if _is_within(tree) else (None, "a number or a depth past the limits")
 
 
 def _place_of(place):
     """Where a fault of a machine file is."""
-    def table(item): return "the top table" if item is TablePlace.Top else f"{name(item.a0)} {item.a1 + 1}"
     def name(key): return re.sub(r"(?<=[a-z])(?=[A-Z])", "_", type(key).__name__).lower()
+    def item(it): return "the top table" if it is TablePlace.Top else f"{name(it.a0)} {it.a1 + 1}"
     match place:
         case Place.Line(it): return f"line {it.line + 1} of the code of {name(it.owner)} {it.item + 1}"
-        case Place.Tree(TreePlace.UnknownKey(it)): return f"a key of {table(it)}"
-        case Place.Tree(TreePlace.Key(it, key)): return f"key {name(key)} of {table(it)}"
+        case Place.Tree(TreePlace.UnknownKey(it)): return f"a key of {item(it)}"
+        case Place.Tree(TreePlace.Key(it, key)): return f"key {name(key)} of {item(it)}"
         case Place.Tree(TreePlace.Array(array)): return f"array {name(array)}"
-        case Place.Tree(TreePlace.Item(array, item)): return f"{name(array)} {item + 1}"
+        case Place.Tree(it): return item(it)
     return "the file as a whole"
 
 
 def _outcome(machine, events):
     """The status of a run, what is printed, the line of a refusal and its place, and all that came of it."""
     tree, why = _tree_of(machine)
-    file, script = placed_file_of_document(tree), None
+    file = placed_file_of_document(tree)
     if isinstance(file, Err):
         said = f"execsim: machine: {type(file.fault.fault).__name__}"
         return 1, b"", said, f"in the machine: {why or _place_of(file.fault.place)}", None
     script = script_of(list(events))
     if isinstance(script, Err):
-        fault = script.fault
-        said = [type(fault).__name__, *(str(getattr(fault, it)) for it in getattr(fault, "__slots__", ()))]
-        return 1, b"", f"execsim: events: {' '.join(said)}", "", None
+        numbers = [f" {getattr(script.fault, it)}" for it in script.fault.__slots__]
+        return 1, b"", f"execsim: events: {type(script.fault).__name__}{''.join(numbers)}", "", None
     done = run(file.value, script.value)
     return 3 if done.state.stopped else 0, bytes(printed(done.lines)), "", "", (file.value, script.value, done)
 
@@ -112,7 +103,7 @@ def _watch(name, before):
 
     @wraps(inner)
     def watched(*arguments):
-        before()
+        before(*arguments)
         return inner(*arguments)
 
     globals()[name] = watched
@@ -120,13 +111,12 @@ def _watch(name, before):
 
 def _show_progress():
     """Says on a terminal, once a second, how often the machine has settled."""
-    count, last = 0, time.monotonic() + 1
+    counts, last = itertools.count(1), [time.monotonic()]
 
-    def before():
-        nonlocal count, last
-        count += 1
-        if time.monotonic() >= last + 1:
-            last += 1
+    def before(*_):
+        count, now = next(counts), time.monotonic()
+        if now >= last[0] + 1:
+            last[0] = now
             print(f"\r{count} steps, ticks and requests", end="", file=sys.stderr, flush=True)
 
     _watch("settle", before)
@@ -136,14 +126,14 @@ def _run_files(machine, events):
     """Prints the trace of a run."""
     if sys.stderr.isatty():
         _show_progress()
-    status, trace, said, place, _ = _outcome(_read(machine), _read(events))
+    status, trace, *said, _ = _outcome(_read(machine), _read(events))
     try:
         sys.stdout.buffer.write(trace)
         sys.stdout.flush()
     except OSError:
         raise _Told("execsim: write failed", 4) from None
-    if said:
-        print(*filter(None, (said, place)), sep="\n", file=sys.stderr)
+    if said[0]:
+        raise _Told("\n".join(filter(None, said)), status)
     return status
 
 
@@ -167,19 +157,15 @@ def _stored_runs(project):
 
 
 def _difference(got, wanted):
-    """What differs between an outcome and the stored one."""
-    (status, trace, said), (wanted_status, wanted_trace, wanted_said) = got, wanted
-    if wanted_status is not None and status != wanted_status:
-        return f"status {status} {said}, and stored is {wanted_status} {wanted_said}"
-    if said != wanted_said:
-        return f"{said!r}, and stored is {wanted_said!r}"
-    if trace == wanted_trace:
+    """What differs between an outcome and the stored one: status, trace and refusal."""
+    if wanted[0] not in (None, got[0]) or got[2] != wanted[2]:
+        return f"status {got[0]} {got[2]}, and stored is {wanted[0]} {wanted[2]}"
+    if got[1] == wanted[1]:
         return ""
-    short = min(len(trace), len(wanted_trace))
-    at = next((it for it in range(short) if trace[it] != wanted_trace[it]), short)
-    start = trace.rfind(b"\n", 0, at) + 1
-    lines = [it[start:].partition(b"\n")[0].decode(errors="replace") for it in (trace, wanted_trace)]
-    return f"byte {at + 1}, in line {trace.count(10, 0, at) + 1}: {lines[0]!r}, and stored is {lines[1]!r}"
+    at = len(os.path.commonprefix([got[1], wanted[1]]))
+    start = got[1].rfind(b"\n", 0, at) + 1
+    lines = [it[start:].partition(b"\n")[0].decode(errors="replace") for it in (got[1], wanted[1])]
+    return f"byte {at + 1}, in line {got[1].count(10, 0, at) + 1}: {lines[0]!r}, and stored is {lines[1]!r}"
 
 
 def _check(project, first, seconds, part, only):
@@ -212,16 +198,16 @@ def _check(project, first, seconds, part, only):
     return 1 if wrong or not sum(counts) else 0
 
 
+@cache
 def _check_lines():
     """From now on each line that is read has to be in the relation with what it is said to say."""
-    inner, asked = line_meaning, set()
+    inner = line_meaning
 
+    @kept
     def checked(line):
         found = inner(line)
-        if found is not None and tuple(line) not in asked:
-            asked.add(tuple(line))
-            if not Says(fields(line), found.value):
-                raise NoCase(f"{bytes(line)} does not say {found.value}")
+        if found is not None and not Says(fields(line), found.value):
+            raise NoCase(f"{bytes(line)} does not say {found.value}")
         return found
 
     globals()["line_meaning"] = checked
@@ -263,8 +249,8 @@ def _texts():
 
 
 def _is_action(name):
-    """Whether a name is that of a definition which is called: its comment says where the original stands."""
-    return name in _texts() and any(re.search(r"\[.*:\d+\]$", it) for it in _texts()[name][1]) and hasattr(globals()[name], "__name__") and not isinstance(globals()[name], type)
+    """Whether a name is that of a definition that is called: its comment says where the original stands."""
+    return re.search(r"(?m)^# .*:\d+\]\n(@|def )", "\n".join(_texts()[name][1])) is not None
 
 
 def _uses(lines):
@@ -335,14 +321,15 @@ def _show_run(name, project):
     if not os.path.isdir(os.path.join(project, "crates", "runs", "data")):
         print(f"A run that shows it is looked for in PROJECT/crates/runs/data: {project} has none")
         return
-    calls, word = [], rf"\b{name}\b".encode()
-    if _is_action(name):
-        _watch(name, lambda: calls.append(1))
+    calls, is_called = [], name in _texts()
+    if is_called:
+        _watch(name, lambda *_: calls.append(1))
     for title, machine, events, status, *_ in _stored_runs(project):
-        if _is_action(name):
+        if is_called:
             _outcome(machine, events)
-        if calls or name not in _texts() and status == 0 and re.search(word, machine):
-            print(f"A run that uses it: {title}\n", machine.decode(errors="replace"), events.decode(errors="replace"), sep="\n")
+        if calls or not is_called and status == 0 and re.search(rb"\b%b\b" % name.encode(), machine):
+            texts = [it.decode(errors="replace") for it in (machine, events)]
+            print(f"A run that uses it: {title}\n", *texts, sep="\n")
             return
     print("No stored run uses it.")
 
@@ -357,68 +344,49 @@ class _Call:
 
 
 class _Made(Exception):
-    """The line that is asked for was made: the calls that are at work, outermost first."""
+    """The line that is asked for was made."""
 
 
-def _at_each_line(act):
-    """From now on, what is done as a line is made: as an outcome has it alone."""
-    begin = Outcome.__init__
-
-    def watched(outcome, *arguments, **named):
-        begin(outcome, *arguments, **named)
-        if len(outcome.lines) == 1:
-            act(outcome.lines[0])
-
-    Outcome.__init__ = watched
-
-
-def _calls_for(number, file, script, actions):
-    """The calls that are at work as a line of the trace is made, and the line."""
-    made, stack, place = [], [_Call("")], None
-    _at_each_line(made.append)
-    lines = run(file, script).lines
-    line = lines[number - 1]
-    before = sum(it is line for it in lines[:number - 1])  # a line without a name is one value each time
-    place = [it for it, other in enumerate(made) if other is line][before]
-    made.clear()
-
-    def act(_):
-        if len(made) == place + 1:
-            sys.setprofile(None)
-            raise _Made
+def _calls_for(number, file, script):
+    """The calls that are at work as a line of the trace is made, outermost first."""
+    stack, left = [_Call("")], [number]
+    actions = {it for it in _texts() if _is_action(it)}
 
     def profile(frame, event, value):
         name = frame.f_code.co_name
-        if event in ("call", "return") and name in actions and frame.f_globals is globals():
-            if event == "call":
-                stack.append(_Call(name))
-            else:
-                ended = stack.pop()
-                ended.value = value
-                stack[-1].asked.pop(name, None)
-                stack[-1].asked[name] = ended
+        if event not in ("call", "return") or name not in actions or frame.f_globals is not globals():
+            return
+        if event == "call":
+            stack.append(_Call(name))
+            left[0] -= name == "says"
+            if not left[0]:
+                sys.setprofile(None)
+                raise _Made
+        else:
+            ended = stack.pop()
+            ended.value = value
+            stack[-1].asked.pop(name, None)
+            stack[-1].asked[name] = ended
 
-    _at_each_line(act)
     sys.setprofile(profile)
     try:
         run(file, script)
     except _Made:
-        return stack[1:], line
+        return stack[1:]
 
 
 def _why(number, machine, events):
     """A line of the trace, and the definitions that made it, outermost first, each once: those that are at work as it is
     made, and beneath each those that it asked, as far as they decide and make no state."""
-    status, _, said, place, whole = _outcome(_read(machine), _read(events))
-    if said:
-        raise _Told("\n".join(filter(None, (said, place))), status)
+    status, _, *said, whole = _outcome(_read(machine), _read(events))
+    if said[0]:
+        raise _Told("\n".join(filter(None, said)), status)
     file, script, done = whole
     if not 1 <= number <= len(done.lines):
         raise _Told(f"line {number} is asked for, and the trace has {len(done.lines)} lines", 2)
-    state = done.state
-    states, shown = {type(it) for it in (done, state, state.schedule, state.memory, state.scripts, state.pending)}, set(COMBINATORS)
-    calls, line = _calls_for(number, file, script, {it for it in _texts() if _is_action(it)})
-    print(bytes(printed([line])).decode(errors="replace"), end="")
+    print(bytes(printed(done.lines[number - 1:number])).decode(errors="replace"), end="")
+    state, shown = done.state, set(COMBINATORS)
+    states = {type(it) for it in (done, state, state.schedule, state.memory, state.scripts, state.pending)}
 
     def show(call, deep):
         if call.name not in shown:
@@ -430,10 +398,12 @@ def _why(number, machine, events):
             if type(it.value) not in states:
                 show(it, deep + 1)
 
-    for it in calls:
+    for it in _calls_for(number, file, script):
         show(it, 1)
     return 0
 
+
+# ---- the command line
 
 def _words():
     """What the command line asks for."""
