@@ -7,16 +7,15 @@ from typing import Any
 
 
 class Refused(Exception):
-    """What cannot be read or written: the file and the line, the definition, and what stands there."""
-
-
-class Placed(Refused):
-    """A refusal that says its file and line."""
+    """What cannot be read or written, and why: with its file and line, if it has a place."""
+    is_placed = False
 
 
 def refusal(place, what):
     """A refusal of what has a module and a line."""
-    return Placed(f"{place.module.place}:{place.line}: {what}")
+    found = Refused(f"{place.module.place}:{place.line}: {what}")
+    found.is_placed = True
+    return found
 
 
 # ---- the tree
@@ -84,13 +83,12 @@ def substituted(tree, values):
 
 # ---- words and expressions
 
-WORD = re.compile(r'\s+|"(?:\\.|[^"\\])*"|[(){};,λ"]|\.(?=[\s(){};,]|$)|[^\s(){};,"]+?(?=\.?(?:[\s(){};,"]|$))')
-LEVELS = {">>=": (10, "l"), "∘": (9, "r"), "^": (9, "r"), "*": (8, "l"), "*ℤ": (8, "l"), "/": (8, "l"), "%": (8, "l"),
-          "+": (7, "l"), "-": (7, "l"), "+ℤ": (7, "l"), "-ℤ": (7, "l"), "∷": (5, "r"), "++": (5, "r"), "==": (4, "n"),
-          "≤": (4, "n"), "<": (4, "n"), "<ℤ": (4, "n"), "≤ℤ": (4, "n"), "&&": (3, "r"), "||": (2, "r"), "≡": (1, "n"),
-          "≢": (1, "n"), "×": (0, "r"), "⊎": (0, "r"), "↔": (0, "r"), "→": (-1, "r")}
+WORD = re.compile(r'(\s+)|"(?:\\.|[^"\\])*"|[(){};,λ"]|\.(?=[\s(){};,]|$)|[^\s(){};,"]+?(?=\.?(?:[\s(){};,"]|$))')
+SIGNS = {10: ">>=", 9: "∘ ^", 8: "* *ℤ / %", 7: "+ - +ℤ -ℤ", 5: "∷ ++", 4: "== ≤ < <ℤ ≤ℤ", 3: "&&", 2: "||", 1: "≡ ≢", 0: "× ⊎ ↔", -1: "→"}
+LEVELS = {sign: level for level, signs in SIGNS.items() for sign in signs.split()}
+TO_THE_RIGHT = (9, 5, 3, 2, 0, -1)  # levels at which the second of two signs is taken first
 NUMERAL = re.compile(r"\d+|0x[0-9a-fA-F]+")
-ENDS = {"|", "]", "↦", "as", "[", ")", "}", ";", ",", "then", "else", "in", "=", ".", "where", ":", None, *LEVELS}
+ENDS = {"|", "]", "↦", "as", "[", ")", "}", ";", ",", "then", "else", "in", "=", ".", "where", ":", '"', None, *LEVELS}
 
 
 class Parser:
@@ -100,10 +98,9 @@ class Parser:
     def __init__(self, text, module, line):
         self.module, self.words, self.at = module, [], 0
         for match in WORD.finditer(text):
-            start, word = match.start(), match[0]
-            if not word.isspace():
-                self.words.append((word, start > 0 and text[start - 1] not in " \t\n({,;", line))
-            line += word.count("\n")
+            if not match[1]:
+                self.words.append((match[0], text[:match.start()][-1:] not in tuple(" \t\n({,;") + ("",), line))
+            line += match[0].count("\n")
         self.words.append((None, False, line))
 
     def peek(self):
@@ -112,14 +109,14 @@ class Parser:
     def make(self, kind, *fields, line=None):
         return kind(*fields, self.module, line or self.words[self.at][2])
 
-    def refuse(self, what):
-        raise refusal(self.make(Name, ""), what)
-
-    def next(self):
-        if self.peek() is None:
-            self.refuse("the text ends too early")
+    def next(self, wanted=None):
+        """The next word, which has to be the one that is wanted."""
+        word = self.peek()
+        if word is None or wanted not in (None, word):
+            near = " ".join(str(it) for it, _, _ in self.words[max(0, self.at - 5):self.at + 5])
+            raise refusal(self.make(Name, ""), f"{wanted or 'a word'!r} is expected where {word!r} stands: {near}")
         self.at += 1
-        return self.words[self.at - 1][0]
+        return word
 
     def has(self, word):
         """Whether a word is next, which is then passed."""
@@ -128,35 +125,29 @@ class Parser:
 
     def after(self, word):
         """The expression after a word."""
-        self.eat(word)
+        self.next(word)
         return self.expression()
-
-    def eat(self, word):
-        if not self.has(word):
-            near = " ".join(str(it) for it, _, _ in self.words[max(0, self.at - 5):self.at + 5])
-            self.refuse(f"{word!r} is expected where {self.peek()!r} stands: {near}")
 
     def whole(self):
         """The expression that all the words are."""
         found = self.expression()
         if self.peek() is not None:
-            self.refuse(f"{self.peek()!r} stands where the expression has ended")
+            raise refusal(self.make(Name, ""), f"{self.peek()!r} stands where the expression has ended")
         return found
 
     def expression(self, level=-2):
         left = self.application()
-        while LEVELS.get(self.peek(), (-3,))[0] >= level:
+        while LEVELS.get(self.peek(), -3) >= level:
             line, sign = self.words[self.at][2], self.next()
-            own, side = LEVELS[sign]
-            left = self.make(Operator, sign, left, self.expression(own if side == "r" else own + 1), line=line)
+            own = LEVELS[sign]
+            left = self.make(Operator, sign, left, self.expression(own + (own not in TO_THE_RIGHT)), line=line)
         return left
 
     def application(self):
         head, arguments = self.atom(), self.atoms(ENDS)
-        return applied(head, arguments) if arguments else head
+        return self.make(Apply, head, arguments, line=head.line) if arguments else head
 
     def atoms(self, ends):
-        """What stands before one of some words; what is implicit is passed over."""
         found = []
         while self.peek() not in ends:
             found.append(self.atom())
@@ -164,14 +155,14 @@ class Parser:
 
     def atom(self):
         line, word = self.words[self.at][2], self.next()
-        if special := SPECIAL.get(word):
-            found = special(self)
+        if word in SPECIAL:
+            found = SPECIAL[word](self)
         elif word[0] == '"' and len(word) > 1:
             found = self.make(Literal, re.sub(r"\\(.)", lambda it: {"n": "\n"}.get(it[1], it[1]), word[1:-1]))
         elif NUMERAL.fullmatch(word):
             found = self.make(Literal, int(word, 0))
-        elif word in ENDS or word == '"':
-            self.refuse(f"no expression begins with {word!r}")
+        elif word in ENDS:
+            raise refusal(self.make(Name, "", line=line), f"no expression begins with {word!r}")
         else:
             found = self.make(Name, word)
         found.line = line
@@ -180,30 +171,20 @@ class Parser:
         return found
 
     def function(self):
-        parameters, body = [], None
+        parameters = []
         for it in self.atoms("."):
             parameters += [self.make(Typed, [name], it.type) for name in it.names] if isinstance(it, Typed) else [it]
         body = self.after(".")
         more, body = (body.parameters, body.body) if isinstance(body, Lambda) else ([], body)
         return self.make(Lambda, parameters + more, body)
 
-    def let(self):
-        pattern = self.atom()
-        if self.has(":"):
-            self.expression()
-        return self.make(Let, pattern, self.after("="), self.after("in"))
-
-    def condition(self):
-        return self.make(If, self.expression(), self.after("then"), self.after("else"))
-
     def elim(self):
         subject, cases = self.atom(), []
         if self.has("as"):
             self.atom()
-        self.eat("[")
+        self.next("[")
         while not self.has("]"):
-            if cases or self.peek() == "|":
-                self.eat("|")
+            self.has("|")
             cases.append((self.application(), self.after("↦")))
         return self.make(Elim, subject, cases)
 
@@ -218,28 +199,27 @@ class Parser:
         """What is in parentheses: the unit, parameters with their type, a pair, or an expression."""
         if self.has(")"):
             return self.make(Name, "tt")
-        found = self.expression()
-        items = [found]
+        items = [self.expression()]
         while self.has(","):
             items.append(self.expression())
         if self.peek() == ":":
-            type, names = self.after(":"), [it.text for it in [spine(found)[0], *spine(found)[1]] if isinstance(it, Name)]
-            items = [self.make(Typed, names, type)] if len(items) == 1 and len(names) == 1 + len(spine(found)[1]) else items
-        self.eat(")")
+            head, more = spine(items[0])
+            items = [self.make(Typed, [it.text for it in (head, *more)], self.after(":"))]
+        self.next(")")
         return functools.reduce(lambda rest, it: self.make(Operator, ",", it, rest), reversed(items))
 
     def record(self):
         base, fields = None if self.peek() == "{" else self.atom(), []
-        self.eat("{")
+        self.next("{")
         while not self.has("}"):
             fields.append((self.next(), self.after("=")))
-            if self.peek() != "}":
-                self.eat(";")
+            self.peek() == "}" or self.next(";")
         return self.make(Record, base, fields)
 
 
-SPECIAL = {"(": Parser.between, "{": Parser.braces, "record": Parser.record, "λ": Parser.function, "let": Parser.let,
-           "if": Parser.condition, "elim": Parser.elim}
+SPECIAL = {"(": Parser.between, "{": Parser.braces, "record": Parser.record, "λ": Parser.function, "elim": Parser.elim,
+           "let": lambda it: it.make(Let, it.atom(), it.after("="), it.after("in")),
+           "if": lambda it: it.make(If, it.expression(), it.after("then"), it.after("else"))}
 
 
 # ---- a file
@@ -295,7 +275,7 @@ class Definition:
         for item, text in self.items:
             parser = Parser(text, self.module, item.line)
             left = parser.expression()
-            parser.eat("=")
+            parser.next("=")
             patterns = [left.left, left.right] if isinstance(left, Operator) else spine(left)[1]
             found.append((item.comment, patterns, parser.whole()))
         if not found:

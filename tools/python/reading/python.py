@@ -8,16 +8,15 @@ import keyword
 import re
 
 from reading import words
-from reading.language import (NUMERAL, Apply, Definition, Elim, Field, Given, If, Lambda, Let, Literal, Name, Operator, Placed,
-                              Record, Refused, Type, Typed, applied, before_arrow, changed, parts, refusal, spine, substituted)
+from reading.language import (NUMERAL, Apply, Definition, Elim, Field, Given, If, Lambda, Let, Literal, Name, Operator, Record,
+                              Refused, Type, Typed, applied, before_arrow, changed, parts, refusal, spine, substituted)
 from reading.layout import ATOM, WIDTH, Code, chain, choice, comment, negated, statement, within
 from reading.project import Constructor, Library
 
 CONSTANTS = {"true": "True", "false": "False", "zero": "0", "[]": "[]", "None": "None", "tt": "()", "w8": "8", "w16": "16",
-             "w32": "32", "w64": "64"}
+             "w32": "32", "w64": "64", "⊥": "False", "⊤": "True", "Unit": "True"}
 SIGNS = {"+": "+", "*": "*", "++": "+", "==": "==", "&&": "and", "||": "or", "+ℤ": "+", "-ℤ": "-", "*ℤ": "*", "^": "**",
-         "<ℤ": "<"}
-RELATIONS = {"≡": "==", "≢": "!=", "≤": "<=", "<": "<", "≤ℤ": "<=", "<ℤ": "<"}
+         "≡": "==", "≢": "!=", "≤": "<=", "<": "<", "≤ℤ": "<=", "<ℤ": "<", "×": "and", "⊎": "or"}
 CALLS = {"-": "monus({}, {})", "/": "quotient({}, {})", "%": "remainder({}, {})", ">>=": "option_and_then({1}, {0})",
          ",": "({}, {})"}
 DIVISIONS = {"/": "//", "%": "%"}  # by what is above 0
@@ -40,7 +39,8 @@ INLINE = {("not", 1): negated, ("length", 1): "len({})".format, ("pos", 1): itse
           **{(word, 2): functools.partial(chain, sign) for word, sign in INFIX.items()}}
 # What is asked of each item of a list: {0} is what is asked, {1} the item, {2} the list.
 EACH = {"map": "[{0} for {1} in {2}]", "list_any": "any({0} for {1} in {2})", "list_all": "all({0} for {1} in {2})",
-        "sum_by": "sum({0} for {1} in {2})", "filter": "[{1} for {1} in {2} if {0}]"}
+        "sum_by": "sum({0} for {1} in {2})", "filter": "[{1} for {1} in {2} if {0}]", "All": "all({0} for {1} in {2})",
+        "Any": "any({0} for {1} in {2})", "AllPairs": "all({0} for {1} in pairs({2}))"}
 NUMERIC = ("zero", "suc", "pos", "negsuc")
 # No variable has the name of one of these.
 OFTEN = {"Some", "Ok", "Err", "NoCase", "codes", "partial", "replace", "monus", "quotient", "remainder", "option_and_then",
@@ -143,10 +143,8 @@ class Written:
         self.lines, self.indent, self.rests, self.inners = [], 0, {}, 0
         try:
             self.write()
-        except Placed:
-            raise
         except Refused as why:
-            raise refusal(self.at, f"`{entity.name}`: {why}") from None
+            raise why if why.is_placed else refusal(self.at, f"`{entity.name}`: {why}") from None
 
     # ---- names and lines
 
@@ -164,6 +162,16 @@ class Written:
         hides = hides and not self.taken_by(scope.get(source))
         name = self.fresh(source, {it: x for it, x in scope.items() if it != source} if hides else scope)
         return name, {**scope, source: name}
+
+    def bind_all(self, parameters, scope):
+        """The variables of a function: their names, and the scope with them."""
+        if not are_names(parameters):
+            raise Refused("a function of a pattern")
+        names = []
+        for it in parameters:
+            name, scope = self.bind(it, scope)
+            names.append(name)
+        return names, scope
 
     def emit(self, word, value="", end=""):
         self.lines += statement(word, value, self.indent, end)
@@ -189,7 +197,7 @@ class Written:
     def write(self):
         entity, project = self.entity, self.project
         (types, result), name = self.python.parameters(entity), self.python.name(entity)
-        self.result, self.is_statement = result, isinstance(entity, Type) or project.is_type(entity)
+        self.result = result
         texts = [it.text for it in parts(project.trees(entity)) if isinstance(it, Name)]
         self.banned = {name, *OFTEN, *(py(it.name) for it in project.cites(entity) if not project.is_type(it)),
                        *(it for text in texts for it in (text, text + "_") if hasattr(words, it))}
@@ -245,21 +253,17 @@ class Written:
         match [it[1:] for it in self.entity.clauses]:
             case [(first, base), (second, body)] if Name("zero") in first: at = first.index(Name("zero"))
             case _: return False
-        match second[at]:
-            case Apply(Name("suc"), [Name() as below]): variables = [*second[:at], below, *second[at + 1:]]
-            case _: return False
-        own = Name(self.entity.name)
-        call = Apply(own, variables)
-        ways = [it for it in (body, self.inlined(body)) if [x for x in parts(it) if x in (call, own)] == [call, own]]
-        if not ways or not all(isinstance(it, Name) for it in variables):
+        variables, own = [*second[:at], *spine(second[at])[1], *second[at + 1:]], Name(self.entity.name)
+        ways = [it for it in (body, self.inlined(body)) if [x for x in parts(it) if x in (Apply(own, variables), own)][1:] == [own]]
+        if not ways or len(variables) != len(first):
             return False
         scope = {it.text: name for it, name in zip(first, names) if it != Name("zero")}
         so_far = self.fresh("so_far", scope)
         self.emit(f"{so_far} = ", self.value(base, scope))
-        scope = {"=": so_far, **{it.text: name for it, name in zip(variables, names) if it != below}}
-        count, scope = self.bind(below, scope)
-        body = changed(ways[0], lambda it: Given(so_far) if it == call else None)
-        with self.block(f"for {count if below in list(parts(body)) else '_'} in range({names[at]})"):
+        scope = {"=": so_far, **{it.text: name for it, name in zip(variables, names) if it != variables[at]}}
+        count, scope = self.bind(variables[at], scope)
+        body = changed(ways[0], lambda it: Given(so_far) if it == Apply(own, variables) else None)
+        with self.block(f"for {count if variables[at] in list(parts(body)) else '_'} in range({names[at]})"):
             while isinstance(body, Let):
                 body, scope = body.body, self.let(body, scope)
             self.emit(f"{so_far} = ", self.value(body, scope))
@@ -267,12 +271,12 @@ class Written:
         return True
 
     def inlined(self, body):
-        """A body whose head is a definition by one clause, which gets this one but for an argument: what that clause says."""
+        """A body whose head is a definition by one clause: what that clause says."""
         head, arguments = spine(body)
         found = self.find(head)
-        if any(spine(it)[0] == Name(self.entity.name) for it in arguments) and isinstance(found, Definition):
+        if isinstance(found, Definition) and found is not self.entity:
             (_, patterns, inner), *more = found.clauses
-            if found is not self.entity and not more and len(patterns) == len(arguments):
+            if not more and len(patterns) == len(arguments) and are_names(patterns):
                 return substituted(inner, {it.text: x for it, x in zip(patterns, arguments)})
         return body
 
@@ -280,15 +284,11 @@ class Written:
 
     def let(self, tree, scope):
         """Binds what `let` binds: the scope there is then."""
+        if not are_names([tree.pattern]):
+            raise Refused("a pattern of `let` that is no name")
         value = self.value(tree.value, scope)
-        if isinstance(tree.pattern, (Name, Typed)):
-            pattern, scope = self.bind(tree.pattern, scope, hides=False)
-        else:
-            scope, self.guards, self.binds = dict(scope), [], []
-            pattern = self.pattern(tree.pattern, scope)
-            if self.guards or self.binds:
-                raise Refused("a pattern of `let` that is more than a pair")
-        self.emit(f"{pattern} = ", value)
+        name, scope = self.bind(tree.pattern, scope, hides=False)
+        self.emit(f"{name} = ", value)
         return scope
 
     def tail(self, tree, scope):
@@ -305,7 +305,7 @@ class Written:
                 with self.block("if ", self.value(test, scope), may_join=True):
                     self.tail(yes, scope)
                 self.tail(no, scope)
-            case _: self.emit("return ", self.truth(tree, scope) if self.is_statement else self.value(tree, scope))
+            case _: self.emit("return ", self.value(tree, scope))
         return None
 
     def match(self, subjects, cases, scope):
@@ -337,47 +337,16 @@ class Written:
 
     # ---- statements of the definitions as truth values
 
-    def truth(self, tree, scope):
-        """Whether a statement holds, if that can be computed."""
-        match tree:
-            case Typed(_, type): return self.truth(type, scope)
-            case Operator("≡", left, Name("true")): return self.value(left, scope)
-            case Operator("≡", left, Name("false")): return negated(self.value(left, scope))
-            case Operator(sign, left, right) if sign in RELATIONS:
-                return chain(RELATIONS[sign], self.value(left, scope), self.value(right, scope))
-            case Operator("×" | "⊎" as sign, left, right) if not isinstance(left, Typed):
-                return chain("and" if sign == "×" else "or", self.truth(left, scope), self.truth(right, scope))
-            case Operator("→", Typed([name], type), rest): return self.for_all(Name(name), type, rest, scope)
-            case Operator("→", left, right): return chain("or", negated(self.truth(left, scope)), self.truth(right, scope))
-        head, arguments = spine(tree)
-        if isinstance(found := self.find(head), (Definition, Type)):
-            self.rests[found] = None
-            return f"{self.python.name(found)}({', '.join(self.values(arguments, scope))})"
-        match head, arguments:
-            case Name("All" | "Any" | "AllPairs" as word), [holds, items]:
-                items = f"pairs({self.value(items, scope)})" if word == "AllPairs" else within(self.value(items, scope), 1)
-                if not isinstance(holds, Lambda):
-                    names = [Name("one"), Name("other")][:2 if word == "AllPairs" else 1]
-                    holds = Lambda(names, applied(holds, names))
-                names = []
-                for it in holds.parameters:
-                    name, scope = self.bind(it, scope, hides=False)
-                    names.append(name)
-                value = self.truth(holds.body, scope)
-                return f"{'any' if word == 'Any' else 'all'}({value} for {', '.join(names)} in {items})"
-            case Name("⊥" | "Unit" | "⊤" as word), []: return str(word != "⊥")
-        raise Refused("a statement that is not computed")
-
     def for_all(self, variable, type, rest, scope):
         """A statement of all values: of the one that an option has, or of each constructor of a kind of data."""
         shown, inner = self.bind(variable, scope, hides=False)
         match rest:
             case Operator("→", Operator("≡", option, Apply(_, [it])), then) if it == variable:
-                return f"all({self.truth(then, inner)} for {shown} in option_to_list({self.value(option, scope)}))"
+                return f"all({self.value(then, inner)} for {shown} in option_to_list({self.value(option, scope)}))"
         found = self.project.entity(type)
         if isinstance(found, Type) and found.kind == "data" and not any(it[1] for it in found.members):
             values = ", ".join(f"{self.python.name(found)}.{py(it[0])}" for it in found.members)
-            return f"all({self.truth(rest, inner)} for {shown} in [{values}])"
+            return f"all({self.value(rest, inner)} for {shown} in [{values}])"
         raise Refused("a statement of all values of a type")
 
     def truth_of_record(self, scope):
@@ -394,7 +363,7 @@ class Written:
                     start, end = "any(", f" for {before}, {after} in splits({whole}))"
         if names and not start:
             raise Refused("a statement that something is there, which is not computed")
-        holds = functools.reduce(functools.partial(chain, "and"), [self.truth(it, scope) for it in told])
+        holds = functools.reduce(functools.partial(chain, "and"), [self.value(it, scope) for it in told])
         return f"{start}{holds}{end}" if start else holds
 
     # ---- patterns
@@ -453,15 +422,13 @@ class Written:
         if isinstance(tree, Literal) or tree == Name("zero"):
             known = add + (tree.value if isinstance(tree, Literal) else 0)
             return str(-known - 1 if is_negative else known)
-        whole = subject
         if not (subject or "").isidentifier():
-            whole = self.fresh("number", scope)
-            scope["=number"] = whole
-        self.guards.append(f"{whole} < {-add}" if is_negative else f"{whole} > {add - 1}" if add else f"{whole} >= 0")
+            raise Refused("a number by its parts in a pattern of something else")
+        self.guards.append(f"{subject} < {-add}" if is_negative else f"{subject} > {add - 1}" if add else f"{subject} >= 0")
         if tree != Name("_"):
             name = self.variable(tree, scope)
-            self.binds.append((name, f"-{whole} - {add + 1}" if is_negative else f"{whole} - {add}" if add else whole))
-        return "_" if whole == subject else whole
+            self.binds.append((name, f"-{subject} - {add + 1}" if is_negative else f"{subject} - {add}" if add else subject))
+        return "_"
 
     # ---- expressions
 
@@ -500,6 +467,11 @@ class Written:
         own = Name(f"◌{sign}◌", tree.module, tree.line)
         if isinstance(self.find(own), Definition):
             return self.call(own, [tree.left, tree.right], scope)
+        match tree:
+            case Operator("≡", left, Name("true")): return self.value(left, scope)
+            case Operator("≡", left, Name("false")): return negated(self.value(left, scope))
+            case Operator("→", Typed([name], type), rest): return self.for_all(Name(name), type, rest, scope)
+            case Operator("→", left, right): return chain("or", negated(self.value(left, scope)), self.value(right, scope))
         values = self.values([tree.left, tree.right], scope)
         if sign in DIVISIONS and is_above_zero(tree.right) or sign in SIGNS:
             return chain((DIVISIONS | SIGNS)[sign], *values)
@@ -531,7 +503,8 @@ class Written:
             return CONSTANTS[word]
         match found or self.project.meaning(head):
             case Library(): return self.of_library(found, arguments, scope)
-            case Type(): raise Refused(f"the type `{found.name}` stands where a value is expected")
+            case Type() if not self.project.states(found):
+                raise Refused(f"the type `{found.name}` stands where a value is expected")
             case Constructor(type_, name, taken):
                 return self.applied(f"{self.python.name(type_)}.{py(name)}", [it for _, it in taken], arguments, scope)
         self.rests[found] = None
@@ -567,25 +540,16 @@ class Written:
         """What `map` and its like do, as a comprehension."""
         items = within(self.value(items, scope), 1)
         match function:
-            case Lambda([Name() | Typed() as parameter], body) if is_plain(body):
-                shown, inner = self.bind(parameter, scope)
-                value = self.value(body, inner)
+            case Lambda(parameters, body) if is_plain(body):
+                names, inner = self.bind_all(parameters, scope)
+                shown, value = ", ".join(names), self.value(body, inner)
             case _:
                 shown = self.fresh("each", scope)
-                inner = {**scope, "=each": shown}
-                if isinstance(function, Lambda):
-                    value = f"{self.value(function, scope)}({shown})"
-                else:
-                    value = self.value(applied(function, [Given(shown)]), inner)
+                value = self.value(applied(function, [Given(shown)]), {**scope, "=each": shown})
         return EACH[name].format(within(value, 1) if name == "filter" else value, shown, items)
 
     def function(self, parameters, body, scope):
-        names, inner = [], scope
-        for it in parameters:
-            name, inner = self.bind(it if isinstance(it, (Name, Typed)) else Name("_"), inner)
-            names.append(name)
-        if not are_names(parameters):
-            return self.inner(names, lambda: self.match(names, [(parameters, body, [])], scope))
+        names, inner = self.bind_all(parameters, scope)
         if is_plain(body):
             return Code("lambda", f"lambda{' ' if names else ''}{', '.join(names)}: {self.value(body, inner)}")
         return self.inner(names, lambda: self.tail(body, inner))
@@ -619,7 +583,7 @@ def source_of(pattern):
 
 def is_plain(tree):
     """Whether an expression needs no statements of its own."""
-    return not any(isinstance(it, (Let, Elim)) or isinstance(it, Lambda) and not are_names(it.parameters) for it in parts(tree))
+    return not any(isinstance(it, (Let, Elim)) for it in parts(tree))
 
 
 def are_names(patterns):
