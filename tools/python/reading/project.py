@@ -24,19 +24,21 @@ class Constructor:
     arguments: list
 
 
-@dataclasses.dataclass(frozen=True)
+@dataclasses.dataclass(eq=False)
 class RustFile:
-    """Where the code declares types that definitions speak of."""
+    """Where the code declares types that definitions speak of: `below` are the names of its module below the crate."""
     crate: str
     path: pathlib.Path
     place: str
+    below: tuple
+    text: str
     comment = ()
 
 
 LIBRARY = ("std.", "core.")
 DATA = {"ℕ", "ℤ", "Bool", "List", "Option", "Result", "Float", "FinMap", "Ordering", "Char", "Type"}
 RUST = r"(?m)((?:^[ \t]*///[^\n]*\n)*)(?:[ \t]*#\[[^\n]*\n)*pub (enum|struct) {}\b(?:<[^>]*>)? *\{{(?s:(.*?))\n\}}"
-MEMBER = re.compile(r"(?:pub )?(\w+)(?:: (?P<field>.+?)|(?:\((?P<arguments>[^)]*)\))?(?: = \d+)?),?$")
+MEMBER = re.compile(r"((?:[ \t]*///[^\n]*\n)*)[ \t]*(?:pub )?(\w+)(?:: ([^\n]+?)|\(([^)]*)\)| \{([^}]*)\})?(?: = \d+)?,?[ \t]*\n")
 FIELD = re.compile(r"(?m)^(?!\s*//)[^:\n]*: ([^,\n]+)")
 
 
@@ -114,49 +116,36 @@ class Project:
 
     @functools.cache
     def rust_files(self, crate):
-        """The files of the code of a crate, each with its path from there and its text."""
+        """The files of the code of a crate."""
         source = next((it / crate / "src" for it in self.tops if (it / crate / "src").is_dir()), None)
         paths = sorted(source.rglob("*.r[ts]")) if source else []
-        below = [tuple(x for x in it.relative_to(source).with_suffix("").parts if x not in ("lib", "mod")) for it in paths]
-        return [(RustFile(crate, it, self.place(it)), at, it.read_text(encoding="utf-8"))
-                for it, at in zip(paths, below)]
+        return [RustFile(crate, it, self.place(it), tuple(x for x in it.relative_to(source).with_suffix("").parts if x not in ("lib", "mod")),
+                         it.read_text(encoding="utf-8")) for it in paths]
 
     def rust(self, crate, below, name):
         """The type that the code declares: in the file of its module, or else in the first one of its crate that does."""
-        files = (it for it, at, _ in self.rust_files(crate) if below in (None, at) and self.rust_type(it, name))
-        return self.rust_type(file, name) if (file := next(files, None)) else None
+        found = (self.rust_type(it, name) for it in self.rust_files(crate) if below in (None, it.below))
+        return next(filter(None, found), None)
 
     @functools.cache
     def rust_type(self, file, name):
-        text = next(text for it, _, text in self.rust_files(file.crate) if it is file)
-        match = re.search(RUST.format(re.escape(name)), text)
+        """The type of a name that a file of the code declares, if it does."""
+        match = re.search(RUST.format(re.escape(name)), file.text)
         if not match:
             return None
-        above, kind, body = match.groups()
-        comment = [it.strip()[3:].strip() for it in above.strip().split("\n")] if above else []
-        found = Type(file, name, text.count("\n", 0, match.start(2)) + 1, comment, None, "record", [], [])
-        found.kind, said = "record" if kind == "struct" else "data", []
 
-        def type_of(word):
-            word = re.sub(r"^&('\w+ )?", "", word.strip())
+        def type_of(text):
+            word = re.sub(r"^&('\w+ )?", "", text.strip())
             return Name(word if word.isidentifier() else "?", file)
 
-        # fields with names are arguments
-        body = re.sub(r"(\w+) \{([^}]*)\}", lambda it: f"{it[1]}({', '.join(FIELD.findall(it[2]))})", body)
-        for it in filter(None, map(str.strip, body.split("\n"))):
-            if it.startswith("///"):
-                said.append(it[3:].strip())
-                continue
-            if it.startswith("#["):
-                continue
-            member = MEMBER.match(it)
-            if member and (kind == "struct") == bool(member["field"]):
-                words = [x for x in (member["arguments"] or "").split(",") if x.strip()]
-                type = type_of(member["field"]) if kind == "struct" else [("", type_of(x)) for x in words]
-                found.members.append((member[1], type, said))
-            elif not it.startswith("//") and it not in "{}":
-                raise refusal(found, f"`{name}` has a member that is not read: {it}")
-            said = []
+        above, kind, body = match.groups()
+        body, kind = re.sub(r"(?m)^[ \t]*(#\[|//(?!/)).*\n", "", body.lstrip("\n") + "\n"), "record" if kind == "struct" else "data"
+        found = Type(file, name, file.text.count("\n", 0, match.start(2)) + 1, said_above(above), None, kind, [], [])
+        for above, member, field, row, fields in MEMBER.findall(body):  # fields with names are arguments
+            words = FIELD.findall(fields) if fields else filter(str.strip, row.split(","))
+            found.members.append((member, type_of(field) if kind == "record" else [("", type_of(it)) for it in words], said_above(above)))
+        if left := MEMBER.sub("", body).strip():
+            raise refusal(found, f"`{name}` has a member that is not read: {left}")
         return found
 
     # ---- types
@@ -244,3 +233,8 @@ def constructor_of(type, name):
 
 def of_parameter(tree):
     return tree.type if isinstance(tree, Typed) else tree
+
+
+def said_above(text):
+    """The comment that stands above something in the code."""
+    return [it.strip()[3:].strip() for it in text.strip().split("\n") if it.strip()]
