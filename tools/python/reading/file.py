@@ -5,7 +5,7 @@ import re
 import textwrap
 
 from reading.language import Definition, Module, Type
-from reading.layout import WIDTH, comment
+from reading.layout import WIDTH, comment, statement
 from reading.python import Python, py
 
 HERE = pathlib.Path(__file__).parent
@@ -35,10 +35,10 @@ come to this trace:
 
 {trace}
 
-In the types, which stand above the definitions, ℕ are the whole numbers from 0, and ℤ those with a sign: both are Python's
-int, and have no width. A value of a script is a word of 32 bits: what calculates one, as Add and Sub do, says % 2 ** 32.
-A × B is a pair; A → B → C is a function of an A and a B that gives a C; Type 0 is a statement, here True or False. Texts
-are List ℕ, their bytes. An Option is None or Some(value), and a Result Ok(value) or Err(fault).
+In the types, which stand above the definitions, ℕ are the whole numbers from 0, and ℤ those with a sign: both are
+Python's int, and have no width. A value of a script is a word of 32 bits: what calculates one, as Add and Sub do, says
+% 2 ** 32. A × B is a pair; A → B → C is a function of an A and a B that gives a C; Type 0 is a statement, here True or
+False. Texts are List ℕ, their bytes. An Option is None or Some(value), and a Result Ok(value) or Err(fault).
 
 Names are those of the originals, but for these:
 {renamed}
@@ -64,8 +64,9 @@ code = ["Signal 1 $10000"]
 EVENTS = "run 5\n"
 ROOTS = ("run", "printed", "script_of", "placed_file_of_document")
 # What laws of every run speak of, as the file of that law sees them: --check asks them of each run.
-LAW, LAWS = "FirstInFirstOut", ("IsInOrder", "turns_at_port", "turns_at_semaphore", "CountsTicks", "AreDisjoint", "IsSettled",
-                                "extents", "messages_of", "waiters_of", "status_of")
+LAW = "FirstInFirstOut"
+LAWS = ("IsInOrder", "turns_at_port", "turns_at_semaphore", "CountsTicks", "AreDisjoint", "IsSettled", "extents",
+        "messages_of", "waiters_of", "status_of")
 THEOREM = ("file_of", "script_of", "Simulates")
 PARTS = ("A run", "Services beneath it", "The state and the objects", "The trace", "The texts",
          "Laws that are asked of each run")
@@ -86,12 +87,13 @@ class File:
         self.types = {}
         while missing := [it for it in self.python.types if it not in self.types]:  # a type may name others
             self.types |= {it: self.python.type_lines(it) for it in missing}
+        self.states = self.states_of()
         self.combinators = [it for it in self.python.written if self.is_combinator(it)]
         self.order = self.in_order()
         reached = self.reached()
         self.count = len(reached)
         everything = dict.fromkeys([*reached, *self.python.written, *self.types])
-        self.bare = [f"{it.module.place}:{it.line} {it.name}" for it in everything if not it.comment and self.is_own(it)]
+        self.bare = [f"{place_of(it)} {it.name}" for it in everything if not it.comment and self.is_own(it)]
         self.left_out = [it for it in reached if it not in self.python.written and it not in self.types]
 
     def is_own(self, entity):
@@ -99,8 +101,8 @@ class File:
         return isinstance(entity.module, Module) and entity.module.path.is_relative_to(self.project.top)
 
     def reached(self):
-        """All definitions of the project that the theorem rests on: what its statement cites. Of one that is shut to others
-        only the type counts."""
+        """All definitions of the project that the theorem rests on: what its statement cites. Of one that is shut to
+        others only the type counts."""
         found = [self.project.named(it) for it in THEOREM]
         for it in found:
             cited = dict.fromkeys(self.project.cites(it, isinstance(it, Definition) and not it.is_open))
@@ -114,29 +116,35 @@ class File:
 
     # ---- the order
 
+    def states_of(self):
+        """What a run comes to, and the types that this and its parts hold."""
+        found = [self.project.record_of(self.project.arrows(self.roots[0].type)[1])]
+        for it in found:
+            found += [x for x in self.project.cites(it) if isinstance(x, Type) and x not in found]
+        return found
+
     def is_combinator(self, entity):
-        """Whether a definition makes an action of others: it takes a function to what it gives, or from one thing to its like."""
+        """Whether a definition makes an action of others: it gives a state or an outcome, and takes a function to that,
+        or from a thing to its like."""
         types, result = self.python.parameters(entity)
         functions = [self.project.arrows(it) for it in types if it and self.project.arrows(it)[0]]
-        return any(taken[-1:] == [given] or given == result and taken for taken, given in functions)
+        is_of_state = self.project.record_of(result) in self.states
+        return is_of_state and any(given in (result, taken[-1]) for taken, given in functions)
 
     def often(self):
-        """What is used everywhere: combinators of more than two files, and what many definitions of more than three use."""
+        """What is used everywhere: combinators in more than two files, and what many definitions use, in more than
+        three."""
         users = collections.defaultdict(list)
         for it, written in self.python.written.items():
             for other in written.rests:
-                users[other].append(it)
-        files = {it: len({x.module for x in found}) for it, found in users.items()}
+                users[other].append(it.module)
         return [it for it, found in users.items()
-                if files[it] > 2 and it in self.combinators or files[it] > 3 and len(found) > 11]
+                if len(set(found)) > 2 and it in self.combinators or len(set(found)) > 3 and len(found) > 11]
 
     def parts_of(self):
         """The part of the file that each module is in, and the modules in order of first use."""
         run, printed, script, _ = self.roots
-        state = [self.project.record_of(self.project.arrows(run.type)[1])]
-        for it in state:
-            state += [x for x in self.project.cites(it) if isinstance(x, Type) and x not in state]
-        holders, modules = {it.module for it in state} - {run.module}, {}
+        holders, modules = {it.module for it in self.states} - {run.module}, {}
         for roots, place in (([run], 1), ([printed], 3), (self.roots, 4), (self.laws, 5)):
             for module in (it.module for it in self.sequence(roots)):
                 own = place
@@ -150,8 +158,8 @@ class File:
         return modules
 
     def sequence(self, roots):
-        """All definitions, each module's together in the order of first use from its top, and modules in the order in which
-        they are first used."""
+        """All definitions, each module's together in the order of first use from its top, and modules in the order in
+        which they are first used."""
         done, waiting = {}, collections.OrderedDict()
         for root in roots:
             waiting.setdefault(root.module, []).append(root)
@@ -172,11 +180,15 @@ class File:
         """The definitions and types of each module: (part, module, types, definitions)."""
         modules, sequence, often = self.parts_of(), self.sequence([*self.roots, *self.laws]), self.often()
         for module in (it.module for it in self.types):
-            modules.setdefault(module, next((part for it, part in modules.items() if it.crate == module.crate), 4))
-        rows = [(EVERYWHERE, module, [], [it for it in sequence if it.module is module and it in often]) for module in modules]
-        for module in sorted(modules, key=modules.get):
-            rows.append((PARTS[modules[module]], module, sorted((it for it in self.types if it.module is module), key=lambda it: it.line),
-                         [it for it in sequence if it.module is module and it not in often]))
+            of_crate = (part for it, part in modules.items() if it.crate == module.crate)
+            modules.setdefault(module, next(of_crate, 4))
+        types, own = collections.defaultdict(list), collections.defaultdict(list)
+        for it in sorted(self.types, key=lambda it: it.line):
+            types[it.module].append(it)
+        for it in sequence:
+            own[it.module, it in often].append(it)
+        rows = [(EVERYWHERE, it, [], own[it, True]) for it in modules]
+        rows += [(PARTS[modules[it]], it, types[it], own[it, False]) for it in sorted(modules, key=modules.get)]
         return [it for it in rows if it[2] or it[3]]
 
     # ---- the text
@@ -184,59 +196,68 @@ class File:
     def lines(self):
         """All lines below the head."""
         prelude, words = (HERE / "words.py").read_text(encoding="utf-8").split(MARK)
-        used = collections.Counter(it for x in self.python.written.values() for it in set(re.findall(r"\w+", "\n".join(x.lines))))
-        first = [it for it in words.split("\n") if (word := re.match(r"def (\w+)\(.*: return", it)) and used[word[1]] >= 10]
-        words = "\n".join(it for it in words.split("\n") if it not in first)
+        texts = ["\n".join(it.lines) for it in self.python.written.values()]
+        used = collections.Counter(it for text in texts for it in set(re.findall(r"\w+", text)))
+        first = [it[0] for it in re.finditer(r"(?m)^def (\w+)\(.*: return .*\n", words) if used[it[1]] >= 10]
         lines, part = ["", *prelude.strip("\n").split("\n")], None
-
-        def title(text):
-            return ["", "", "# " + "=" * 118, f"# {text}", "# " + "=" * 118]
-
         for name, module, types, definitions in self.order:
             lines += title(name) if name != part else []
-            lines += ["", *first] if name == EVERYWHERE and part is None else []
+            lines += ["", *"".join(first).split("\n")[:-1]] if name == EVERYWHERE != part else []
             part, said = name, " ".join(module.comment) or f"Types of the code in {module.path.name}"
             lines += ["", "", *comment(f"---- {said} [{module.place.removeprefix('crates/')}]")]
             for it in types:
                 lines += ["", *self.types[it]]
             for it in definitions:
                 lines += ["", *self.python.above(it), *self.python.written[it].lines]
+        for it in first:
+            words = words.replace(it, "")
         lines += [*title("The words of the standard library"), *words.rstrip("\n").split("\n")]
         lines += [*title("What the theorem speaks of, and is not above"), ""]
         for it in self.left_out:
-            lines += comment(f"{it.name}: {self.why(it)} [{it.module.place.removeprefix('crates/')}:{it.line}]")
-        lines += [*title("How this file is run"), ""]
-        lines += [f"COMBINATORS = {{{', '.join(repr(self.python.name(it)) for it in self.combinators)}}}"]
+            lines += comment(f"{it.name}: {self.why(it)} [{place_of(it).removeprefix('crates/')}]")
+        names = ", ".join(repr(self.python.name(it)) for it in self.combinators)
+        lines += [*title("How this file is run"), "", *statement("COMBINATORS = ", f"[{names}]", 0)]
         lines += (HERE / "running.py").read_text(encoding="utf-8").strip("\n").split("\n")
         return re.sub(r"\n{4,}", "\n\n\n", "\n".join(it.rstrip() for it in lines)).split("\n")
 
     def text(self):
-        lines = self.lines()
-        contents = []
+        """The whole file."""
+        lines, contents = self.lines(), []
         for number, line in enumerate(lines):
-            if line == "# " + "=" * 118 and lines[number - 1] == "":
+            if line == RULE and lines[number - 1] == "":
                 contents.append((number + 1, lines[number + 1][2:]))
             elif line.startswith("# ---- ") and is_long(lines, number):
                 contents.append((number, "    " + re.split(r" \[|[:(]|\.(?: |$)", line[7:])[0].strip()))
-        words = {"machine": indented(MACHINE), "events": indented(EVENTS), "trace": indented(trace_of(lines)), "renamed": self.renamed()}
-        above = HEAD.format(contents="\n".join([""] * len(contents)), **words).count("\n")
-        words["contents"] = "\n".join(f"{above + number + 1:8}  {it}" for number, it in contents)
-        return HEAD.format(**words) + "\n".join(lines) + "\n"
+        texts = {"machine": MACHINE, "events": EVENTS, "trace": trace_of(lines)}
+        words = {name: textwrap.indent(text.rstrip("\n"), "    ") for name, text in texts.items()}
+        words["renamed"] = self.renamed()
+        above = HEAD.format(contents="\n" * (len(contents) - 1), **words).count("\n")
+        rows = "\n".join(f"{above + number + 1:8}  {it}" for number, it in contents)
+        return HEAD.format(contents=rows, **words) + "\n".join(lines) + "\n"
 
     def renamed(self):
         """What the head says of names that are changed."""
         names = [it.name for it in self.python.written]
         for it in self.types:
             names += [it.name, *(x[0] for x in getattr(it, "members", ()))]
-        kept = sorted({py(it) for it in names if py(it) == it + "_"} | {it for it in self.python.kept})
-        others = [f"{it} is {py(it)}. " for it in names if not it.replace("'", "_").isidentifier()]
-        return textwrap.fill(f"One that Python keeps for itself has `_` at its end: {', '.join(kept)}. {''.join(others)}`'` in a name is "
-                             "`_`. A variable that would hide another one has a number at its end. A parameter that is only matched "
-                             "in the original has the name of its type.", WIDTH)
+        kept = ", ".join(sorted({py(it) for it in names if py(it) == it + "_"} | self.python.kept))
+        others = "".join(f"{it} is {py(it)}. " for it in names if not it.replace("'", "_").isidentifier())
+        return textwrap.fill(
+            f"One that Python keeps for itself has `_` at its end: {kept}. {others}`'` in a name is `_`. A variable that "
+            "would hide another one has a number at its end. A parameter that is only matched in the original has the name "
+            "of its type.", WIDTH)
 
 
-def indented(text):
-    return "\n".join("    " + it if it else "" for it in text.rstrip("\n").split("\n"))
+RULE = "# " + "=" * 118
+
+
+def title(text):
+    """The lines of a title of a part."""
+    return ["", "", RULE, f"# {text}", RULE]
+
+
+def place_of(entity):
+    return f"{entity.module.place}:{entity.line}"
 
 
 def is_long(lines, number):

@@ -84,7 +84,8 @@ def substituted(tree, values):
 # ---- words and expressions
 
 WORD = re.compile(r'(\s+)|"(?:\\.|[^"\\])*"|[(){};,λ"]|\.(?=[\s(){};,]|$)|[^\s(){};,"]+?(?=\.?(?:[\s(){};,"]|$))')
-SIGNS = {10: ">>=", 9: "∘ ^", 8: "* *ℤ / %", 7: "+ - +ℤ -ℤ", 5: "∷ ++", 4: "== ≤ < <ℤ ≤ℤ", 3: "&&", 2: "||", 1: "≡ ≢", 0: "× ⊎ ↔", -1: "→"}
+SIGNS = {10: ">>=", 9: "∘ ^", 8: "* *ℤ / %", 7: "+ - +ℤ -ℤ", 5: "∷ ++", 4: "== ≤ < <ℤ ≤ℤ", 3: "&&", 2: "||", 1: "≡ ≢",
+         0: "× ⊎ ↔", -1: "→"}
 LEVELS = {sign: level for level, signs in SIGNS.items() for sign in signs.split()}
 TO_THE_RIGHT = (9, 5, 3, 2, 0, -1)  # levels at which the second of two signs is taken first
 NUMERAL = re.compile(r"\d+|0x[0-9a-fA-F]+")
@@ -167,7 +168,8 @@ class Parser:
             found = self.make(Name, word)
         found.line = line
         while self.words[self.at][1] and re.match(r"\..", self.peek() or ""):
-            found = functools.reduce(lambda of, it: self.make(Field, of, it, line=line), self.next()[1:].split("."), found)
+            for it in self.next()[1:].split("."):
+                found = self.make(Field, found, it, line=line)
         return found
 
     def function(self):

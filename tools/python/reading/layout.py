@@ -5,9 +5,7 @@ import textwrap
 WIDTH = 120
 PIECE = re.compile(r"""'(?:\\.|[^'\\])*'|"(?:\\.|[^"\\])*"|.""")
 # Where an expression is broken that stands in brackets, from what binds least on.
-BREAKS = [re.compile(it) for it in (" (?=for )", " (?=if |else )", " (?=or )", " (?=and )", " (?=(?:[=!]=|<=?) )", r" (?=[+|-] )")]
-
-
+BREAKS = [re.compile(f" (?={it} )") for it in ("for", "(?:if|else)", "or", "and", "(?:[=!]=|<=?)", "[+|-]")]
 LEVELS = {"lambda": 0, "if": 0, "or": 1, "and": 2, "not": 3, "==": 4, "!=": 4, "<": 4, "<=": 4, "|": 5, "^": 6, "&": 7,
           "+": 8, "-": 8, "*": 9, "//": 9, "%": 9, "**": 11}
 ATOM = 20
@@ -107,4 +105,6 @@ def statement(word, text, indent, end=""):
 
 def comment(text, indent=0):
     """A comment in lines."""
-    return [" " * indent + "# " + it for it in textwrap.wrap(text, WIDTH - 2 - indent, break_long_words=False, break_on_hyphens=False)]
+    margin = " " * indent + "# "
+    return textwrap.wrap(text, WIDTH, initial_indent=margin, subsequent_indent=margin, break_long_words=False,
+                         break_on_hyphens=False)

@@ -3,12 +3,13 @@ from reading.language import Definition
 
 HEAD = """# Definitions
 
-What a reader has to believe: the definitions that the headline rests on, each below its comment, with its source. "RKM" is the Amiga ROM Kernel
-Reference Manual: Libraries; an autodoc is that of the named call; what has no source, or "project rule", is a choice of this project
-([DECISIONS.md](DECISIONS.md)). The files are below `crates/`. That the definitions say what the manual says is for a reader of the field to judge;
-nothing proves it.
+What a reader has to believe: the definitions that the headline rests on, each below its comment, with its source. "RKM"
+is the Amiga ROM Kernel Reference Manual: Libraries; an autodoc is that of the named call; what has no source, or "project
+rule", is a choice of this project ([DECISIONS.md](DECISIONS.md)). The files are below `crates/`. That the definitions say
+what the manual says is for a reader of the field to judge; nothing proves it.
 
-[dist/definitions.py](../dist/definitions.py) has the same in the same order, as Python that runs. `tools/reading` makes both.
+[dist/definitions.py](../dist/definitions.py) has the same in the same order, as Python that runs. `tools/reading` makes
+both.
 
 """
 
@@ -26,11 +27,13 @@ def section(module, entities):
     title = said.split(". ")[0].rstrip(".:")
     place = "/".join(module.path.parts[-3:]) if module.path.parts[-2] == "specs" else module.path.name
     lines = [line for it in entities for line in [*source_of(it), ""]]
-    return [f"### {title}", "", *([said, ""] if len(said) > len(title) + 1 else []), f"`{place}`", "", "```", *lines[:-1], "```", ""]
+    more = [said, ""] if len(said) > len(title) + 1 else []
+    return [f"### {title}", "", *more, f"`{place}`", "", "```", *lines[:-1], "```", ""]
 
 
 def page_of(file):
-    parts = [(name, module, own) for name, module, *rows in file.order if (own := [x for it in rows for x in it if file.is_own(x)])]
+    parts = [(name, module, [it for it in types + own if file.is_own(it)]) for name, module, types, own in file.order]
+    parts = [it for it in parts if it[2]]
     for module in dict.fromkeys(it.module for it in file.left_out):
         them = sorted((it for it in file.left_out if it.module is module), key=lambda it: it.line)
         parts.append(("Agreement and the headline", module, them))

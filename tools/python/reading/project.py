@@ -38,7 +38,8 @@ class RustFile:
 LIBRARY = ("std.", "core.")
 DATA = {"ℕ", "ℤ", "Bool", "List", "Option", "Result", "Float", "FinMap", "Ordering", "Char", "Type"}
 RUST = r"(?m)((?:^[ \t]*///[^\n]*\n)*)(?:[ \t]*#\[[^\n]*\n)*pub (enum|struct) {}\b(?:<[^>]*>)? *\{{(?s:(.*?))\n\}}"
-MEMBER = re.compile(r"((?:[ \t]*///[^\n]*\n)*)[ \t]*(?:pub )?(\w+)(?:: ([^\n]+?)|\(([^)]*)\)| \{([^}]*)\})?(?: = \d+)?,?[ \t]*\n")
+MEMBER = re.compile(r"((?:[ \t]*///[^\n]*\n)*)[ \t]*(?:pub )?(\w+)(?:: ([^\n]+?)|\(([^)]*)\)| \{([^}]*)\})?"
+                    r"(?: = \d+)?,?[ \t]*\n")
 FIELD = re.compile(r"(?m)^(?!\s*//)[^:\n]*: ([^,\n]+)")
 
 
@@ -67,7 +68,8 @@ class Project:
 
     def named(self, name):
         """The one definition of a name in the project."""
-        found = [(it.definitions | it.types)[name] for it in self.modules() if name in it.definitions or name in it.types]
+        every = [it.definitions | it.types for it in self.modules()]
+        found = [it[name] for it in every if name in it]
         if len(found) != 1:
             places = ", ".join(f"{it.module.place}:{it.line}" for it in found) or "no file"
             raise Refused(f"`{name}` has to be defined once, and is in {places}")
@@ -119,8 +121,9 @@ class Project:
         """The files of the code of a crate."""
         source = next((it / crate / "src" for it in self.tops if (it / crate / "src").is_dir()), None)
         paths = sorted(source.rglob("*.r[ts]")) if source else []
-        return [RustFile(crate, it, self.place(it), tuple(x for x in it.relative_to(source).with_suffix("").parts if x not in ("lib", "mod")),
-                         it.read_text(encoding="utf-8")) for it in paths]
+        below = [it.relative_to(source).with_suffix("").parts for it in paths]
+        return [RustFile(crate, it, self.place(it), tuple(x for x in at if x not in ("lib", "mod")), it.read_text("utf-8"))
+                for it, at in zip(paths, below)]
 
     def rust(self, crate, below, name):
         """The type that the code declares: in the file of its module, or else in the first one of its crate that does."""
@@ -139,11 +142,13 @@ class Project:
             return Name(word if word.isidentifier() else "?", file)
 
         above, kind, body = match.groups()
-        body, kind = re.sub(r"(?m)^[ \t]*(#\[|//(?!/)).*\n", "", body.lstrip("\n") + "\n"), "record" if kind == "struct" else "data"
-        found = Type(file, name, file.text.count("\n", 0, match.start(2)) + 1, said_above(above), None, kind, [], [])
+        body = re.sub(r"(?m)^[ \t]*(#\[|//(?!/)).*\n", "", body.lstrip("\n") + "\n")
+        line, kind = file.text.count("\n", 0, match.start(2)) + 1, "record" if kind == "struct" else "data"
+        found = Type(file, name, line, said_above(above), None, kind, [], [])
         for above, member, field, row, fields in MEMBER.findall(body):  # fields with names are arguments
             words = FIELD.findall(fields) if fields else filter(str.strip, row.split(","))
-            found.members.append((member, type_of(field) if kind == "record" else [("", type_of(it)) for it in words], said_above(above)))
+            type = type_of(field) if kind == "record" else [("", type_of(it)) for it in words]
+            found.members.append((member, type, said_above(above)))
         if left := MEMBER.sub("", body).strip():
             raise refusal(found, f"`{name}` has a member that is not read: {left}")
         return found
@@ -181,7 +186,8 @@ class Project:
         """Whether a type is a statement, whose values are proofs, and holds no data."""
         _, tree = self.arrows(tree)
         match tree:
-            case Operator("×", left, right): return all(map(self.is_statement, (of_parameter(left), of_parameter(right))))
+            case Operator("×", left, right):
+                return all(self.is_statement(of_parameter(it)) for it in (left, right))
             case Operator(): return True
         found = self.entity(tree)
         if isinstance(found, (Definition, Type)):
@@ -194,7 +200,8 @@ class Project:
         return is_word or isinstance(found, Library) and found.name not in DATA
 
     def states(self, entity):
-        """Whether a definition of a type, or a record, is a statement. One that holds data too is if it speaks of others."""
+        """Whether a definition of a type, or a record, is a statement. One that holds data too is if it speaks of
+        others."""
         if isinstance(entity, Definition):
             return all(self.is_statement(body) for _, _, body in entity.clauses) if entity.items else True
         said = [self.is_statement(it) for _, it, _ in entity.members] if entity.kind == "record" else []

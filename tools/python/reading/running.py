@@ -15,10 +15,8 @@ from functools import reduce
 
 LIMIT = 4_194_304
 
-
 class _Told(Exception):
     """What is said instead of an answer, and the status."""
-
 
 # ---- the texts
 
@@ -39,14 +37,12 @@ def _data_of(value, deep=0):
             return Data.table(reduce(lambda rest, it: Members.member(*it, rest), pairs, Members.no_members))
     return Data.datetime(value)
 
-
 def _float_of(digits):
     """The number that digits are, unless it is too large for one."""
     number = float(digits)
     if abs(number) == float("inf") and "inf" not in digits:
         raise ValueError("a number is too large")
     return number
-
 
 def _tree_of(text):
     """The tree of the bytes of a machine file, or none, and why there is none."""
@@ -55,7 +51,6 @@ def _tree_of(text):
         return Some(_data_of(tree).a0), ""
     except (ValueError, RecursionError) as why:
         return None, str(why)
-
 
 def _place_of(place):
     """Where a fault of a machine file is."""
@@ -68,7 +63,6 @@ def _place_of(place):
         case Place.Tree(TreePlace.Array(array)): return f"array {name(array)}"
         case Place.Tree(it): return item(it)
     return "the file as a whole"
-
 
 def _outcome(machine, events):
     """The status of a run, what is printed, the line of a refusal and its place, and all that came of it."""
@@ -84,7 +78,6 @@ def _outcome(machine, events):
     done = run(file.value, script.value)
     return 3 if done.state.stopped else 0, bytes(printed(done.lines)), "", "", (file.value, script.value, done)
 
-
 def _read(path):
     """The bytes of a file, if it is not too large."""
     try:
@@ -95,7 +88,6 @@ def _read(path):
     if text is None or len(text) > LIMIT:
         raise _Told(f"execsim: cannot read {path}", 4)
     return text
-
 
 def _watch(name, before):
     """Has a function called before each call of a definition."""
@@ -108,7 +100,6 @@ def _watch(name, before):
 
     globals()[name] = watched
 
-
 def _show_progress():
     """Says on a terminal, once a second, how often the machine has settled."""
     counts, last = itertools.count(1), [time.monotonic()]
@@ -120,7 +111,6 @@ def _show_progress():
             print(f"\r{count} steps, ticks and requests", end="", file=sys.stderr, flush=True)
 
     _watch("settle", before)
-
 
 def _run_files(machine, events):
     """Prints the trace of a run."""
@@ -135,7 +125,6 @@ def _run_files(machine, events):
     if said[0]:
         raise _Told("\n".join(filter(None, said)), status)
     return status
-
 
 # ---- --check
 
@@ -155,7 +144,6 @@ def _stored_runs(project):
             machine, events = texts[stem + ".toml"], texts[stem + ".events"]
             yield f"recordings/{stem} (a real exec)", machine, events, None, texts[path], ""
 
-
 def _difference(got, wanted):
     """What differs between an outcome and the stored one: status, trace and refusal."""
     if wanted[0] not in (None, got[0]) or got[2] != wanted[2]:
@@ -166,7 +154,6 @@ def _difference(got, wanted):
     start = got[1].rfind(b"\n", 0, at) + 1
     lines = [it[start:].partition(b"\n")[0].decode(errors="replace") for it in (got[1], wanted[1])]
     return f"byte {at + 1}, in line {got[1].count(10, 0, at) + 1}: {lines[0]!r}, and stored is {lines[1]!r}"
-
 
 def _check(project, first, seconds, part, only):
     """Runs all that is stored, or each Nth of it, or the runs of some names. Laws are asked of each too, unless the
@@ -197,7 +184,6 @@ def _check(project, first, seconds, part, only):
     print(f"{counts[0]} stored runs, {counts[1]} recordings of a real exec: {same} ({time.monotonic() - begun:.0f} s)")
     return 1 if wrong or not sum(counts) else 0
 
-
 @cache
 def _check_lines():
     """From now on each line that is read has to be in the relation with what it is said to say."""
@@ -211,7 +197,6 @@ def _check_lines():
         return found
 
     globals()["line_meaning"] = checked
-
 
 def _broken_law(file, script, done):
     """The law of every run that a run breaks, if it breaks one."""
@@ -230,7 +215,6 @@ def _broken_law(file, script, done):
         return "a task of higher priority is ready, or a request is left"
     return "a line is longer than 160 bytes" if any(len(printed([it])) > 160 for it in done.lines[:1000]) else ""
 
-
 # ---- --show
 
 @cache
@@ -247,21 +231,17 @@ def _texts():
             found[head[1] or head[2]] = number + 1, source[start:end]
     return found
 
-
 def _is_action(name):
     """Whether a name is that of a definition that is called: its comment says where the original stands."""
     return re.search(r"(?m)^# .*:\d+\]\n(@|def )", "\n".join(_texts()[name][1])) is not None
-
 
 def _uses(lines):
     """The definitions that some lines name, in the order in which they do."""
     code = "\n".join(it for it in lines if not it.lstrip().startswith("#"))
     return [it for it in dict.fromkeys(re.findall(r"(?<![.\w'])[A-Za-z_]\w*", code)) if it in _texts()]
 
-
 def _users(name):
     return [it for it, (_, lines) in _texts().items() if it != name and name in _uses(lines)]
-
 
 def _rows(name):
     """The rows of tables for a constructor of that name: (the definition that a row is of, its lines)."""
@@ -276,7 +256,6 @@ def _rows(name):
                     end += 1
                 yield owner, lines[start:end]
 
-
 def _serving(rows):
     """What serves some rows alone: all that uses it is among these, and is reached from there."""
     owners, found, open_ = {it for it, _ in rows}, [], [it for _, lines in rows for it in _uses(lines)]
@@ -285,7 +264,6 @@ def _serving(rows):
             found.append(it)
             open_ += _uses(_texts()[it][1])
     return found
-
 
 def _show(name, project):
     """A definition, or the rows of one of Exec's words and what serves these alone; what it uses; and a run."""
@@ -297,24 +275,24 @@ def _show(name, project):
     shown = _serving(rows) if rows else [name]
     for it in shown:
         print(*_texts()[it][1], "", sep="\n")
-    uses = dict.fromkeys(it for lines in [*(it for _, it in rows), *(_texts()[it][1] for it in shown)] for it in _uses(lines))
-    print(f"It uses: {', '.join(it for it in uses if it not in shown) or 'nothing'}")
+    texts = [*(lines for _, lines in rows), *(_texts()[it][1] for it in shown)]
+    uses = [it for it in _uses([line for lines in texts for line in lines]) if it not in shown]
+    print(f"It uses: {', '.join(uses) or 'nothing'}")
     if not rows:
         print(f"It is used by: {', '.join(_users(name)) or 'nothing'}")
     if rows or _is_action(name):
         _show_run(name, project)
     return 0
 
-
 def _propose(name):
     """Says which names are near to one that is not known, and which definitions speak of it."""
     texts = {it: "\n".join(lines) for it, (_, lines) in _texts().items()}
-    known = {it.lower(): it for text in texts.values() for it in re.findall(r"(?m)^    (\w+)='", text)} | {it.lower(): it for it in texts}
+    rows = re.findall(r"(?m)^    (\w+)='", "\n".join(texts.values()))
+    known = {it.lower(): it for it in (*rows, *texts)}
     near = [known[it] for it in difflib.get_close_matches(name.lower(), known, 5, 0.5)]
-    speaking = [it for it, text in texts.items() if re.search(rf"(?m)^ *#.*\b{re.escape(name)}\b", text)]
-    said = [f"near it are {', '.join(near)}"] * bool(near) + [f"of it speak {', '.join(speaking[:20])}"] * bool(speaking)
-    raise _Told(": ".join([f"no definition and no word is named {name}", "; ".join(said)][:1 + bool(said)]), 2)
-
+    speaking = [it for it, text in texts.items() if re.search(rf"(?m)^ *#.*\b{re.escape(name)}\b", text)][:20]
+    said = [f"no definition and no word is named {name}", f"near it are {', '.join(near)}"][:1 + bool(near)]
+    raise _Told("; ".join(said + [f"of it speak {', '.join(speaking)}"] * bool(speaking)), 2)
 
 def _show_run(name, project):
     """Prints a stored run that uses a definition or a word."""
@@ -333,19 +311,16 @@ def _show_run(name, project):
             return
     print("No stored run uses it.")
 
-
 # ---- --why
 
 class _Call:
-    """A call of a definition: what it gave, and the calls that it made and that have ended, the last one of each name."""
+    """A call of a definition: what it gave, and the calls that it made that have ended, the last one of each name."""
 
     def __init__(self, name):
         self.name, self.value, self.asked = name, None, {}
 
-
 class _Made(Exception):
     """The line that is asked for was made."""
-
 
 def _calls_for(number, file, script):
     """The calls that are at work as a line of the trace is made, outermost first."""
@@ -374,10 +349,9 @@ def _calls_for(number, file, script):
     except _Made:
         return stack[1:]
 
-
 def _why(number, machine, events):
-    """A line of the trace, and the definitions that made it, outermost first, each once: those that are at work as it is
-    made, and beneath each those that it asked, as far as they decide and make no state."""
+    """A line of the trace, and the definitions that made it, outermost first, each once: those that are at work as it
+    is made, and beneath each those that it asked, as far as they decide and make no state."""
     status, _, *said, whole = _outcome(_read(machine), _read(events))
     if said[0]:
         raise _Told("\n".join(filter(None, said)), status)
@@ -391,9 +365,10 @@ def _why(number, machine, events):
     def show(call, deep):
         if call.name not in shown:
             shown.add(call.name)
-            said = " ".join(it[2:] for it in _texts()[call.name][1] if it.startswith("# ")).partition(f"{call.name} : ")[0]
+            said = " ".join(it[2:] for it in _texts()[call.name][1] if it.startswith("# "))
             head = f"{'  ' * deep}{call.name}  ".ljust(34)
-            print(textwrap.fill(said, 120, initial_indent=head, subsequent_indent=" " * 34) if said else head)
+            said = said.partition(f"{call.name} : ")[0] or "(no comment)"
+            print(textwrap.fill(said, 120, initial_indent=head, subsequent_indent=" " * 34))
         for it in call.asked.values() if deep < 3 else ():
             if type(it.value) not in states:
                 show(it, deep + 1)
@@ -402,16 +377,16 @@ def _why(number, machine, events):
         show(it, 1)
     return 0
 
-
 # ---- the command line
 
 def _words():
     """What the command line asks for."""
-    parser = argparse.ArgumentParser("definitions.py", "definitions.py [--why N] MACHINE EVENTS | --show NAME [PROJECT] | --check PROJECT")
+    usage = "definitions.py [--why N] MACHINE EVENTS | --show NAME [PROJECT] | --check PROJECT"
+    parser = argparse.ArgumentParser("definitions.py", usage)
     parser.add_argument("texts", nargs="*", help="MACHINE EVENTS: the trace of a run, as execsim prints it")
-    parser.add_argument("--why", type=int, metavar="N", help="line N of the trace, and the definitions that made and decided it")
-    parser.add_argument("--show", metavar="NAME", help="a definition, or what is done for a word such as DoIO; and a run")
-    parser.add_argument("--check", metavar="PROJECT", help="all stored runs of the project, and the recordings of a real exec")
+    parser.add_argument("--why", type=int, metavar="N", help="line N of the trace, and what made and decided it")
+    parser.add_argument("--show", metavar="NAME", help="a definition, or what is done for a word as DoIO; and a run")
+    parser.add_argument("--check", metavar="PROJECT", help="all stored runs of the project, and those of a real exec")
     parser.add_argument("--first", action="store_true", help="end at the first that differs, and ask no laws")
     parser.add_argument("--seconds", type=int, default=0, help="end after so many seconds of the processor")
     parser.add_argument("--part", default="0/1", help="K/N: each Nth run from K on")
@@ -424,7 +399,6 @@ def _words():
         parser.error(f"{len(given.texts)} files are named")
     return given
 
-
 def _main():
     """Does what the command line asks for."""
     given = _words()
@@ -435,7 +409,6 @@ def _main():
     if given.show:
         return _show(given.show, *(given.texts or [os.path.dirname(os.path.dirname(os.path.abspath(__file__)))]))
     return _run_files(*given.texts) if given.why is None else _why(given.why, *given.texts)
-
 
 def _begin():
     """Runs in a thread whose calls may go deep. Ctrl-C ends it, and a pipe that is closed at its other end."""
@@ -468,7 +441,6 @@ def _begin():
         print("execsim: ended before the run did", file=sys.stderr)
         os._exit(130)
     os._exit(ended[0])
-
 
 if __name__ == "__main__":
     _begin()

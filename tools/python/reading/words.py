@@ -1,16 +1,13 @@
 from dataclasses import make_dataclass
 from functools import cache, partial, wraps
 
-
 # What the records and the kinds of data of the definitions are in Python.
 class NoCase(Exception):
     """No case of a definition is met: this is a mistake of the translator."""
 
-
 def record(name, *fields):
     """A record: a class whose values hold their fields and are equal if these are."""
     return make_dataclass(name, fields, slots=True)
-
 
 def data(name, **constructors):
     """A kind of data: a class for each constructor, and one value for a constructor that has no arguments."""
@@ -20,15 +17,12 @@ def data(name, **constructors):
         setattr(kind, constructor, made if fields else made())
     return kind
 
-
 def replace(whole, **new):
     """A record with other values in some of its fields."""
     kind = whole.__class__
     return kind(*[new[it] if it in new else getattr(whole, it) for it in kind.__slots__])
 
-
 once = cache  # a definition without arguments: its value is made once
-
 
 def kept(function):
     """What a text says, if it says something: it is computed once for each text."""
@@ -45,18 +39,15 @@ def kept(function):
 
     return of_text
 
-
 # An option is None or Some(value); a result is Ok(value) or Err(fault).
 Some = make_dataclass("Some", ["value"], slots=True)
 Ok = make_dataclass("Ok", ["value"], slots=True)
 Err = make_dataclass("Err", ["fault"], slots=True)
 
-
 @cache
 def codes(text):
     """The bytes of a text. Texts are lists of bytes everywhere."""
     return list(text.encode())
-
 
 # ---- the words of the standard library
 
@@ -64,7 +55,6 @@ def monus(a, b): return a - b if a > b else 0  # subtraction of naturals ends at
 def quotient(a, b): return a // b if b else 0  # to divide by 0 gives 0
 def remainder(a, b): return a % b if b else a  # and leaves the number
 def max_(a, b): return a if a > b else b  # the greater of two
-def min_(a, b): return a if a < b else b  # the lesser of two
 def nat_eq(a, b): return a == b
 def bit_not(width, a): return ((1 << width) - 1) ^ a  # of a number of that many bits
 def cast_signed(width, n): return n - (1 << width) if n >> (width - 1) else n  # a word that is read as one with a sign
@@ -105,13 +95,11 @@ def finmap_find(order, key, pairs): return next((Some(value) for it, value in pa
 def finmap_where_key(order, test, pairs): return [it for it in pairs if test(it[0])]  # a part of a map
 def digits_value(radix, digits): return int(bytes(digits).decode(), radix)  # the number that digits are
 
-
 def fold(f, start, items):
     """What f makes of the items, one after another."""
     for it in items:
         start = f(start, it)
     return start
-
 
 def slice_split(test, items):
     """The parts of a list between the items that meet a test."""
@@ -122,7 +110,6 @@ def slice_split(test, items):
         else:
             found[-1].append(it)
     return found
-
 
 def finmap_put(order, key, value, pairs):
     """A map, which is a list of pairs in the order of their keys, with another value at a key."""
