@@ -243,9 +243,9 @@ class File:
         kept = ", ".join(sorted({py(it) for it in names if py(it) == it + "_"} | self.python.kept))
         others = "".join(f"{it} is {py(it)}. " for it in names if not it.replace("'", "_").isidentifier())
         return textwrap.fill(
-            f"One that Python keeps for itself has `_` at its end: {kept}. {others}`'` in a name is `_`. A variable that "
-            "would hide another one has a number at its end. A parameter that is only matched in the original has the name "
-            "of its type.", WIDTH)
+            f"One that Python keeps for itself has `_` at its end: {kept}. {others}`'` in a name is `_`. A variable "
+            "that would hide another one has a number at its end. A parameter that is only matched in the original has "
+            "the name of its type.", WIDTH)
 
 
 RULE = "# " + "=" * 118

@@ -2,6 +2,7 @@
 files and are passed over: the text of a definition is read when it is asked for."""
 import dataclasses
 import functools
+import itertools
 import re
 from typing import Any
 
@@ -311,7 +312,7 @@ class Module:
         self.imports, self.aliases = {}, {}        # a name to (path, name), a name to a path
         self.definitions, self.types, self.constructors = {}, {}, {}
         lines = text.split("\n")
-        self.comment = [it[2:].strip() for it in lines[:next(n for n, it in enumerate(lines) if not it.startswith("--"))]]
+        self.comment = [it[2:].strip() for it in itertools.takewhile(lambda it: it.startswith("--"), lines)]
         self.take(items_of(lines, 1))
 
     def take(self, items):

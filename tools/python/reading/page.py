@@ -3,10 +3,10 @@ from reading.language import Definition
 
 HEAD = """# Definitions
 
-What a reader has to believe: the definitions that the headline rests on, each below its comment, with its source. "RKM"
-is the Amiga ROM Kernel Reference Manual: Libraries; an autodoc is that of the named call; what has no source, or "project
-rule", is a choice of this project ([DECISIONS.md](DECISIONS.md)). The files are below `crates/`. That the definitions say
-what the manual says is for a reader of the field to judge; nothing proves it.
+What a reader has to believe: the definitions that the headline rests on, each below its comment, with its source.
+"RKM" is the Amiga ROM Kernel Reference Manual: Libraries; an autodoc is that of the named call; what has no source, or
+"project rule", is a choice of this project ([DECISIONS.md](DECISIONS.md)). The files are below `crates/`. That the
+definitions say what the manual says is for a reader of the field to judge; nothing proves it.
 
 [dist/definitions.py](../dist/definitions.py) has the same in the same order, as Python that runs. `tools/reading` makes
 both.

@@ -122,11 +122,11 @@ class Project:
         source = next((it / crate / "src" for it in self.tops if (it / crate / "src").is_dir()), None)
         paths = sorted(source.rglob("*.r[ts]")) if source else []
         below = [it.relative_to(source).with_suffix("").parts for it in paths]
-        return [RustFile(crate, it, self.place(it), tuple(x for x in at if x not in ("lib", "mod")), it.read_text("utf-8"))
-                for it, at in zip(paths, below)]
+        below = [tuple(x for x in it if x not in ("lib", "mod")) for it in below]
+        return [RustFile(crate, it, self.place(it), at, it.read_text("utf-8")) for it, at in zip(paths, below)]
 
     def rust(self, crate, below, name):
-        """The type that the code declares: in the file of its module, or else in the first one of its crate that does."""
+        """The type that the code declares: in the file of its module, or else in the first of its crate that does."""
         found = (self.rust_type(it, name) for it in self.rust_files(crate) if below in (None, it.below))
         return next(filter(None, found), None)
 

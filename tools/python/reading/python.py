@@ -8,20 +8,20 @@ import keyword
 import re
 
 from reading import words
-from reading.language import (NUMERAL, Apply, Definition, Elim, Field, Given, If, Lambda, Let, Literal, Name, Operator, Record,
-                              Refused, Type, Typed, applied, before_arrow, changed, parts, refusal, spine, substituted)
+from reading.language import (NUMERAL, Apply, Definition, Elim, Field, Given, If, Lambda, Let, Literal, Name, Operator,
+                              Record, Refused, Type, Typed, applied, before_arrow, changed, parts, refusal, spine,
+                              substituted)
 from reading.layout import ATOM, WIDTH, Code, chain, choice, comment, negated, statement, within
 from reading.project import Constructor, Library
 
-CONSTANTS = {"true": "True", "false": "False", "zero": "0", "[]": "[]", "None": "None", "tt": "()", "w8": "8", "w16": "16",
-             "w32": "32", "w64": "64", "⊥": "False", "⊤": "True", "Unit": "True"}
-SIGNS = {"+": "+", "*": "*", "++": "+", "==": "==", "&&": "and", "||": "or", "+ℤ": "+", "-ℤ": "-", "*ℤ": "*", "^": "**",
-         "≡": "==", "≢": "!=", "≤": "<=", "<": "<", "≤ℤ": "<=", "<ℤ": "<", "×": "and", "⊎": "or"}
-CALLS = {"-": "monus({}, {})", "/": "quotient({}, {})", "%": "remainder({}, {})", ">>=": "option_and_then({1}, {0})",
-         ",": "({}, {})"}
+CONSTANTS = {"true": "True", "false": "False", "zero": "0", "[]": "[]", "None": "None", "tt": "()", "⊥": "False",
+             "⊤": "True", "Unit": "True", "w8": "8", "w16": "16", "w32": "32", "w64": "64"}
+# Signs and words that are a sign of Python between two operands.
+INFIX = {"+": "+", "*": "*", "++": "+", "==": "==", "&&": "and", "||": "or", "+ℤ": "+", "-ℤ": "-", "*ℤ": "*", "^": "**",
+         "≡": "==", "≢": "!=", "≤": "<=", "<": "<", "≤ℤ": "<=", "<ℤ": "<", "×": "and", "⊎": "or", "nat_eq": "==",
+         "nat_lt": "<", "nat_le": "<=", "int_eq": "==", "int_lt": "<", "int_le": "<=", "bytes_eq": "==", "eqb": "==",
+         "bit_and": "&", "bit_or": "|", "bit_xor": "^"}
 DIVISIONS = {"/": "//", "%": "%"}  # by what is above 0
-INFIX = {"nat_eq": "==", "nat_lt": "<", "nat_le": "<=", "int_eq": "==", "int_lt": "<", "int_le": "<=", "bytes_eq": "==",
-         "eqb": "==", "bit_and": "&", "bit_or": "|", "bit_xor": "^"}
 
 
 def itself(code):
@@ -32,19 +32,21 @@ def ordering(order, less, same, more):
     return choice(chain("<", order, "0"), less, choice(chain("==", order, "0"), same, more))
 
 
-# Words that are written otherwise than as a call of their name, with that many arguments.
-INLINE = {("not", 1): negated, ("length", 1): "len({})".format, ("pos", 1): itself, ("to_nat", 1): itself, ("id", 1): itself,
-          ("cond", 3): choice, ("match_ordering", 4): ordering, ("fst", 1): lambda pair: within(pair, ATOM) + "[0]",
+# What is written otherwise than as a call of its name, with that many arguments.
+INLINE = {("not", 1): negated, ("length", 1): "len({})".format, ("pos", 1): itself, ("to_nat", 1): itself,
+          ("id", 1): itself, ("cond", 3): choice, ("match_ordering", 4): ordering, (",", 2): "({}, {})".format,
+          ("-", 2): "monus({}, {})".format, ("/", 2): "quotient({}, {})".format, ("%", 2): "remainder({}, {})".format,
+          (">>=", 2): "option_and_then({1}, {0})".format, ("fst", 1): lambda pair: within(pair, ATOM) + "[0]",
           ("snd", 1): lambda pair: within(pair, ATOM) + "[1]",
           **{(word, 2): functools.partial(chain, sign) for word, sign in INFIX.items()}}
 # What is asked of each item of a list: {0} is what is asked, {1} the item, {2} the list.
-EACH = {"map": "[{0} for {1} in {2}]", "list_any": "any({0} for {1} in {2})", "list_all": "all({0} for {1} in {2})",
-        "sum_by": "sum({0} for {1} in {2})", "filter": "[{1} for {1} in {2} if {0}]", "All": "all({0} for {1} in {2})",
-        "Any": "any({0} for {1} in {2})", "AllPairs": "all({0} for {1} in pairs({2}))"}
+EACH = {"map": "[{0} for {1} in {2}]", "filter": "[{1} for {1} in {2} if {0}]", "sum_by": "sum({0} for {1} in {2})",
+        "AllPairs": "all({0} for {1} in pairs({2}))", **dict.fromkeys(("list_all", "All"), "all({0} for {1} in {2})"),
+        **dict.fromkeys(("list_any", "Any"), "any({0} for {1} in {2})")}
 NUMERIC = ("zero", "suc", "pos", "negsuc")
 # No variable has the name of one of these.
-OFTEN = {"Some", "Ok", "Err", "NoCase", "codes", "partial", "replace", "monus", "quotient", "remainder", "option_and_then",
-         "option_to_list", "pairs", "splits", "all", "any", "len"}
+OFTEN = {"Some", "Ok", "Err", "NoCase", "codes", "partial", "replace", "monus", "quotient", "remainder", "splits",
+         "option_and_then", "option_to_list", "pairs", "all", "any", "len"}
 
 
 def py(name):
@@ -136,7 +138,7 @@ class Python:
 
 
 class Written:
-    """A definition as a function of Python, and what it rests on. A scope says what each variable there is in Python."""
+    """A definition as a function of Python, and what it rests on. A scope says what each variable is in Python."""
 
     def __init__(self, python, entity):
         self.python, self.project, self.entity, self.at = python, python.project, entity, entity
@@ -202,7 +204,7 @@ class Written:
         self.banned = {name, *OFTEN, *(py(it.name) for it in project.cites(entity) if not project.is_type(it)),
                        *(it for text in texts for it in (text, text + "_") if hasattr(words, it))}
         clauses = [] if isinstance(entity, Type) else entity.clauses
-        sources = [Name(it) for row in entity.parameters for it in row.names] if isinstance(entity, Type) else clauses[0][1]
+        sources = clauses[0][1] if clauses else [Name(it) for row in entity.parameters for it in row.names]
         self.types = {}  # of the parameters
         for number, type in enumerate(types):
             patterns = [patterns[number] for _, patterns, _ in clauses if number < len(patterns)] or sources[number:]
@@ -221,7 +223,7 @@ class Written:
                 self.match(names[:len(sources)], cases, {})
 
     def is_of_text(self, types, result):
-        """Whether this is what a text says, if it says something: the definitions ask that of one line again and again."""
+        """Whether this is what a text says, if it says something: that is asked of one line again and again."""
         heads = [it and spine(it)[0] for it in (*types, result)]
         return heads == [Name("List"), Name("Option")] and spine(types[0])[1] == [Name("ℕ")]
 
@@ -254,7 +256,8 @@ class Written:
             case [(first, base), (second, body)] if Name("zero") in first: at = first.index(Name("zero"))
             case _: return False
         variables, own = [*second[:at], *spine(second[at])[1], *second[at + 1:]], Name(self.entity.name)
-        ways = [it for it in (body, self.inlined(body)) if [x for x in parts(it) if x in (Apply(own, variables), own)][1:] == [own]]
+        call = Apply(own, variables)
+        ways = [it for it in (body, self.inlined(body)) if [x for x in parts(it) if x in (call, own)] == [call, own]]
         if not ways or len(variables) != len(first):
             return False
         scope = {it.text: name for it, name in zip(first, names) if it != Name("zero")}
@@ -262,7 +265,7 @@ class Written:
         self.emit(f"{so_far} = ", self.value(base, scope))
         scope = {"=": so_far, **{it.text: name for it, name in zip(variables, names) if it != variables[at]}}
         count, scope = self.bind(variables[at], scope)
-        body = changed(ways[0], lambda it: Given(so_far) if it == Apply(own, variables) else None)
+        body = changed(ways[0], lambda it: Given(so_far) if it == call else None)
         with self.block(f"for {count if variables[at] in list(parts(body)) else '_'} in range({names[at]})"):
             while isinstance(body, Let):
                 body, scope = body.body, self.let(body, scope)
@@ -311,7 +314,8 @@ class Written:
     def match(self, subjects, cases, scope):
         """A definition by clauses, or an `elim`. A column that has variables alone needs no pattern."""
         numbers = range(len(subjects))
-        plain = [n for n in numbers if subjects[n].isidentifier() and all(self.is_variable(it[n]) for it, _, _ in cases)]
+        plain = [it for it in numbers if subjects[it].isidentifier()
+                 and all(self.is_variable(patterns[it]) for patterns, _, _ in cases)]
         columns = [it for it in numbers if it not in plain]
         numeric = [subjects[it] for it in columns if any(is_numeric(patterns[it]) for patterns, _, _ in cases)]
         rows = []
@@ -327,7 +331,8 @@ class Written:
                 shown = ", ".join(self.pattern(patterns[it], scope, subjects[it]) for it in columns)
                 is_open = self.guards or not all(self.is_total(patterns[it]) for it in columns)
                 self.lines += comment(said, self.indent)
-                with self.block(f"case {shown}" + (f" if {' and '.join(self.guards)}" if self.guards else ""), may_join=True):
+                guard = f" if {' and '.join(self.guards)}" if self.guards else ""
+                with self.block(f"case {shown}{guard}", may_join=True):
                     for name, value in self.binds:
                         self.emit(f"{name} = {value}")
                     self.tail(body, scope)
@@ -335,7 +340,7 @@ class Written:
                 self.emit(f"case _: raise NoCase({self.python.name(self.entity)!r})")
         return None
 
-    # ---- statements of the definitions as truth values
+    # ---- statements of the definitions, which are true or false
 
     def for_all(self, variable, type, rest, scope):
         """A statement of all values: of the one that an option has, or of each constructor of a kind of data."""
@@ -350,13 +355,15 @@ class Written:
         raise Refused("a statement of all values of a type")
 
     def truth_of_record(self, scope):
-        """The statements of a record together. One that says of two lists, which the record has, that they stand around an
-        item is of each way to split the whole."""
+        """The statements of a record together. One that says of two lists, which the record has, that they stand around
+        an item is of each way to split the whole."""
         names = [it for it, _, _ in self.project.fields(self.entity)]
         told, start, end = [it for name, it, _ in self.entity.members if name not in names], "", ""
         for it in told if names else ():
             match it:
-                case Operator("≡", whole, Operator("++", Name(before), Operator("∷", _, Name(after)))) if [before, after] == names:
+                case Operator("≡", whole, Operator("++", Name(before), Operator("∷", _, Name(after)))):
+                    if [before, after] != names:
+                        continue
                     whole = self.value(whole, scope)
                     before, scope = self.bind(Name(before), scope)
                     after, scope = self.bind(Name(after), scope)
@@ -424,10 +431,13 @@ class Written:
             return str(-known - 1 if is_negative else known)
         if not (subject or "").isidentifier():
             raise Refused("a number by its parts in a pattern of something else")
-        self.guards.append(f"{subject} < {-add}" if is_negative else f"{subject} > {add - 1}" if add else f"{subject} >= 0")
+        if is_negative:
+            guard, rest = f"{subject} < {-add}", f"-{subject} - {add + 1}"
+        else:
+            guard, rest = (f"{subject} > {add - 1}", f"{subject} - {add}") if add else (f"{subject} >= 0", subject)
+        self.guards.append(guard)
         if tree != Name("_"):
-            name = self.variable(tree, scope)
-            self.binds.append((name, f"-{subject} - {add + 1}" if is_negative else f"{subject} - {add}" if add else subject))
+            self.binds.append((self.variable(tree, scope), rest))
         return "_"
 
     # ---- expressions
@@ -471,16 +481,17 @@ class Written:
             case Operator("≡", left, Name("true")): return self.value(left, scope)
             case Operator("≡", left, Name("false")): return negated(self.value(left, scope))
             case Operator("→", Typed([name], type), rest): return self.for_all(Name(name), type, rest, scope)
-            case Operator("→", left, right): return chain("or", negated(self.value(left, scope)), self.value(right, scope))
         values = self.values([tree.left, tree.right], scope)
-        if sign in DIVISIONS and is_above_zero(tree.right) or sign in SIGNS:
-            return chain((DIVISIONS | SIGNS)[sign], *values)
-        if sign not in CALLS:
+        if sign == "→":
+            return chain("or", negated(values[0]), values[1])
+        if sign in DIVISIONS and is_above_zero(tree.right):
+            return chain(DIVISIONS[sign], *values)
+        if (sign, 2) not in INLINE:
             raise Refused(f"the operator {sign} is not known")
-        return CALLS[sign].format(*values)
+        return INLINE[sign, 2](*values)
 
     def listed(self, tree, scope, expected):
-        items, (_, [item, *_]) = [], spine(self.project.opened(expected)) if isinstance(expected, Apply) else (None, [None])
+        items, item = [], spine(self.project.opened(expected))[1][0] if isinstance(expected, Apply) else None
         while isinstance(tree, Operator) and tree.sign == "∷":
             items.append(self.value(tree.left, scope, item))
             tree = tree.right
@@ -569,7 +580,8 @@ class Written:
             names = " or ".join(it.name for it in found) or "none that is known here"
             raise Refused(f"a record with the fields {said} may be {names}")
         kept = {it for it, _, _ in self.project.fields(found[0])}
-        return f"{self.python.name(found[0])}({self.named([it for it in tree.fields if it[0] in kept], scope, found[0])})"
+        fields = [it for it in tree.fields if it[0] in kept]
+        return f"{self.python.name(found[0])}({self.named(fields, scope, found[0])})"
 
 
 def field_text(field):
