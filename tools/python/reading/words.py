@@ -55,7 +55,7 @@ def monus(a, b): return a - b if a > b else 0  # subtraction of naturals ends at
 def quotient(a, b): return a // b if b else 0  # to divide by 0 gives 0
 def remainder(a, b): return a % b if b else a  # and leaves the number
 def max_(a, b): return a if a > b else b  # the greater of two
-def nat_eq(a, b): return a == b
+def nat_eq(a, b): return a == b  # whether two numbers are the same
 def bit_not(width, a): return ((1 << width) - 1) ^ a  # of a number of that many bits
 def cast_signed(width, n): return n - (1 << width) if n >> (width - 1) else n  # a word that is read as one with a sign
 def cast_unsigned(width, n): return n % (1 << width)  # and back
@@ -71,24 +71,26 @@ def replicate(n, item): return [item] * n  # an item n times
 def range_with_len(start, n): return list(range(start, start + n))  # n numbers from that one on
 def slice_get(items, place): return Some(items[place]) if place < len(items) else None  # the item at a place from 0
 def slice_index(items, place): return items[place] if place < len(items) else 0  # that number, or 0
-def slice_index_or(items, place, otherwise): return items[place] if place < len(items) else otherwise  # or another item
-def slice_set(items, place, item): return [*items[:place], item, *items[place + 1:]] if place < len(items) else items
+def slice_index_or(items, n, other): return items[n] if n < len(items) else other  # item n from 0, or another one
+def slice_set(items, n, it): return [*items[:n], it, *items[n + 1:]] if n < len(items) else items  # item n is another
 def position_or_len(test, items): return next((n for n, it in enumerate(items) if test(it)), len(items))  # its place
-def position_from(test, start, items): return next((Some(start + n) for n, it in enumerate(items) if test(it)), None)
+def position_from(test, start, items):
+    """The number of the first item that meets a test, if one does, where the first of all has the number `start`."""
+    return next((Some(start + n) for n, it in enumerate(items) if test(it)), None)
 def before_first(test, items): return items[:position_or_len(test, items)]  # the items before one that meets a test
 def pointwise(same, a, b): return len(a) == len(b) and all(same(x, y) for x, y in zip(a, b))  # whether two are the same
-def bytes_eq(a, b): return a == b
+def bytes_eq(a, b): return a == b  # whether two texts are the same
 def splits(items): return [(items[:n], items[n + 1:]) for n in range(len(items))]  # what is before and after each item
 def pairs(items): return [(one, two) for n, one in enumerate(items) for two in items[n + 1:]]  # each with each after it
-def option_map(f, option): return None if option is None else Some(f(option.value))
-def option_and_then(f, option): return None if option is None else f(option.value)
-def option_map_or(f, option, otherwise): return otherwise if option is None else f(option.value)
+def option_map(f, option): return None if option is None else Some(f(option.value))  # f of what is there, if it is
+def option_and_then(f, option): return None if option is None else f(option.value)  # f may give none too
+def option_map_or(f, option, other): return other if option is None else f(option.value)  # f of it, or another value
 def option_or(option, other): return other if option is None else option  # the first that is there
-def option_to_list(option): return [] if option is None else [option.value]
-def cons_option(option, items): return items if option is None else [option.value, *items]
-def unwrap_or(option, otherwise): return otherwise if option is None else option.value
-def is_some(option): return option is not None
-def is_none(option): return option is None
+def option_to_list(option): return [] if option is None else [option.value]  # the list of what is there, or none
+def cons_option(option, items): return items if option is None else [option.value, *items]  # before the items
+def unwrap_or(option, otherwise): return otherwise if option is None else option.value  # what is there, or another
+def is_some(option): return option is not None  # whether something is there
+def is_none(option): return option is None  # whether nothing is
 def nat_cmp(a, b): return (a > b) - (a < b)  # an order is -1, 0 or 1
 def slice_cmp(order, a, b): return (a > b) - (a < b)  # that of the first items that differ; a beginning comes first
 def finmap_find(order, key, pairs): return next((Some(value) for it, value in pairs if it == key), None)  # in a map
