@@ -4,7 +4,7 @@ import pathlib
 import re
 import textwrap
 
-from reading.language import Definition, Module, Type
+from reading.language import Definition, Module, Refused, Type
 from reading.layout import WIDTH, comment, statement
 from reading.python import Python, py
 
@@ -220,15 +220,15 @@ class File:
         lines += (HERE / "running.py").read_text(encoding="utf-8").strip("\n").split("\n")
         return re.sub(r"\n{4,}", "\n\n\n", "\n".join(it.rstrip() for it in lines)).split("\n")
 
-    def text(self):
-        """The whole file."""
+    def text(self, trace=None):
+        """The whole file. Its example has the trace that the definitions give, unless that is said to be another one."""
         lines, contents = self.lines(), []
         for number, line in enumerate(lines):
             if line == RULE and lines[number - 1] == "":
                 contents.append((number + 1, lines[number + 1][2:]))
             elif line.startswith("# ---- ") and is_long(lines, number):
                 contents.append((number, "    " + re.split(r" \[|[:(]|\.(?: |$)", line[7:])[0].strip()))
-        texts = {"machine": MACHINE, "events": EVENTS, "trace": trace_of(lines)}
+        texts = {"machine": MACHINE, "events": EVENTS, "trace": trace_of(lines) if trace is None else trace}
         words = {name: textwrap.indent(text.rstrip("\n"), "    ") for name, text in texts.items()}
         words["renamed"] = self.renamed()
         above = HEAD.format(contents="\n" * (len(contents) - 1), **words).count("\n")
@@ -270,4 +270,7 @@ def trace_of(lines):
     """The trace of the example, by the definitions themselves."""
     found = {"__name__": "definitions", "__file__": __file__}
     exec("\n".join(lines), found)
-    return found["_outcome"](MACHINE.encode(), EVENTS.encode())[1].decode()
+    try:
+        return found["_outcome"](MACHINE.encode(), EVENTS.encode())[1].decode()
+    except Exception as why:
+        raise Refused(f"the example does not run: {type(why).__name__}: {why}") from None
