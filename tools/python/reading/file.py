@@ -143,7 +143,7 @@ class File:
 
     def parts_of(self):
         """The part of the file that each module is in, and the modules in order of first use."""
-        run, printed, script, _ = self.roots
+        run, printed, *_ = self.roots
         holders, modules = {it.module for it in self.states} - {run.module}, {}
         for roots, place in (([run], 1), ([printed], 3), (self.roots, 4), (self.laws, 5)):
             for module in (it.module for it in self.sequence(roots)):
@@ -152,8 +152,6 @@ class File:
                     own = 3
                 elif place < 5 and module.crate == run.module.crate:
                     own = 2 if module in holders else 0
-                elif place == 1 and module.crate == script.module.crate:
-                    own = 4
                 modules.setdefault(module, own)
         return modules
 

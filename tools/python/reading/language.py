@@ -199,9 +199,7 @@ class Parser:
         return self.make(Implicit)
 
     def between(self):
-        """What is in parentheses: the unit, parameters with their type, a pair, or an expression."""
-        if self.has(")"):
-            return self.make(Name, "tt")
+        """What is in parentheses: parameters with their type, a pair, or an expression."""
         items = [self.expression()]
         while self.has(","):
             items.append(self.expression())
@@ -334,9 +332,7 @@ class Module:
         path, names, alias = found.groups() if (found := USE.match(text)) else ("", "", None)
         if alias:
             self.aliases[alias] = path
-        elif names is None:
-            path, _, names = path.rpartition(".")
-        for it in filter(None, (it.strip() for it in (names or "").split(","))) if not alias else ():
+        for it in filter(None, (it.strip() for it in (names or "").split(","))):
             there, _, here = it.partition(" as ")
             *below, there = there.split(".")
             self.imports[here or there] = ".".join([path, *below]), there
