@@ -108,7 +108,7 @@ impl<'a> Course<'a> {
     }
 
     /// The number of the last step, tick or request, as the log has it.
-    pub fn moment(&self) -> u64 {
+    pub(crate) fn moment(&self) -> u64 {
         self.steps.saturating_add(self.passed)
     }
 

@@ -166,7 +166,7 @@ fn cause_of(machine: &Linked, file: &MachineFile, task: usize, command: &Command
 }
 
 /// The cause as the end of a sentence.
-pub fn cause_text(alloc: Global, cause: Cause) -> Result<String, AllocError> {
+pub(crate) fn cause_text(alloc: Global, cause: Cause) -> Result<String, AllocError> {
     match cause {
         Cause::NoLibrary => format!(in alloc; ", since the file has no library of that name"),
         Cause::Version(has, wanted) => {
@@ -191,7 +191,7 @@ pub fn cause_text(alloc: Global, cause: Cause) -> Result<String, AllocError> {
 
 impl Failings {
     /// Nothing is noted of that many tasks.
-    pub fn new(alloc: Global, count: usize) -> Result<Failings, AllocError> {
+    pub(crate) fn new(alloc: Global, count: usize) -> Result<Failings, AllocError> {
         Ok(Failings {
             calls: vec![in alloc; None; count]?,
             opens: vec![in alloc; None; count]?,
@@ -240,7 +240,7 @@ impl Failings {
     }
 
     /// Notes a call of a task, if it has failed.
-    pub fn note(
+    pub(crate) fn note(
         &mut self,
         machine: &Linked,
         file: &MachineFile,
@@ -260,13 +260,13 @@ impl Failings {
     }
 
     /// Why a call of a task has failed, if it is the last of that task that has.
-    pub fn cause(&self, site: Site) -> Option<Cause> {
+    pub(crate) fn cause(&self, site: Site) -> Option<Cause> {
         let failure = (*self.calls.get(site.spot.task()?)?)?;
         (failure.site == site).then_some(failure.cause)
     }
 
     /// The OpenDevice of a request that has failed last, if it is the last of its task.
-    pub fn unopened(&self, request: u32) -> Option<Unopened> {
+    pub(crate) fn unopened(&self, request: u32) -> Option<Unopened> {
         for last in self.opens.iter() {
             if let Some(one) = *last {
                 if one.request == request {

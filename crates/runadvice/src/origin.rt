@@ -11,7 +11,7 @@ use std::alloc::{AllocError, Global};
 use taskscript::Owner;
 
 /// What has a body, in words.
-pub fn kind_of_owner(owner: Owner) -> &'static str {
+pub(crate) fn kind_of_owner(owner: Owner) -> &'static str {
     match owner {
         Owner::Task => "task",
         Owner::Server => "server",
@@ -43,7 +43,7 @@ fn call_text(alloc: Global, command: &Command) -> Result<String, AllocError> {
 
 impl Asking<'_, '_> {
     /// The place of a command: its line, and its body if that is not the one of the refused call.
-    pub fn site_text(&self, site: Site) -> Result<String, AllocError> {
+    pub(crate) fn site_text(&self, site: Site) -> Result<String, AllocError> {
         let (spot, who) = (site.spot, self.refused.spot);
         let line = spot.number_in(self.listing);
         if who.owner == spot.owner && who.item == spot.item {

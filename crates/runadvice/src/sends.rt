@@ -52,7 +52,7 @@ pub struct Sends {
 }
 
 /// The mask of a signal.
-pub fn mask_of(signal: u32) -> u32 {
+pub(crate) fn mask_of(signal: u32) -> u32 {
     if signal < 32 { 1u32 << signal } else { 0 }
 }
 
@@ -64,7 +64,7 @@ fn is_over(machine: &Linked, task: usize) -> bool {
 }
 
 /// Whether a word sends a signal or a message, or ends a task.
-pub fn is_sending(word: Word) -> bool {
+pub(crate) fn is_sending(word: Word) -> bool {
     matches!(
         word,
         Word::Signals(SignalWord::Signal)
@@ -75,7 +75,7 @@ pub fn is_sending(word: Word) -> bool {
 }
 
 /// Whether a word may clear signals of its task.
-pub fn is_clearing(word: Word) -> bool {
+pub(crate) fn is_clearing(word: Word) -> bool {
     matches!(
         word,
         Word::Signals(SignalWord::SetSignal | SignalWord::Wait | SignalWord::AllocSignal)
@@ -85,7 +85,7 @@ pub fn is_clearing(word: Word) -> bool {
 }
 
 /// A field of a line, from 0; none if it has not so many.
-pub fn field_in(line: &str, number: usize) -> &str {
+pub(crate) fn field_in(line: &str, number: usize) -> &str {
     for (i, field) in line.split(' ').enumerate() {
         if i == number {
             return field;
@@ -95,7 +95,7 @@ pub fn field_in(line: &str, number: usize) -> &str {
 }
 
 /// The number that a field of a line is, or 0.
-pub fn number_in(line: &str, number: usize) -> u32 {
+pub(crate) fn number_in(line: &str, number: usize) -> u32 {
     number_of(field_in(line, number).as_bytes()).unwrap_or(0)
 }
 
@@ -107,7 +107,7 @@ fn key(task: usize, signal: u32) -> usize {
 
 impl Sends {
     /// Nothing is noted of that many tasks.
-    pub fn new(alloc: Global, count: usize) -> Result<Sends, AllocError> {
+    pub(crate) fn new(alloc: Global, count: usize) -> Result<Sends, AllocError> {
         Ok(Sends {
             signals: HashMap::new(alloc),
             kept: vec![in alloc; 0u32; count]?,
@@ -120,12 +120,12 @@ impl Sends {
     }
 
     /// The last time that a signal came to a task, if it did.
-    pub fn came(&self, task: usize, signal: u32) -> Option<Came> {
+    pub(crate) fn came(&self, task: usize, signal: u32) -> Option<Came> {
         self.signals.get(&key(task, signal)).copied()
     }
 
     /// The task to which a signal came last.
-    pub fn aim(&self, signal: u32) -> Option<usize> {
+    pub(crate) fn aim(&self, signal: u32) -> Option<usize> {
         *self.aims.get(signal as usize)?
     }
 
@@ -170,7 +170,7 @@ impl Sends {
     }
 
     /// Notes that a message, or the reply of a request, was put into the port that has it.
-    pub fn put(&mut self, machine: &Linked, message: u32, deed: Deed) {
+    pub(crate) fn put(&mut self, machine: &Linked, message: u32, deed: Deed) {
         let Some(address) = machine.port_with(message) else {
             return;
         };
@@ -200,7 +200,7 @@ impl Sends {
     }
 
     /// Notes a call of a word that sends, with its first two arguments.
-    pub fn note(&mut self, machine: &Linked, word: Word, values: (u32, u32), deed: Deed) {
+    pub(crate) fn note(&mut self, machine: &Linked, word: Word, values: (u32, u32), deed: Deed) {
         let (first, second) = values;
         match word {
             Word::Signals(_) => {
@@ -227,7 +227,7 @@ impl Sends {
     }
 
     /// Notes which of the signals that came to a task its command has cleared.
-    pub fn clear(&mut self, machine: &Linked, task: usize, deed: Deed) {
+    pub(crate) fn clear(&mut self, machine: &Linked, task: usize, deed: Deed) {
         let received = machine.task(task).map_or(0, |view| view.received);
         let kept = self.kept.get(task).copied().unwrap_or(0);
         let cleared = kept & !received;

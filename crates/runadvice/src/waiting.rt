@@ -86,7 +86,7 @@ fn header_of(level: Level) -> &'static str {
 
 impl Scene<'_, '_> {
     /// Whether no task runs and none is ready.
-    pub fn is_idle(&self) -> bool {
+    pub(crate) fn is_idle(&self) -> bool {
         self.machine.view().running.is_none() && self.machine.ready_after(None).is_none()
     }
 

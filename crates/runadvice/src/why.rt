@@ -25,7 +25,7 @@ pub struct Unread {
 }
 
 /// The ports that signal their tasks and have messages.
-pub fn unread_ports(alloc: Global, machine: &Linked) -> Result<Vec<Unread>, AllocError> {
+pub(crate) fn unread_ports(alloc: Global, machine: &Linked) -> Result<Vec<Unread>, AllocError> {
     let mut ports = Vec::new(alloc);
     for block in blocks_of(alloc, machine)?.iter() {
         let address = block.address;
@@ -45,7 +45,7 @@ pub fn unread_ports(alloc: Global, machine: &Linked) -> Result<Vec<Unread>, Allo
 }
 
 /// The port with a message for whose signal a task waits.
-pub fn unread_by(waiter: &Waiter, ports: &[Unread]) -> Option<Unread> {
+pub(crate) fn unread_by(waiter: &Waiter, ports: &[Unread]) -> Option<Unread> {
     let Awaited::Signals(mask) = waiter.awaited else {
         return None;
     };
@@ -146,7 +146,7 @@ impl Scene<'_, '_> {
     }
 
     /// Adds that a task waits for the signal of its port, which has a message.
-    pub fn add_unread<'a>(
+    pub(crate) fn add_unread<'a>(
         &self,
         page: &mut Page<'a>,
         turn: Turn,
@@ -267,7 +267,7 @@ impl Scene<'_, '_> {
     }
 
     /// What is known of the signals that have not ended a wait, and after it what would end it.
-    pub fn why_text(
+    pub(crate) fn why_text(
         &self,
         page: &Page<'_>,
         waiter: &Waiter,
@@ -310,7 +310,7 @@ impl Scene<'_, '_> {
     }
 
     /// Adds what was sent to tasks that had ended.
-    pub fn add_lates<'a>(&self, page: &mut Page<'a>) -> Result<(), AllocError> {
+    pub(crate) fn add_lates<'a>(&self, page: &mut Page<'a>) -> Result<(), AllocError> {
         for (task, late) in self.course.sends.late.iter().enumerate() {
             if let Some(deed) = *late {
                 self.add_late(page, task, deed)?;
