@@ -1,6 +1,5 @@
 """Makes docs/words.json: the rows of the words that the program `runs` prints from the tables of `script`, the sources in the comments
 there, and the rest from words.toml."""
-import json
 import pathlib
 import re
 import subprocess
@@ -65,12 +64,6 @@ def printed_rows(program):
         name, answers, *kinds = line.split(" ")
         rows[name] = answers == "answers", kinds
     return rows
-
-
-def kept_rows():
-    """The rows of docs/words.json as it is."""
-    words = json.loads((tables.TOP / "docs" / "words.json").read_text())["words"]
-    return {word["name"]: (word["answer"] is not None, [one["kind"] for one in word["arguments"]]) for word in words}
 
 
 def meaning(text):

@@ -1,107 +1,221 @@
-"""Where each word of the reader has to be: tables, definitions, code, tests and stored answers. `.ci/quick` lists what lacks a word, and what still
-says that it is none. docs/ADDING.md says how each is written."""
+"""Where each word of the reader has to be written by hand: tables, matches, tests and stored answers. `.ci/quick` says what lacks a word, and what still says
+that it is none; `.ci/adding` compares these places with docs/ADDING.md, which says how each is written. `wordplaces.py` prints them as JSON."""
+import dataclasses
+import functools
 import json
 import re
 import tomllib
 
 import pages
+import runcounts
 import tables
+import wordgroups
+import wordmatches
 
 TOP = tables.TOP
-ROW = re.compile(r'Row::\w+\(\s*"(\w+)"')
 # Files of which one at least has to name each word, with what it has of it.
 NAMED = (
-    ("its row in the definitions", "crates/*/specs/*Words.antt"),
+    ("its row in the definitions", "crates/script/specs/*Words.antt"),
     ("its rule", "crates/execmodel/specs/*.antt"),
     ("its step", "crates/execsim/src/**/*.rt"),
-    ("a run of a table", "crates/runs/data/*.runs"),
-    ("its call in C", "docs/FROM-C.md"),
-    ("its row for users", "docs/WORDS.md"),
-    ("the schema of machine files", "docs/execsim-machine.schema.json"),
 )
-# What must not name a word: answers that say that it is none.
+# What must not name a word: what says that it is none.
 NOT_NAMED = (
     ("a run says that it is no command", "crates/runs/data/not-simulated.runs", r"^== {} is no command$"),
 )
 # A stored answer that says of the text above its marks that it is no word.
 UNKNOWN = re.compile(r"(?m)^(.*)\n( +)(\^+) unknown word")
+# A word and its alert, of which a stored answer is.
+ENDING = re.compile(r"(?m)^== (\w+) ([A-Z]+)\b")
 COUNTED = re.compile(r"\bthere are (\d+) words\b")
 
 
-def row_files():
-    """The files with the rows of the reader, a group of words each."""
-    return sorted(TOP.glob("crates/*/src/word/*.rt"))
+@dataclasses.dataclass(frozen=True)
+class Place:
+    """A place that lacks a word, or says that it is none: the word, its file, its line, and what is there."""
+
+    word: str
+    file: str
+    line: int
+    what: str
+
+    def __str__(self):
+        return f"{self.file}:{self.line}: {self.word}: {self.what}"
 
 
-def words_of(text):
-    """The words whose rows a file has."""
-    return ROW.findall(text)
+@functools.cache
+def read(file):
+    """The text of a file."""
+    return file.read_text(encoding="utf-8", errors="replace")
 
 
-def all_words():
-    """The words that the reader knows."""
-    return [word for file in row_files() for word in words_of(file.read_text(encoding="utf-8"))]
+def name_of(file):
+    """A file's path from the top."""
+    return str(file.relative_to(TOP))
 
 
-def text_of(pattern):
-    """The text of all files of a pattern."""
-    return "\n".join(it.read_text(encoding="utf-8", errors="replace") for it in sorted(TOP.glob(pattern)) if it.is_file())
+def line_at(text, at):
+    """The line of a place in a text."""
+    return text.count("\n", 0, at) + 1
 
 
-def are_in(text):
-    """The whole words of a text."""
-    return set(re.findall(r"\w+", text))
+def files_of(pattern):
+    """The files of a pattern."""
+    return [it for it in sorted(TOP.glob(pattern)) if it.is_file()]
+
+
+def last_line(text, words):
+    """The last line that names one of some words, or 1."""
+    found = [it.end() for it in re.finditer(rf"\b(?:{'|'.join(words)})\b", text)] if words else []
+    return line_at(text, max(found)) if found else 1
+
+
+def beside(files, word, group):
+    """Where a word would be written: of some files the one that names most of its group, and the last line there that does."""
+    others = [it for it in group.words if it != word]
+    file = max(files, key=lambda it: (len({*others} & {*re.findall(r"\w+", read(it))}), it.stem == group.name))
+    return name_of(file), last_line(read(file), others)
+
+
+# ---- what lacks a word
+
+def unmatched():
+    """Matches over a group in which a word has no way."""
+    for match in wordmatches.matches():
+        for word in match.lacks():
+            yield Place(word, match.file, match.line, f"`{match.name}` has no way for it")
+
+
+def listed(group):
+    """The two lists of a group's words: the file of each, its line, and its text."""
+    source = TOP / "crates" / "script" / "src" / "word" / f"{group.name}.rt"
+    lists = [(source, re.search(r"const ALL: [^=]*= \[(.*?)\];", read(source), re.S))]
+    for file in files_of("crates/script/specs/*Words.antt"):
+        if group.enum in read(file):
+            lists.append((file, re.search(rf"\w+_words : List {group.enum}\n\w+ = (.*)", read(file))))
+    return [(name_of(file), line_at(read(file), found.end()), found[1]) for file, found in lists if found]
+
+
+def unlisted():
+    """Lists of a group's words that lack one."""
+    for group in wordgroups.groups():
+        for file, line, text in listed(group):
+            known = {*re.findall(r"\w+", text)}
+            yield from (Place(word, file, line, "the list of words lacks it") for word in group.words if word not in known)
+
+
+def unnamed():
+    """Files of a pattern of which none names a word."""
+    for what, pattern in NAMED:
+        files = files_of(pattern)
+        named = {it for file in files for it in re.findall(r"\w+", read(file))}
+        for group in wordgroups.groups():
+            for word in group.words:
+                if word not in named:
+                    yield Place(word, *beside(files, word, group), f"it lacks it ({what})")
+
+
+def without_a_run():
+    """Words that no run of a table has, and the number of runs that would change."""
+    words = {*wordgroups.all_words()}
+    have = {word for run in tables.all_runs() if run.status != 1 for word in run.words(words)}
+    for group in wordgroups.groups():
+        for word in group.words:
+            if word not in have:
+                file, line = beside(files_of("crates/runs/data/*.runs"), word, group)
+                yield Place(word, file, line, "no run has it")
+                counted = re.search(rf"(?m)^{re.escape(file.rpartition('/')[2])}: ", read(runcounts.STDOUT))
+                yield Place(word, name_of(runcounts.STDOUT), line_at(read(runcounts.STDOUT), counted.start()), "the number of its runs is not there")
+
+
+def meanings():
+    """The rows of tools/words.toml."""
+    return {it["name"]: it for it in tomllib.loads(read(TOP / "tools" / "words.toml"))["word"]}
+
+
+def unexplained():
+    """Words of which no stored answer says what `execcheck` says of an alert; of a word without a row, that none is there of any."""
+    file, rows = TOP / "crates" / "runs" / "data" / "mistakes" / "alerts.endings", meanings()
+    said = {*ENDING.findall(read(file))}
+    for group in wordgroups.groups():
+        for word in group.words:
+            codes = [it.partition(":")[0] for it in rows[word].get("alerts", [])] if word in rows else []
+            where = beside([file], word, group)
+            yield from (Place(word, *where, f"what is said of its alert {it} is not there") for it in codes if (word, it) not in said)
+            if word not in rows and any(one in group.words for one, _ in said):
+                yield Place(word, *where, "what is said of each of its alerts is not there")
+
+
+def without_meaning():
+    """Words that tools/words.toml lacks, or has and the reader has not."""
+    file, names = TOP / "tools" / "words.toml", [*meanings()]
+    words = wordgroups.all_words()
+    for group in wordgroups.groups():
+        for word in group.words:
+            if word not in names:
+                yield Place(word, *beside([file], word, group), "it lacks it (what it means)")
+    for word in names:
+        if word not in words:
+            yield Place(word, name_of(file), last_line(read(file), [word]), "it has it, and the reader does not")
 
 
 def lacking():
-    """What lacks a word: pairs of the word and the place, for people."""
-    words = all_words()
-    for what, pattern in NAMED:
-        named = are_in(text_of(pattern))
-        yield from ((word, f"{pattern} lacks it ({what})") for word in words if word not in named)
-    prose = [it["name"] for it in tomllib.loads((TOP / "tools/words.toml").read_text(encoding="utf-8"))["word"]]
-    listed = [it["name"] for it in json.loads((TOP / "docs/words.json").read_text(encoding="utf-8"))["words"]]
-    for page, names in (("tools/words.toml", prose), ("docs/words.json", listed)):
-        yield from ((word, f"{page} lacks it") for word in words if word not in names)
-        yield from ((word, f"{page} has it, and the reader does not") for word in names if word not in words)
+    """All places that lack a word. Of a match and a file that lack one word, the match is named."""
+    found = [*unmatched(), *unlisted()]
+    has_match = {(it.word, it.file) for it in found}
+    found += [it for it in unnamed() if (it.word, it.file) not in has_match]
+    return found + [*without_a_run(), *unexplained(), *without_meaning()]
 
+
+# ---- what says that a word is none
 
 def twice_named(words):
     """The names of crates/execadvice/src/foreign.rt, of Exec and other systems, that are words or have two rows: in whatever case, as they are looked for."""
+    file = TOP / "crates" / "execadvice" / "src" / "foreign.rt"
     names = [name for table in ("NAMES", "ABSENT") for name, _ in pages.foreign_rows(table)]
     known = {word.lower(): word for word in words}
     for name in names:
         if name in words:
-            yield name, "crates/execadvice/src/foreign.rt: it is a foreign name"
+            said = "it is a foreign name"
         elif sum(other.lower() == name.lower() for other in names) > 1:
-            yield name, "crates/execadvice/src/foreign.rt: it has two rows"
+            said = "it has two rows"
         elif name.lower() in known:
-            yield name, f"crates/execadvice/src/foreign.rt: it is {known[name.lower()]} in other letters"
+            said = f"it is {known[name.lower()]} in other letters"
+        else:
+            continue
+        yield Place(name, name_of(file), line_at(read(file), read(file).index(f'"{name}"')), said)
+
+
+def refused(words):
+    """Runs and pages that say of a word that it is none, and stored answers to it."""
+    for what, pattern, form in NOT_NAMED:
+        for file in files_of(pattern):
+            for word in words:
+                for found in re.finditer(form.format(word), read(file), re.M):
+                    yield Place(word, name_of(file), line_at(read(file), found.start()), what)
+    for file in files_of("crates/runs/data/mistakes/*"):
+        for found in UNKNOWN.finditer(read(file)):
+            word = found[1][len(found[2]) : len(found[2]) + len(found[3])]
+            if word in words:
+                yield Place(word, name_of(file), line_at(read(file), found.start()), "a stored answer says that it is unknown")
+
+
+def miscounted(words):
+    """Tests that count the words, and numbers of runs, that are others."""
+    for file in files_of("crates/*/src/**/*.rt"):
+        for found in COUNTED.finditer(read(file)):
+            if int(found[1]) != len(words):
+                said = f"it says that there are {found[1]}, and there are {len(words)}"
+                yield Place("all words", name_of(file), line_at(read(file), found.start()), said)
+    for line, table, number, counted in runcounts.differing():
+        yield Place(table, name_of(runcounts.STDOUT), line, f"it says {number}, and there are {counted}")
 
 
 def contradicting():
-    """What says of a word that it is none, or counts the words wrongly: pairs of the word, or how many there are, and the place."""
-    words = all_words()
-    yield from twice_named(words)
-    for what, pattern, form in NOT_NAMED:
-        for file in sorted(TOP.glob(pattern)):
-            text = file.read_text(encoding="utf-8", errors="replace")
-            for word in words:
-                for found in re.finditer(form.format(word), text, re.M):
-                    yield word, f"{place(file, text, found.start())}: {what}"
-    for file in sorted(TOP.glob("crates/runs/data/mistakes/*")):
-        text = file.read_text(encoding="utf-8", errors="replace")
-        for found in UNKNOWN.finditer(text):
-            word = found[1][len(found[2]) : len(found[2]) + len(found[3])]
-            if word in words:
-                yield word, f"{place(file, text, found.start())}: a stored answer says that it is unknown"
-    for file in sorted(TOP.glob("crates/*/src/**/*.rt")):
-        text = file.read_text(encoding="utf-8")
-        for found in COUNTED.finditer(text):
-            if int(found[1]) != len(words):
-                yield str(len(words)), f"{place(file, text, found.start())}: it says that there are {found[1]}"
+    """All places that say of a word that it is none, or count the words or their runs wrongly."""
+    words = wordgroups.all_words()
+    return [*twice_named(words), *refused(words), *miscounted(words)]
 
 
-def place(file, text, at):
-    """A place in a file, as FILE:LINE."""
-    return f"{file.relative_to(TOP)}:{text.count(chr(10), 0, at) + 1}"
+if __name__ == "__main__":
+    print(json.dumps([dataclasses.astuple(it) for it in (*lacking(), *contradicting())]))
