@@ -1,0 +1,33 @@
+"""What the other words of a group have: files that name each of them, and files whose path has the name of each. A new word may be wanted there, too."""
+import pathlib
+import re
+import subprocess
+
+import wordgroups
+
+# Runs name words by chance, and what is made at a release is made of the rest.
+LEFT_OUT = ("crates/runs/data/", "dist/", ".ci/adding")
+
+
+def files(top):
+    """The files of a checkout, as paths from its top: those of git, and those that are new."""
+    said = subprocess.run(["git", "ls-files", "-co", "--exclude-standard"], cwd=top, capture_output=True, text=True, check=True).stdout
+    return [it for it in said.splitlines() if pathlib.Path(top, it).is_file()]
+
+
+def naming(top, words):
+    """The files that name each of some words."""
+    for file in files(top):
+        if not file.startswith(LEFT_OUT):
+            text = pathlib.Path(top, file).read_text(encoding="utf-8", errors="replace")
+            if {*words} <= {*re.findall(r"\w+", text)}:
+                yield file
+
+
+def named_after(top, words):
+    """The paths that there are with each of some words as a folder, with WORD in its place."""
+    found = None
+    for name in map(wordgroups.function_name, words):
+        paths = {it.replace(f"/{name}/", "/WORD/") for it in files(top) if f"/{name}/" in it}
+        found = paths if found is None else found & paths
+    return sorted(found or ())
