@@ -1,5 +1,6 @@
 """The lists of docs/ADDING.md: its tables, row by row, and what of them is not so. `.ci/adding` compares them with what it finds in a copy of the project."""
 import dataclasses
+import functools
 import re
 
 import tables
@@ -37,6 +38,7 @@ def rows_of(text):
             yield Row(heading, number, cells[0], tuple(QUOTED.findall(cells[1])), cells[-1])
 
 
+@functools.cache
 def pattern_of(path, group=None, word=None):
     """What a path of the page fits: GROUP in each of its spellings, WORD as a function's name, and * for what is between two strokes."""
     groups = [group] if group else wordgroups.groups()

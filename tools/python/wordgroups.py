@@ -1,5 +1,6 @@
 """The words that the reader knows, by group, as the sources of `script` have them: crates/script/src/word/GROUP.rt has a group's rows."""
 import dataclasses
+import functools
 import re
 
 import tables
@@ -31,9 +32,10 @@ def group_of(file):
     return Group(file.stem, ENUM.search(text)[1], tuple(name for _, name, _ in ROW.findall(text)))
 
 
+@functools.cache
 def groups():
     """All groups."""
-    return [group_of(file) for file in row_files()]
+    return tuple(group_of(file) for file in row_files())
 
 
 def all_words():

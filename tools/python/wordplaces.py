@@ -65,9 +65,13 @@ def files_of(pattern):
 
 
 def last_line(text, words):
-    """The last line that names one of some words, or 1."""
-    found = [it.end() for it in re.finditer(rf"\b(?:{'|'.join(words)})\b", text)] if words else []
-    return line_at(text, max(found)) if found else 1
+    """The last line that names one of some words, in a title or a row of its own if there is one; or 1."""
+    names = "|".join(words)
+    for form in (rf'(?m)^(?:== |name = ")(?:{names})\b', rf"\b(?:{names})\b"):
+        found = [it.end() for it in re.finditer(form, text)] if words else []
+        if found:
+            return line_at(text, max(found))
+    return 1
 
 
 def beside(files, word, group):
