@@ -100,10 +100,10 @@ def mismade(rows, made):
 
 
 def unrelated(rows, files):
-    """Files in which each other word of the group is named, and that no row names."""
+    """Files in which most other words of the group are named, and that no row names."""
     for file in files:
         if not any(fits(row, file) for row in rows):
-            yield f"{file}: each other word of the group is named there, and docs/ADDING.md does not name it"
+            yield f"{file}: most words of the group are named there, and docs/ADDING.md does not name it"
 
 
 def is_there(path, files):

@@ -1,4 +1,6 @@
-"""What the other words of a group have: files that name each of them, and files whose path has the name of each. A new word may be wanted there, too."""
+"""What the other words of a group have: files that name most of them, and files whose path has the name of one of most. A new word may be wanted there, too.
+"""
+import collections
 import pathlib
 import re
 import subprocess
@@ -15,19 +17,23 @@ def files(top):
     return [it for it in said.splitlines() if pathlib.Path(top, it).is_file()]
 
 
+def most(words):
+    """How many of some words are most of them: two thirds, and three if there are as many."""
+    return max(min(3, len(words)), -(-2 * len(words) // 3))
+
+
 def naming(top, words):
-    """The files that name each of some words."""
+    """The files that name most of some words."""
     for file in files(top):
         if not file.startswith(LEFT_OUT):
             text = pathlib.Path(top, file).read_text(encoding="utf-8", errors="replace")
-            if {*words} <= {*re.findall(r"\w+", text)}:
+            if len({*words} & {*re.findall(r"\w+", text)}) >= most(words):
                 yield file
 
 
 def named_after(top, words):
-    """The paths that there are with each of some words as a folder, with WORD in its place."""
-    found = None
+    """The paths that there are with most of some words as a folder, with WORD in its place."""
+    counted = collections.Counter()
     for name in map(wordgroups.function_name, words):
-        paths = {it.replace(f"/{name}/", "/WORD/") for it in files(top) if f"/{name}/" in it}
-        found = paths if found is None else found & paths
-    return sorted(found or ())
+        counted.update(it.replace(f"/{name}/", "/WORD/") for it in files(top) if f"/{name}/" in it)
+    return sorted(path for path, number in counted.items() if number >= most(words))
