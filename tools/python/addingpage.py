@@ -1,4 +1,5 @@
-"""The lists of docs/ADDING.md: its tables, row by row, and what of them is not so. `.ci/adding` compares them with what it finds in a copy of the project."""
+"""The lists of docs/ADDING.md: its tables, row by row, and what of them is not so. `.ci/adding` compares them with what
+it finds in a copy of the project."""
 import dataclasses
 import functools
 import re
@@ -40,7 +41,8 @@ def rows_of(text):
 
 @functools.cache
 def pattern_of(path, group=None, word=None):
-    """What a path of the page fits: GROUP in each of its spellings, WORD as a function's name, and * for what is between two strokes."""
+    """What a path of the page fits: GROUP in each of its spellings, WORD as a function's name, and * for what is
+    between two strokes."""
     groups = [group] if group else wordgroups.groups()
     names = sorted({it for one in groups for it in wordgroups.spellings(one)})
     found = re.escape(path).replace(r"\*", "[^/]*").replace("GROUP", f"(?:{'|'.join(names)})")
@@ -61,7 +63,7 @@ def groups_of(row):
 
 def unnamed(rows, places, group):
     """Places that no row names."""
-    hand = [it for it in rows if it.heading != MADE]
+    hand = [it for it in rows if it.heading != MADE and (it.heading != BY_GROUP or group.name in groups_of(it))]
     for place in places:
         if not any(fits(row, place.file, group, place.word) for row in hand):
             yield f"{place}, and docs/ADDING.md does not name it"
@@ -75,10 +77,13 @@ def unfounded(rows, places, group):
 
 
 def misgrouped(rows, matches):
-    """Matches of a group that the page does not name with it, and groups of the page that have none. The files of each group's own are left out."""
+    """Matches of a group that the page does not name with it, and groups of the page that have none. The files of each
+    group's own are left out."""
     own = [row for row in rows if row.heading == EACH and any("GROUP" in it for it in row.files)]
-    wanted = {(it.file, it.group.name): f"{it.file}:{it.line}: `{it.name}`" for it in matches if not any(fits(row, it.file) for row in own)}
-    named = {(file, group): row for row in rows if row.heading == BY_GROUP for file in row.files for group in groups_of(row)}
+    others = [it for it in matches if not any(fits(row, it.file) for row in own)]
+    wanted = {(it.file, it.group.name): f"{it.file}:{it.line}: `{it.name}`" for it in others}
+    by_group = [row for row in rows if row.heading == BY_GROUP]
+    named = {(file, group): row for row in by_group for file in row.files for group in groups_of(row)}
     for (file, group), place in wanted.items():
         if (file, group) not in named:
             yield f"{place} goes over all words of {group}, and docs/ADDING.md does not name it"
@@ -88,7 +93,8 @@ def misgrouped(rows, matches):
 
 
 def mismade(rows, made):
-    """Files that tools make for a new word and the page does not name, and those that it names and that stay; those with an `if` may stay."""
+    """Files that tools make for a new word and the page does not name, and those that it names and that stay; those
+    with an `if` may stay."""
     of_tools = [row for row in rows if row.heading == MADE]
     for file in made:
         if not any(fits(row, file) for row in of_tools):
@@ -119,8 +125,8 @@ def absent(text, files):
     for number, line in enumerate(text.split("\n"), 1):
         for quoted in QUOTED.findall(line):
             path = quoted.split()[0]
-            is_path = (PATH.fullmatch(path.rstrip("/")) or SOURCE.fullmatch(path)) and not path.startswith(("./", "proofs"))
-            if is_path and not is_there(path, files):
+            is_path = PATH.fullmatch(path.rstrip("/")) or SOURCE.fullmatch(path)
+            if is_path and not path.startswith("./") and not is_there(path, files):
                 yield f"docs/ADDING.md:{number}: {path}: it is not there"
 
 

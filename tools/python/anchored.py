@@ -1,10 +1,12 @@
-"""Changes of files by anchors, as `.ci/adding.toml` has them. An anchor is the beginning of one line, by which it is found: so a change still fits if the lines
-above and below it are others, which a diff with its numbers and its neighbouring lines does not.
+"""Changes of files by anchors, as `.ci/adding.toml` has them. An anchor is the beginning of one line, by which it is
+found: so a change still fits if the lines above and below it are others, which a diff with its numbers and its
+neighbouring lines does not.
 
 A change is a table with a `file` and one of these:
 
     text                    the file is new
-    text, end_of            the text is put at the end of what the anchor begins: a block in braces or brackets, or what goes on to the next empty line
+    text, end_of            the text is put at the end of what the anchor begins: a block in braces or brackets, or what
+                            goes on to the next empty line
     text, after             the text is put after the anchor
     line, old, new          in the line of the anchor the last `old` becomes `new`
     number, more            the number at {} in the text `number`, which is there once, becomes greater by `more`

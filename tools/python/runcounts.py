@@ -1,4 +1,5 @@
-"""How many runs and answers each table has, by reading: what crates/runs/stdout says of it. A run of a machine file that names no version is made twice."""
+"""How many runs and answers each table has, by reading: what crates/runs/stdout says of it. A run of a machine file
+that names no version is made twice."""
 import re
 
 import tables

@@ -1,4 +1,5 @@
-"""The words that the reader knows, by group, as the sources of `script` have them: crates/script/src/word/GROUP.rt has a group's rows."""
+"""The words that the reader knows, by group, as the sources of `script` have them: crates/script/src/word/GROUP.rt has
+a group's rows."""
 import dataclasses
 import functools
 import re
@@ -50,8 +51,11 @@ def kind_name(variant):
 
 def rows():
     """Each word's row: whether it answers, and the kinds of its arguments."""
-    found = [it for file in row_files() for it in ROW.findall(file.read_text(encoding="utf-8"))]
-    return {name: (how == "answering", [kind_name(it) for it in re.findall(r"Kind::(\w+)", kinds)]) for how, name, kinds in found}
+    found = {}
+    for file in row_files():
+        for how, name, kinds in ROW.findall(file.read_text(encoding="utf-8")):
+            found[name] = how == "answering", [kind_name(it) for it in re.findall(r"Kind::(\w+)", kinds)]
+    return found
 
 
 def function_name(word):
@@ -60,7 +64,8 @@ def function_name(word):
 
 
 def spellings(group):
-    """How names of files spell a group's name: `lists`, `Lists` and `List`; `Signals` for task_signals; `Causing` for the word Cause."""
+    """How names of files spell a group's name: `lists`, `Lists` and `List`; `Signals` for task_signals; `Causing` for
+    the word Cause."""
     if group.name == "interrupts":
         return {"interrupts", "Interrupt", "Causing", "causing"}
     last = group.name.rpartition("_")[2]

@@ -1,6 +1,6 @@
-"""Matches over a group of words that have no way for all others: a `match` of the code, or the equations of a function of a definition or a proof, of
-which each names a word. A word of that group without a way there is refused by the compiler or the prover, one match after another; here all are
-found at once, by reading."""
+"""Matches over a group of words that have no way for all others: a `match` of the code, or the equations of a function
+of a definition or a proof, of which each names a word. A word of that group without a way there is refused by the
+compiler or the prover, one match after another; here all are found at once, by reading."""
 import collections
 import dataclasses
 import re
@@ -16,7 +16,7 @@ OTHER = re.compile(r"_|[a-z]\w*")
 
 @dataclasses.dataclass(frozen=True)
 class Match:
-    """A match over a group: its file, the line of its last way, its function, the group, and the words that it names."""
+    """A match over a group: its file, the line of its last way, its function, the group, and the words in it."""
 
     file: str
     line: int
@@ -73,7 +73,8 @@ def arguments_of(pattern):
 
 
 def functions_of(text):
-    """The equations of each function of a definition or a proof: their lines and their arguments, by its name and how far it is indented."""
+    """The equations of each function of a definition or a proof: their lines and their arguments, by its name and
+    how far it is indented."""
     found = collections.defaultdict(list)
     for number, line in enumerate(text.split("\n"), 1):
         equation = EQUATION.match(line)
@@ -83,7 +84,8 @@ def functions_of(text):
 
 
 def equation_matches(text, by_word):
-    """The functions of a definition or a proof that go over words and have no way for all others, as in `code_matches`."""
+    """The functions of a definition or a proof that go over words and have no way for all others: as in `code_matches`.
+    """
     for (_, name), equations in functions_of(text).items():
         for place in range(max(len(arguments) for _, arguments in equations)):
             ways = [(number, arguments[place]) for number, arguments in equations if place < len(arguments)]

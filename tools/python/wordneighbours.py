@@ -1,5 +1,5 @@
-"""What the other words of a group have: files that name most of them, and files whose path has the name of one of most. A new word may be wanted there, too.
-"""
+"""What the other words of a group have: files that name most of them, and files whose path has the name of one of most.
+A new word may be wanted there, too."""
 import collections
 import pathlib
 import re
@@ -13,8 +13,9 @@ LEFT_OUT = ("crates/runs/data/", "dist/", ".ci/adding")
 
 def files(top):
     """The files of a checkout, as paths from its top: those of git, and those that are new."""
-    said = subprocess.run(["git", "ls-files", "-co", "--exclude-standard"], cwd=top, capture_output=True, text=True, check=True).stdout
-    return [it for it in said.splitlines() if pathlib.Path(top, it).is_file()]
+    words = ["git", "ls-files", "-co", "--exclude-standard"]
+    said = subprocess.run(words, cwd=top, capture_output=True, text=True, check=True)
+    return [it for it in said.stdout.splitlines() if pathlib.Path(top, it).is_file()]
 
 
 def most(words):

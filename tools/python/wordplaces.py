@@ -1,5 +1,6 @@
-"""Where each word of the reader has to be written by hand: tables, matches, tests and stored answers. `.ci/quick` says what lacks a word, and what still says
-that it is none; `.ci/adding` compares these places with docs/ADDING.md, which says how each is written. `wordplaces.py` prints them as JSON."""
+"""Where each word of the reader has to be written by hand: tables, matches, tests and stored answers. `.ci/quick` says
+what lacks a word, and what still says that it is none; `.ci/adding` compares these places with docs/ADDING.md, which
+says how each is written. `wordplaces.py` prints them as JSON."""
 import dataclasses
 import functools
 import json
@@ -75,7 +76,7 @@ def last_line(text, words):
 
 
 def beside(files, word, group):
-    """Where a word would be written: of some files the one that names most of its group, and the last line there that does."""
+    """Where a word would be written: of some files the one that names most of its group, and the last line there."""
     others = [it for it in group.words if it != word]
     file = max(files, key=lambda it: (len({*others} & {*re.findall(r"\w+", read(it))}), it.stem == group.name))
     return name_of(file), last_line(read(file), others)
@@ -104,18 +105,19 @@ def unlisted():
     """Lists of a group's words that lack one."""
     for group in wordgroups.groups():
         for file, line, text in listed(group):
-            known = {*re.findall(r"\w+", text)}
-            yield from (Place(word, file, line, "the list of words lacks it") for word in group.words if word not in known)
+            lacked = [it for it in group.words if it not in re.findall(r"\w+", text)]
+            yield from (Place(word, file, line, "the list of words lacks it") for word in lacked)
 
 
-def unnamed():
-    """Files of a pattern of which none names a word."""
+def unnamed(found):
+    """Files of a pattern of which none names a word, but for those of which it was found already that they lack it."""
     for what, pattern in NAMED:
         files = files_of(pattern)
         named = {it for file in files for it in re.findall(r"\w+", read(file))}
+        known = {it.word for it in found if TOP / it.file in files}
         for group in wordgroups.groups():
             for word in group.words:
-                if word not in named:
+                if word not in named and word not in known:
                     yield Place(word, *beside(files, word, group), f"it lacks it ({what})")
 
 
@@ -123,13 +125,14 @@ def without_a_run():
     """Words that no run of a table has, and the number of runs that would change."""
     words = {*wordgroups.all_words()}
     have = {word for run in tables.all_runs() if run.status != 1 for word in run.words(words)}
+    numbers = read(runcounts.STDOUT)
     for group in wordgroups.groups():
         for word in group.words:
             if word not in have:
                 file, line = beside(files_of("crates/runs/data/*.runs"), word, group)
                 yield Place(word, file, line, "no run has it")
-                counted = re.search(rf"(?m)^{re.escape(file.rpartition('/')[2])}: ", read(runcounts.STDOUT))
-                yield Place(word, name_of(runcounts.STDOUT), line_at(read(runcounts.STDOUT), counted.start()), "the number of its runs is not there")
+                line = line_at(numbers, numbers.index(f"{file.rpartition('/')[2]}: "))
+                yield Place(word, name_of(runcounts.STDOUT), line, "the number of its runs is not there")
 
 
 def meanings():
@@ -138,16 +141,18 @@ def meanings():
 
 
 def unexplained():
-    """Words of which no stored answer says what `execcheck` says of an alert; of a word without a row, that none is there of any."""
+    """Words of which no stored answer says what `execcheck` says of an alert; of a word without a row, that there is
+    none."""
     file, rows = TOP / "crates" / "runs" / "data" / "mistakes" / "alerts.endings", meanings()
     said = {*ENDING.findall(read(file))}
     for group in wordgroups.groups():
         for word in group.words:
-            codes = [it.partition(":")[0] for it in rows[word].get("alerts", [])] if word in rows else []
-            where = beside([file], word, group)
-            yield from (Place(word, *where, f"what is said of its alert {it} is not there") for it in codes if (word, it) not in said)
+            alerts = rows[word].get("alerts", []) if word in rows else []
+            lacked = [f"alert {code}" for code in (it.partition(":")[0] for it in alerts) if (word, code) not in said]
             if word not in rows and any(one in group.words for one, _ in said):
-                yield Place(word, *where, "what is said of each of its alerts is not there")
+                lacked = ["alerts, each by itself,"]
+            where = beside([file], word, group)
+            yield from (Place(word, *where, f"what is said of its {it} is not there") for it in lacked)
 
 
 def without_meaning():
@@ -164,17 +169,16 @@ def without_meaning():
 
 
 def lacking():
-    """All places that lack a word. Of a match and a file that lack one word, the match is named."""
+    """All places that lack a word."""
     found = [*unmatched(), *unlisted()]
-    has_match = {(it.word, it.file) for it in found}
-    found += [it for it in unnamed() if (it.word, it.file) not in has_match]
-    return found + [*without_a_run(), *unexplained(), *without_meaning()]
+    return [*found, *unnamed(found), *without_a_run(), *unexplained(), *without_meaning()]
 
 
 # ---- what says that a word is none
 
 def twice_named(words):
-    """The names of crates/execadvice/src/foreign.rt, of Exec and other systems, that are words or have two rows: in whatever case, as they are looked for."""
+    """The names of crates/execadvice/src/foreign.rt, of Exec and other systems, that are words or have two rows: in
+    whatever case, as they are looked for."""
     file = TOP / "crates" / "execadvice" / "src" / "foreign.rt"
     names = [name for table in ("NAMES", "ABSENT") for name, _ in pages.foreign_rows(table)]
     known = {word.lower(): word for word in words}
@@ -201,7 +205,8 @@ def refused(words):
         for found in UNKNOWN.finditer(read(file)):
             word = found[1][len(found[2]) : len(found[2]) + len(found[3])]
             if word in words:
-                yield Place(word, name_of(file), line_at(read(file), found.start()), "a stored answer says that it is unknown")
+                line = line_at(read(file), found.start())
+                yield Place(word, name_of(file), line, "a stored answer says that it is unknown")
 
 
 def miscounted(words):
