@@ -109,6 +109,16 @@ def unlisted():
             yield from (Place(word, file, line, "the list of words lacks it") for word in lacked)
 
 
+def folded():
+    """Rules of a group that the list at the end of its definitions does not unfold."""
+    for file in files_of("crates/execmodel/specs/*.antt"):
+        rules = re.search(r"(?m)^unfoldable pub (\w+_rules) : ⊤\nunfolding (.*)$", read(file))
+        for found in re.finditer(r"(?m)^unfoldable pub (does_\w+) :", read(file)) if rules else ():
+            if found[1] not in rules[2].split():
+                line = line_at(read(file), rules.start())
+                yield Place(found[1], name_of(file), line, f"`{rules[1]}` does not unfold it")
+
+
 def unnamed(found):
     """Files of a pattern of which none names a word, but for those of which it was found already that they lack it."""
     for what, pattern in NAMED:
@@ -171,7 +181,7 @@ def without_meaning():
 def lacking():
     """All places that lack a word."""
     found = [*unmatched(), *unlisted()]
-    return [*found, *unnamed(found), *without_a_run(), *unexplained(), *without_meaning()]
+    return [*found, *folded(), *unnamed(found), *without_a_run(), *unexplained(), *without_meaning()]
 
 
 # ---- what says that a word is none
