@@ -141,7 +141,7 @@ def without_a_run():
             if word not in have:
                 file, line = beside(files_of("crates/runs/data/*.runs"), word, group)
                 yield Place(word, file, line, "no run has it")
-                line = line_at(numbers, numbers.index(f"{file.rpartition('/')[2]}: "))
+                line = line_at(numbers, re.search(rf"(?m)^{file.rpartition('/')[2]}: ", numbers).start())
                 yield Place(word, name_of(runcounts.STDOUT), line, "the number of its runs is not there")
 
 
