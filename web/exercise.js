@@ -1,7 +1,8 @@
 // Exercises: what is to be mended in an example, and a rule over the outcomes of a search, by which every way is judged. The rule is applied here, so that
 // it is applied rightly is tested; and the search is that of execsim_explore.
 
-/** The exercises by the example that they are of: a task, the search, and patterns of which each outcome is to have all, or none. */
+/** The exercises by the example or the lesson that they are of: a task, the search, what may be changed if not all, and patterns of which each outcome is to
+    have all, or none. */
 let EXERCISES = {};
 
 /** Whether an outcome breaks the rule of an exercise. */
@@ -11,21 +12,23 @@ function breaksRule({ never, always }, outcome) {
 }
 
 class Exercise {
-  /** `library` makes the search; `now` gives the texts whose ways are judged; `onWay` opens one, `onJudged` is called with what was found. */
-  constructor({ library, now, onWay, onJudged }) {
-    Object.assign(this, { library, now, onWay, onJudged, rule: null });
+  /** `library` makes the search; `begun` gives the texts of an exercise as they were, and `now` those whose ways are judged; `onWay` opens one, `onJudged` is
+      called with what was found. */
+  constructor({ library, begun, now, onWay, onJudged }) {
+    Object.assign(this, { library, begun, now, onWay, onJudged, rule: null });
     $('exercise-check').addEventListener('click', () => this.check());
   }
 
-  /** Takes the exercise of an example, or none. */
-  begin(example) {
-    const rule = Object.hasOwn(EXERCISES, example ?? '') ? EXERCISES[example] : null;
+  /** Takes the exercise of an example or of a lesson, which is shown in its last part, or none. */
+  begin(name, isLesson) {
+    const rule = Object.hasOwn(EXERCISES, name ?? '') ? EXERCISES[name] : null, hasTab = rule !== null && !isLesson;
     if (rule === this.rule) return this.age();
-    this.rule = rule;
-    $('exercise-tab').hidden = !rule;
+    [this.rule, this.name] = [rule, name];
+    $('exercise-tab').hidden = !hasTab;
+    $(isLesson ? 'lesson-exercise' : 'exercise').append($('exercise-body'));
     $('exercise-verdict').replaceChildren();
     if (rule) $('exercise-task').replaceChildren(...withCode(rule.task));
-    (rule ? $('exercise-tab') : $('exercise-tab').ariaSelected === 'true' ? $('findings-tab') : null)?.click();
+    (hasTab ? $('exercise-tab') : $('exercise-tab').ariaSelected === 'true' ? $('findings-tab') : null)?.click();
   }
 
   /** The texts are other than those that were judged. */
@@ -38,12 +41,16 @@ class Exercise {
   /** Searches every way, judges each outcome, and says what was found. */
   async check() {
     const { rule } = this, { extra, kinds } = rule, texts = this.now(), say = (...words) => $('exercise-verdict').replaceChildren(...words);
+    const other = rule.changes ? otherThanAllowed(rule.changes, this.begun(this.name), texts.map(decoded)) : '';
     $('exercise-verdict').className = '';
+    if (other) return say(made('b', 'Something else was changed: '), ...withCode(`${other} not as at first. Only the code of ${rule.changes.map(it => `\`${it}\``).join(' and ')} may be changed.`));
     say(`Every way with at most ${extra} more interrupts is run ..`);
     try {
       const answer = await this.library.ask('execsim_explore', texts, [extra, kinds, 1, MOST_WAYS]);
       if (!isThere(answer)) return say(answer.text().trim());
-      const { ways, outcomes } = readReport(answer.text()), wrong = outcomes.map((one, i) => ({ ...one, number: i + 1 })).filter(one => breaksRule(rule, one)), sum = wrong.reduce((all, one) => all + one.count, 0);
+      const { ways, outcomes } = readReport(answer.text());
+      if (outcomes.reduce((all, one) => all + one.count, 0) !== ways) return say('The counts of the outcomes are not that of the ways: please report this.');
+      const wrong = outcomes.map((one, i) => ({ ...one, number: i + 1 })).filter(one => breaksRule(rule, one)), sum = wrong.reduce((all, one) => all + one.count, 0);
       this.onJudged({ holds: !sum, ways, wrong: sum });
       if (!sum) return say(made('b', `It holds in all ${counted(ways, 'way')}`), ` in which at most ${extra} more interrupts come, and no way was left out.`);
       const open = button('Show me one', async () => {

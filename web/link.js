@@ -1,4 +1,5 @@
-// The address of the page is what is shown: an example's name or both texts, the events of an opened way, and the step.
+// The address of the page is what is shown: an example's name or both texts, and of which example they were; the events of an opened way, the part of a
+// lesson, and the step.
 
 const LINK = '#run=', EXAMPLE = '#example=';
 
@@ -49,11 +50,12 @@ async function textsOf(letters) {
   return [whole.slice(4, 4 + length), whole.slice(4 + length)];
 }
 
-/** The address of what is shown, or null if the texts are too long for one: an example by name or two texts, the events of a way, and a step. */
-async function addressOf({ example, texts, way, step }) {
+/** The address of what is shown, or null if the texts are too long for one. */
+async function addressOf({ example, changedFrom, texts, way, part, step }) {
   if ([...texts, ...(way ? [way] : [])].reduce((sum, text) => sum + text.length, 0) > MOST_LINKED) return null;
   const first = example ? EXAMPLE + encodeURIComponent(example) : await linkOf(...texts);
-  const address = `${first}${way ? `&way=${await asLetters([way])}` : ''}${step ? `&step=${step}` : ''}`;
+  const of = !example && changedFrom ? `&of=${encodeURIComponent(changedFrom)}` : '';
+  const address = `${first}${of}${way ? `&way=${await asLetters([way])}` : ''}${part ? `&part=${part + 1}` : ''}${step ? `&step=${step}` : ''}`;
   return address.length > MOST_ADDRESS ? null : address;
 }
 
@@ -61,7 +63,8 @@ async function addressOf({ example, texts, way, step }) {
 async function readAddress(address) {
   const [first, ...rest] = address.split('&'), more = new URLSearchParams(rest.join('&')), isLink = first.startsWith(LINK);
   if (!isLink && !first.startsWith(EXAMPLE)) return null;
-  const step = Number(more.get('step') ?? 0), way = more.has('way') ? await fromLetters(more.get('way'), LIMIT) : null;
+  const number = name => { const it = Number(more.get(name) ?? 0); return Number.isSafeInteger(it) && it > 0 ? it : 0; };
+  const way = more.has('way') ? await fromLetters(more.get('way'), LIMIT) : null;
   const found = isLink ? { texts: await textsOf(first.slice(LINK.length)) } : { example: decodeURIComponent(first.slice(EXAMPLE.length)) };
-  return { ...found, way, step: Number.isSafeInteger(step) && step > 0 ? step : 0 };
+  return { ...found, of: more.get('of'), way, part: Math.max(0, number('part') - 1), step: number('step') };
 }

@@ -6,7 +6,7 @@ const FIRST_EXAMPLE = 'ports';
 const PAUSE = 300, ADDRESS_PAUSE = 400;
 
 /** Four workers: one for what is shown, one for the proved trace and the findings, one for the strip, and one for searches. */
-let library, checker, asides, editors, view, strip, search, exercise, work, embed, examples = [];
+let library, checker, asides, editors, view, strip, search, exercise, lesson, work, embed, examples = [];
 
 /** The run that is shown, and the run whose events a way was opened from: the same if no way is. */
 let shownRun = null, frame = null;
@@ -167,7 +167,7 @@ function findingItem(one) {
 }
 
 /** What is shown, as it can be shown again. */
-const current = () => ({ texts: texts(), example: chosen, changedFrom, files: { ...files }, step: view.step, way, title: titleOf(editors['machine.toml'].bytes) });
+const current = () => ({ texts: texts(), example: chosen, changedFrom, files: { ...files }, step: view.step, part: lesson.part, way, title: titleOf(editors['machine.toml'].bytes) });
 
 /** Runs the texts once nothing has been typed for a while. */
 function typed(file) {
@@ -185,22 +185,24 @@ function typed(file) {
 
 /** Shows what the texts are called. */
 function nameTexts() {
-  $('example').options[0].text = changedFrom ? `${changedFrom}, changed` : '(own texts)';
-  $('example').value = chosen ?? '';
+  const of = chosen ?? changedFrom, isLesson = LESSONS.some(it => it.name === of);
+  $('example').options[0].text = isLesson ? `(a lesson${chosen ? '' : ', changed'})` : changedFrom ? `${changedFrom}, changed` : '(own texts)';
+  $('example').value = isLesson ? '' : chosen ?? '';
   $('machine-name').textContent = files.machine;
   $('events-name').textContent = files.events;
-  $('about').hidden = !(chosen ?? changedFrom);
-  exercise.begin(chosen ?? changedFrom);
+  $('about').hidden = !exampleOf(of)?.about;
+  exercise.begin(of, isLesson);
 }
 
 /** Shows a pair of texts, and runs them. What was shown can be had back by Undo. */
 function take(pair, keepsOld = true) {
   if (keepsOld) work.replaces(current());
-  [chosen, changedFrom, files, way] = [pair.example ?? null, pair.changedFrom ?? null, pair.files ?? { machine: 'machine.toml', events: 'run.events' }, pair.way ?? null];
+  [chosen, changedFrom, files, way] = [pair.example ?? null, exampleOf(pair.changedFrom) ? pair.changedFrom : null, pair.files ?? { machine: 'machine.toml', events: 'run.events' }, pair.way ?? null];
   const now = texts();
   Object.values(editors).forEach((editor, i) => { if (!isSame(now[i], pair.texts[i])) editor.bytes = pair.texts[i]; });
   view.step = pair.step ?? 0;
   showAbout();
+  lesson.begin(chosen ?? changedFrom, pair.part);
   nameTexts();
   showWay();
   search.age();
@@ -212,8 +214,8 @@ const isSame = (a, b) => a.length === b.length && a.every((byte, i) => byte === 
 
 /** Opens other events for the machine file of a run, beside that run. */
 async function openWay({ texts: [machine, base], events, said, step = 0 }) {
-  const { example, files: names } = current(), old = work.past.length;
-  await take({ texts: [machine, events], example: way || isSame(machine, texts()[0]) ? example : null, files: names, step, way: { base, said } });
+  const { example, changedFrom: of, files: names } = current(), old = work.past.length;
+  await take({ texts: [machine, events], example: way || isSame(machine, texts()[0]) ? example : null, changedFrom: of, files: names, step, way: { base, said } });
   if (!way || work.past.length === old) return;
   const at = view.trace.other, row = view.trace.rows[at];
   if (!row) return;
@@ -257,7 +259,7 @@ function writeAddress() {
 
 async function writeNow() {
   clearTimeout(writeAddress.timer);
-  const [machine, events] = texts(), address = await addressOf({ example: chosen, texts: [machine, way?.base ?? events], way: way ? events : null, step: view.step });
+  const [machine, events] = texts(), address = await addressOf({ example: chosen, changedFrom, texts: [machine, way?.base ?? events], way: way ? events : null, part: lesson.shown ? lesson.part : 0, step: view.step });
   if ((address ?? '') !== location.hash) history.replaceState(null, '', address ?? location.href.split('#')[0]);
   return address;
 }
@@ -326,19 +328,39 @@ async function openFiles(list) {
   if (list.length) return take({ texts: [found.machine, found.events], files: names });
 }
 
-const exampleOf = name => examples.flatMap(topic => topic.examples).find(one => one.name === name);
+/** The example or the lesson of a name. */
+const exampleOf = name => [...examples.flatMap(topic => topic.examples), ...LESSONS].find(one => one.name === name);
 
-function openExample(name, step = 0, events = null) {
+function openExample(name, step = 0, events = null, part = 0) {
   const { texts: pair } = exampleOf(name), [machine, base] = pair.map(encoded);
-  const opened = take({ texts: [machine, events ?? base], example: name, files: { machine: `${name}.toml`, events: `${name}.events` }, step, way: events ? { base, said: 'A way of this example.' } : null });
+  const opened = take({ texts: [machine, events ?? base], example: name, files: { machine: `${name}.toml`, events: `${name}.events` }, part, step, way: events ? { base, said: 'A way of this example.' } : null });
   editors['machine.toml'].show(pair[0].split('\n').findIndex(line => line && !line.startsWith('#')) + 1, 0);
   return opened;
+}
+
+/** Opens a lesson; or closes the one that is shown, and keeps its texts. */
+function openLesson(name, part = 0) {
+  if (name) return openExample(name, exampleOf(name).parts[part].step ?? 0, null, part);
+  return take({ ...current(), example: null, changedFrom: null });
+}
+
+/** Shows a step of the run of a lesson, unless its texts were changed; an opened way is left. */
+function showStep(step) {
+  if (!chosen) return;
+  if (way) take({ ...current(), texts: [texts()[0], way.base], way: null, step });
+  else view.goTo(step);
+}
+
+/** An exercise was judged. */
+function judged(found) {
+  if (found.holds) lesson.solve();
+  embed.tell({ did: 'check', ...found });
 }
 
 /** Shows what an example says of itself. */
 function showAbout() {
   const it = exampleOf(chosen ?? changedFrom);
-  if (it) it.about.forEach((text, i) => $('about').children[i].replaceChildren(...withCode(text)));
+  if (it?.about) it.about.forEach((text, i) => $('about').children[i].replaceChildren(...withCode(text)));
 }
 
 function listExamples() {
@@ -359,10 +381,10 @@ async function openAddress(openOther = () => {}) {
     if (!found) return openOther();
     if (found.example !== undefined) {
       if (!exampleOf(found.example)) throw new Error(`there is no example ${found.example}`);
-      return openExample(found.example, found.step, found.way);
+      return openExample(found.example, found.step, found.way, found.part);
     }
     const [machine, base] = found.texts;
-    return take({ texts: [machine, found.way ?? base], step: found.step, way: found.way ? { base, said: 'A way of these events.' } : null });
+    return take({ texts: [machine, found.way ?? base], changedFrom: found.of, part: found.part, step: found.step, way: found.way ? { base, said: 'A way of these events.' } : null });
   } catch (why) {
     await openOther();
     writeAddress();
@@ -375,7 +397,7 @@ function openKept() {
   let id = null;
   try { id = sessionStorage.getItem('execsim.shown'); } catch {}
   const pair = work.pairs().find(it => it.id === id);
-  return pair ? take({ texts: [encoded(pair.machine), encoded(pair.events)] }) : openExample(FIRST_EXAMPLE);
+  return pair ? take(takenFrom(pair)) : openExample(FIRST_EXAMPLE);
 }
 
 /** Keeps own texts when the page is left. */
@@ -467,13 +489,15 @@ async function begin() {
   examples = carried.topics;
   takeWords(carried);
   EXERCISES = carried.exercises;
+  LESSONS = carried.lessons;
   listExamples();
   view = new View({ onCursor: cursorAt, onPicture: () => strip?.pictured(), onFault: why => says(`The simulator broke off: ${why.message}`, 'fault') });
   makeEditors(decoded(code));
   await loads;
   helper.worker.terminate();
   [checker, asides, search] = [library.another(), library.another(), new Search(library.another(), texts, openWay)];
-  exercise = new Exercise({ library: search.library, now: () => [texts()[0], way?.base ?? texts()[1]], onWay: openWay, onJudged: found => embed.tell({ did: 'check', ...found }) });
+  exercise = new Exercise({ library: search.library, begun: name => exampleOf(name).texts, now: () => [texts()[0], way?.base ?? texts()[1]], onWay: openWay, onJudged: judged });
+  lesson = new Lesson({ onOpen: openLesson, onStep: showStep, onPart: writeAddress });
   strip = new Strip(asides, view, outcome => exercise.isBroken(outcome), openCell);
   work = new Work(current, take);
   embed = new Embed(DEEDS);
@@ -481,7 +505,7 @@ async function begin() {
   await openAddress(openKept);
   if (embed.refusal) says(embed.refusal, 'fault');
   embed.tell({ did: 'ready' });
-  window.execsim = { library, exercise, view, editors, texts, strip, search, work }; // for a console, and for tests
+  window.execsim = { library, exercise, lesson, view, editors, texts, strip, search, work }; // for a console, and for tests
 }
 
 /** Whether this browser has WebAssembly with memory of 64 bits: whether it takes a module that has nothing else. */

@@ -48,11 +48,11 @@ class Work {
   }
 
   /** Keeps own texts in this browser; of the same work only the last. */
-  keep({ texts, title }) {
+  keep({ texts, title, changedFrom }) {
     const [machine, events] = texts.map(decoded);
     if (machine.length + events.length > MOST_IN_PAIR) return;
     const others = this.pairs().filter(it => it.id !== this.id && (it.machine !== machine || it.events !== events));
-    const pairs = [{ id: this.id, time: Date.now(), title, machine, events }, ...others].slice(0, MOST_PAIRS);
+    const pairs = [{ id: this.id, time: Date.now(), title, of: changedFrom, machine, events }, ...others].slice(0, MOST_PAIRS);
     while (pairs.length && pairs.reduce((sum, it) => sum + it.machine.length + it.events.length, 0) > MOST_CHARACTERS) pairs.pop();
     for (; pairs.length; pairs.pop()) {
       try { return localStorage.setItem(KEPT, JSON.stringify(pairs)); } catch {} // there is no room for all of them, or none is allowed
@@ -62,13 +62,16 @@ class Work {
   /** Lists the pairs that are kept. */
   list() {
     const pairs = this.pairs(), items = pairs.map(it => {
-      const open = button('', () => { $('kept-menu').open = false; this.onTake({ texts: [encoded(it.machine), encoded(it.events)], step: 0 }, true); });
+      const open = button('', () => { $('kept-menu').open = false; this.onTake(takenFrom(it), true); });
       open.append(made('b', new Date(it.time).toLocaleString()), made('span', it.title));
       return open;
     });
     $('kept').replaceChildren(...(items.length ? items : [made('p', 'Texts of yours that another text replaces, or that you leave, are kept here: the last 20 pairs.')]));
   }
 }
+
+/** A pair that was kept, as it is shown. */
+const takenFrom = ({ machine, events, of }) => ({ texts: [encoded(machine), encoded(events)], changedFrom: of, step: 0 });
 
 /** What a pair of texts is called: the first comment, or the first name. */
 function titleOf(machine) {
