@@ -44,7 +44,8 @@ class Exercise {
     const other = rule.changes ? otherThanAllowed(rule.changes, this.begun(this.name), texts.map(decoded)) : '';
     $('exercise-verdict').className = '';
     if (other) return say(made('b', 'Something else was changed: '), ...withCode(`${other} not as at first. Only the code of ${rule.changes.map(it => `\`${it}\``).join(' and ')} may be changed.`));
-    say(`Every way with at most ${extra} more interrupts is run ..`);
+    const more = extra === 1 ? 'at most 1 more interrupt comes' : `at most ${extra} more interrupts come`;
+    say(`Every way in which ${more} is run ..`);
     try {
       const answer = await this.library.ask('execsim_explore', texts, [extra, kinds, 1, MOST_WAYS]);
       if (!isThere(answer)) return say(answer.text().trim());
@@ -52,7 +53,7 @@ class Exercise {
       if (outcomes.reduce((all, one) => all + one.count, 0) !== ways) return say('The counts of the outcomes are not that of the ways: please report this.');
       const wrong = outcomes.map((one, i) => ({ ...one, number: i + 1 })).filter(one => breaksRule(rule, one)), sum = wrong.reduce((all, one) => all + one.count, 0);
       this.onJudged({ holds: !sum, ways, wrong: sum });
-      if (!sum) return say(made('b', `It holds in all ${counted(ways, 'way')}`), ` in which at most ${extra} more interrupts come, and no way was left out.`);
+      if (!sum) return say(made('b', `It holds in all ${counted(ways, 'way')}`), ` in which ${more}, and no way was left out.`);
       const open = button('Show me one', async () => {
         const way = await this.library.ask('execsim_way', texts, [extra, kinds, 1, MOST_WAYS, BigInt(wrong[0].number)]), said = made('span');
         said.append(...withCode(rule.says));

@@ -71,7 +71,7 @@ class Lesson {
     $('part-back').disabled = this.part === 0;
     $('part-next').textContent = isExercise ? 'Next lesson' : 'Next';
     $('part-next').disabled = isExercise && !this.next;
-    $('part-next').classList.toggle('first', !isExercise);
+    $('part-next').classList.toggle('first', !isExercise || this.solved().has(this.shown.name));
     $('part-next').title = isExercise && this.next ? this.next.title : '';
     $('lesson-body').scrollTop = 0;
   }
@@ -86,6 +86,7 @@ class Lesson {
     if (!this.shown) return;
     try { localStorage.setItem(SOLVED, JSON.stringify([...this.solved().add(this.shown.name)])); } catch {} // there is no room, or none is allowed
     this.list();
+    this.draw();
   }
 
   /** Lists the lessons, with a mark at each that was solved. */

@@ -173,7 +173,9 @@ const current = () => ({ texts: texts(), example: chosen, changedFrom, files: { 
 function typed(file) {
   if (chosen) changedFrom = chosen;
   chosen = null;
-  closeWay();
+  if (file === 'events') way = null;
+  else if (way) way = { ...way, said: 'The events are those of a way that was opened before the machine file was changed.' };
+  showWay();
   work.unsaved.add(file);
   nameTexts();
   view.age();
@@ -232,11 +234,6 @@ function openCell({ place, kind, number, way: events }) {
 function showWay() {
   $('way').hidden = !way;
   $('way-said').textContent = way?.said ?? '';
-}
-
-function closeWay() {
-  way = null;
-  showWay();
 }
 
 /** Marks the lines of both texts that a step comes from, and shows them. */
@@ -349,6 +346,13 @@ function showStep(step) {
   if (!chosen) return;
   if (way) take({ ...current(), texts: [texts()[0], way.base], way: null, step });
   else view.goTo(step);
+}
+
+/** Another part of a lesson is shown: of an exercise, the code that is to be changed. */
+function partShown() {
+  const machine = editors['machine.toml'], name = lesson.isLast() ? exercise.rule.changes[0] : null;
+  if (name) machine.show(decoded(machine.bytes).split('\n').findIndex(line => line.startsWith(`name = "${name}"`)) + 1, 0);
+  writeAddress();
 }
 
 /** An exercise was judged. */
@@ -497,7 +501,7 @@ async function begin() {
   helper.worker.terminate();
   [checker, asides, search] = [library.another(), library.another(), new Search(library.another(), texts, openWay)];
   exercise = new Exercise({ library: search.library, begun: name => exampleOf(name).texts, now: () => [texts()[0], way?.base ?? texts()[1]], onWay: openWay, onJudged: judged });
-  lesson = new Lesson({ onOpen: openLesson, onStep: showStep, onPart: writeAddress });
+  lesson = new Lesson({ onOpen: openLesson, onStep: showStep, onPart: partShown });
   strip = new Strip(asides, view, outcome => exercise.isBroken(outcome), openCell);
   work = new Work(current, take);
   embed = new Embed(DEEDS);

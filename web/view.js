@@ -165,7 +165,8 @@ class View {
 
   /** Makes a picture as wide as its panel: without its title, and of few steps only as far as they go. */
   fit(svg) {
-    const { width, height } = svg.viewBox.baseVal, columns = [...svg.querySelectorAll('.at')].map(it => it.getBBox()), last = columns.at(-1);
+    const { width, height } = svg.viewBox.baseVal, place = it => ['x', 'y', 'width', 'height'].map(name => Number(it.getAttribute(name)));
+    const [x, y, across, down] = place([...svg.querySelectorAll('.at')].at(-1) ?? svg), last = across ? { x, y, width: across, height: down } : undefined;
     const right = last ? last.x + last.width + 40 : width, isFew = right < 0.7 * width, wide = isFew ? right : width;
     const bottom = isFew && last ? last.y + last.height + 8 : height;
     svg.setAttribute('viewBox', `0 ${TITLE_HEIGHT} ${wide} ${bottom - TITLE_HEIGHT}`);
