@@ -26,14 +26,16 @@ class Exercise {
     [this.rule, this.name] = [rule, name];
     $('exercise-tab').hidden = !hasTab;
     $(isLesson ? 'lesson-exercise' : 'exercise').append($('exercise-body'));
+    this.judged = null;
     $('exercise-verdict').replaceChildren();
     if (rule) $('exercise-task').replaceChildren(...withCode(rule.task));
     (hasTab ? $('exercise-tab') : $('exercise-tab').ariaSelected === 'true' ? $('findings-tab') : null)?.click();
   }
 
-  /** The texts are other than those that were judged. */
+  /** Shows whether the texts are other than those that were judged. An opened way changes nothing of that. */
   age() {
-    if ($('exercise-verdict').textContent) $('exercise-verdict').className = 'old';
+    const isOld = $('exercise-verdict').textContent !== '' && this.judged && !areSame(this.now(), this.judged);
+    $('exercise-verdict').className = isOld ? 'old' : '';
   }
 
   isBroken(outcome) { return this.rule !== null && breaksRule(this.rule, outcome); }
@@ -41,6 +43,7 @@ class Exercise {
   /** Searches every way, judges each outcome, and says what was found. */
   async check() {
     const { rule } = this, { extra, kinds } = rule, texts = this.now(), say = (...words) => $('exercise-verdict').replaceChildren(...words);
+    this.judged = texts;
     const other = rule.changes ? otherThanAllowed(rule.changes, this.begun(this.name), texts.map(decoded)) : '';
     $('exercise-verdict').className = '';
     if (other) return say(made('b', 'Something else was changed: '), ...withCode(`${other} not as at first. Only the code of ${rule.changes.map(it => `\`${it}\``).join(' and ')} may be changed.`));

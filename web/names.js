@@ -25,5 +25,8 @@ const counted = (number, what) => `${shown(number)} ${what}${number === 1 ? '' :
 
 const encoded = text => new TextEncoder().encode(text), decoded = bytes => new TextDecoder().decode(bytes);
 
+/** Whether two texts are the same bytes; and two lists of texts. */
+const isSame = (a, b) => a.length === b.length && a.every((byte, i) => byte === b[i]), areSame = (a, b) => a.every((text, i) => isSame(text, b[i]));
+
 /** A text with what is between backquotes as code. */
 const withCode = text => text.split('`').map((part, i) => i % 2 ? made('code', part) : part);

@@ -212,7 +212,8 @@ function take(pair, keepsOld = true) {
   return run();
 }
 
-const isSame = (a, b) => a.length === b.length && a.every((byte, i) => byte === b[i]);
+/** The texts of the run that is shown, or of the one that an opened way is of. */
+const frameTexts = () => [texts()[0], way?.base ?? texts()[1]];
 
 /** Opens other events for the machine file of a run, beside that run. */
 async function openWay({ texts: [machine, base], events, said, step = 0 }) {
@@ -499,8 +500,8 @@ async function begin() {
   makeEditors(decoded(code));
   await loads;
   helper.worker.terminate();
-  [checker, asides, search] = [library.another(), library.another(), new Search(library.another(), texts, openWay)];
-  exercise = new Exercise({ library: search.library, begun: name => exampleOf(name).texts, now: () => [texts()[0], way?.base ?? texts()[1]], onWay: openWay, onJudged: judged });
+  [checker, asides, search] = [library.another(), library.another(), new Search(library.another(), texts, frameTexts, openWay)];
+  exercise = new Exercise({ library: search.library, begun: name => exampleOf(name).texts, now: frameTexts, onWay: openWay, onJudged: judged });
   lesson = new Lesson({ onOpen: openLesson, onStep: showStep, onPart: partShown });
   strip = new Strip(asides, view, outcome => exercise.isBroken(outcome), openCell);
   work = new Work(current, take);

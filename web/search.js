@@ -4,9 +4,9 @@
 const MOST_WAYS = 1000000n, MOST_LISTED = 500;
 
 class Search {
-  /** `textsNow` gives the texts, `onWay` opens the events of a way. */
-  constructor(library, textsNow, onWay) {
-    Object.assign(this, { library, textsNow, onWay, report: null });
+  /** `textsNow` gives the texts, `frameNow` those that an opened way is of, `onWay` opens the events of a way. */
+  constructor(library, textsNow, frameNow, onWay) {
+    Object.assign(this, { library, textsNow, frameNow, onWay, report: null });
     $('search').addEventListener('submit', event => {
       event.preventDefault();
       this.search(textsNow());
@@ -125,8 +125,6 @@ class Search {
     else $('searched').textContent = answer.text();
   }
 
-  /** Shows that what is listed, or searched, is of texts as they were. */
-  age() {
-    if (this.texts) $('search').classList.add('old');
-  }
+  /** Shows whether what is listed, or searched, is of texts as they were. */
+  age() { $('search').classList.toggle('old', Boolean(this.texts) && ![this.textsNow(), this.frameNow()].some(now => areSame(now, this.texts))); }
 }
