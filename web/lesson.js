@@ -93,7 +93,7 @@ class Lesson {
   list() {
     const solved = this.solved();
     $('lessons').replaceChildren(...LESSONS.map((it, i) => {
-      const isSolved = solved.has(it.name), open = button('', () => { $('lessons-menu').open = false; this.onOpen(it.name); });
+      const isSolved = solved.has(it.name), open = button('', () => { $('lessons-menu').open = false; this.onOpen(it.name); $('lesson-body').focus(); });
       open.append(made('span', String(i + 1), 'number'), it.title, ...(isSolved ? [made('span', ' ✓', 'done')] : []));
       if (isSolved) open.setAttribute('aria-label', `${i + 1} ${it.title}, solved`);
       if (it === this.shown) open.setAttribute('aria-current', 'true');

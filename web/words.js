@@ -75,7 +75,7 @@ const machineMode = () => ({
     const quote = stream.match(/^(?:'''|"""|'|")/);
     if (quote) {
       state.quote = quote[0];
-      return QUOTE;
+      return `${STRING} ${QUOTE}`; // so that a quote that is typed before it is a new one
     }
     if (stream.match(/^[-+]?\d[\w.]*/) || stream.match(/^(?:true|false)\b/)) return NUMBER;
     const next = stream.next();
