@@ -255,10 +255,11 @@ function writeAddress() {
   writeAddress.timer = setTimeout(writeNow, ADDRESS_PAUSE);
 }
 
+/** Writes it now. One that took long to make is not written after a later one. */
 async function writeNow() {
   clearTimeout(writeAddress.timer);
-  const [machine, events] = texts(), address = await addressOf({ example: chosen, changedFrom, texts: [machine, way?.base ?? events], way: way ? events : null, part: lesson.shown ? lesson.part : 0, step: view.step });
-  if ((address ?? '') !== location.hash) history.replaceState(null, '', address ?? location.href.split('#')[0]);
+  const number = writeNow.count = (writeNow.count ?? 0) + 1, [machine, events] = texts(), address = await addressOf({ example: chosen, changedFrom, texts: [machine, way?.base ?? events], way: way ? events : null, part: lesson.shown ? lesson.part : 0, step: view.step });
+  if (number === writeNow.count && (address ?? '') !== location.hash) history.replaceState(null, '', address ?? location.href.split('#')[0]);
   return address;
 }
 
