@@ -1,6 +1,6 @@
 // Embedding: with `?embed=ORIGIN` a page of that origin that has this one in a frame sends it messages, and gets some. Without it no message is heard or sent.
 //
-// To the frame:   { execsim: 1, do: 'load', machine, events }   shows and runs two texts
+// To the frame:   { execsim: 1, do: 'load', machine, events }   shows and runs two texts; with `of`, as those of an example or a lesson that were changed
 //                 { execsim: 1, do: 'step', step }              goes to a step
 //                 { execsim: 1, do: 'get' }                     asks for the texts as they are
 //                 { execsim: 1, do: 'exercise' }                judges what is shown by the rule of its exercise, in every way
@@ -9,7 +9,7 @@
 //                 did: 'step'     a step is shown: `step`, of how many, whether it is `alerted`, and its `sentence`
 //                 did: 'get'      both texts, and the step
 //                 did: 'check'    an exercise was judged: whether it `holds`, in how many `ways`, and how many of them are `wrong`
-//                 did: 'refused'  and `why`: another version or kind of message, or texts that are refused
+//                 did: 'refused'  and `why`: another version or kind of message, texts that are refused, or that an exercise does not allow
 
 const MESSAGES = 1;
 

@@ -40,9 +40,9 @@ class Exercise {
 
   isBroken(outcome) { return this.rule !== null && breaksRule(this.rule, outcome); }
 
-  /** Searches every way, judges each outcome, and says what was found. */
+  /** Searches every way, judges each outcome, and says what was found; answers why that could not be done, or an empty text. */
   async check() {
-    const { rule } = this, { extra, kinds } = rule, texts = this.now(), say = (...words) => $('exercise-verdict').replaceChildren(...words);
+    const { rule } = this, { extra, kinds } = rule, texts = this.now(), say = (...words) => { $('exercise-verdict').replaceChildren(...words); return $('exercise-verdict').textContent; };
     this.judged = texts;
     const other = rule.changes ? otherThanAllowed(rule.changes, this.begun(this.name), texts.map(decoded)) : '';
     $('exercise-verdict').className = '';
@@ -56,15 +56,17 @@ class Exercise {
       if (outcomes.reduce((all, one) => all + one.count, 0) !== ways) return say('The counts of the outcomes are not that of the ways: please report this.');
       const wrong = outcomes.map((one, i) => ({ ...one, number: i + 1 })).filter(one => breaksRule(rule, one)), sum = wrong.reduce((all, one) => all + one.count, 0);
       this.onJudged({ holds: !sum, ways, wrong: sum });
-      if (!sum) return say(made('b', `It holds in all ${counted(ways, 'way')}`), ` in which ${more}, and no way was left out.`);
+      if (!sum) say(made('b', `It holds in all ${counted(ways, 'way')}`), ` in which ${more}, and no way was left out.`);
+      if (!sum) return '';
       const open = button('Show me one', async () => {
         const way = await this.library.ask('execsim_way', texts, [extra, kinds, 1, MOST_WAYS, BigInt(wrong[0].number)]), said = made('span');
         said.append(...withCode(rule.says));
         if (isThere(way)) this.onWay({ texts, events: way.bytes, said: `A way in which ${said.textContent}.` });
       });
       say(made('b', 'Not yet: '), `in ${shown(sum)} of ${counted(ways, 'way')} `, ...withCode(rule.says), '. ', open);
+      return '';
     } catch (why) {
-      say(why instanceof Stopped ? 'It was stopped.' : `It broke off: ${why.message}`);
+      return say(why instanceof Stopped ? 'It was stopped.' : `It broke off: ${why.message}`);
     }
   }
 }

@@ -450,6 +450,7 @@ function listen() {
 function pressed(event) {
   if ((event.ctrlKey || event.metaKey) && event.key === 'Enter') run();
   else if (event.altKey && (event.code === 'Period' || event.code === 'Comma')) view.goTo(view.step + (event.code === 'Period' ? 1 : -1));
+  else if ((event.ctrlKey || event.metaKey) && event.key === 'f' && event.target.closest?.('#view, #now')) $('find').select();
   else if (event.key === 'Escape') { for (const menu of document.querySelectorAll('.menu, .sure')) menu.open = false; return; }
   else return;
   event.preventDefault();
@@ -457,10 +458,11 @@ function pressed(event) {
 
 /** What a message of a page around this one may ask for; each answers why not, or nothing. */
 const DEEDS = {
-  load: async ({ machine, events }) => {
+  load: async ({ machine, events, of }) => {
     if (typeof machine !== 'string' || typeof events !== 'string') return 'load is to have two texts, machine and events';
+    if (of !== undefined && !exampleOf(of)) return 'of is to be the name of an example or a lesson';
     if (Math.max(encoded(machine).length, encoded(events).length) > LIMIT) return 'a text may have 4,194,304 bytes';
-    await take({ texts: [encoded(machine), encoded(events)] });
+    await take({ texts: [encoded(machine), encoded(events)], changedFrom: of });
   },
   step: ({ step }) => {
     if (!Number.isSafeInteger(step) || step < 0) return 'step is to be a whole number, 0 or more';
@@ -468,7 +470,7 @@ const DEEDS = {
   },
   exercise: async () => {
     if (!exercise.rule) return 'there is no exercise to what is shown';
-    await exercise.check();
+    return exercise.check();
   },
   get: () => {
     const [machine, events] = texts().map(decoded);

@@ -30,6 +30,12 @@ class View {
       const column = target.closest('[data-step]');
       if (column) this.goTo(Number(column.dataset.step));
     });
+    $('find').addEventListener('keydown', async event => {
+      if (event.key !== 'Enter' || !$('find').value) return;
+      event.preventDefault();
+      $('find').ariaInvalid = String(!await this.find($('find').value, event.shiftKey));
+    });
+    $('find').addEventListener('input', () => { $('find').ariaInvalid = 'false'; });
     for (const part of ['view', 'now']) $(part).addEventListener('keydown', event => this.key(event));
     new ResizeObserver(() => this.resized()).observe($('picture'));
   }
@@ -82,6 +88,14 @@ class View {
     if (this.run) this.move(step, false).catch(why => { if (!(why instanceof Stopped)) this.onFault(why); });
   }
 
+  /** Finds a text in the trace, or in the sources of its rows: goes to the next step with such a row, or to the one before; answers whether there is any. */
+  async find(text, isBack) {
+    const low = text.toLowerCase(), isSuch = row => `${textOf(row)}\n${row.source ?? ''}`.toLowerCase().includes(low), rows = this.trace.rows.filter(isSuch);
+    if (isBack) this.goTo((rows.findLast(row => row.step < this.step) ?? rows.at(-1))?.step ?? this.step);
+    else await this.goToNext(isSuch);
+    return this.trace.rows.some(isSuch);
+  }
+
   /** Moves the cursor to the next step that has such a row, looking some parts of the log further on; or else to the first one of the part that is shown. */
   async goToNext(isSuch) {
     const { run } = this, rows = this.trace.rows.filter(isSuch), next = rows.find(one => one.step > this.step);
@@ -90,7 +104,7 @@ class View {
       for (let part = 1, from = run.log.to + 1; part <= PARTS_AHEAD && from <= run.end; part++, from += TRACED) {
         const found = (await run.rows(from, Math.min(run.end, from + TRACED - 1))).find(isSuch);
         if (run !== this.run) return;
-        if (found) return this.goTo(found.step);
+        if (found) return this.move(found.step, false);
       }
       this.goTo(rows[0]?.step ?? this.step);
     } catch (why) {
