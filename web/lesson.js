@@ -62,7 +62,7 @@ class Lesson {
 
   draw() {
     const { parts, title } = this.shown, { title: head, text } = parts[this.part], isExercise = this.isLast();
-    $('lesson-title').firstChild.data = `${LESSONS.indexOf(this.shown) + 1} ${title} `;
+    $('lesson-title').textContent = `${LESSONS.indexOf(this.shown) + 1} ${title}`;
     $('part-title').textContent = head;
     $('part-title').hidden = !head;
     $('part-text').replaceChildren(...(isExercise ? [] : asParagraphs(text)));

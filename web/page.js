@@ -202,7 +202,7 @@ function take(pair, keepsOld = true) {
   [chosen, changedFrom, files, way] = [pair.example ?? null, exampleOf(pair.changedFrom) ? pair.changedFrom : null, pair.files ?? { machine: 'machine.toml', events: 'run.events' }, pair.way ?? null];
   const now = texts();
   Object.values(editors).forEach((editor, i) => { if (!isSame(now[i], pair.texts[i])) editor.bytes = pair.texts[i]; });
-  view.step = pair.step ?? 0;
+  view.step = view.wanted = pair.step ?? 0;
   showAbout();
   lesson.begin(chosen ?? changedFrom, pair.part);
   nameTexts();
@@ -334,6 +334,7 @@ function openExample(name, step = 0, events = null, part = 0) {
   const { texts: pair } = exampleOf(name), [machine, base] = pair.map(encoded);
   const opened = take({ texts: [machine, events ?? base], example: name, files: { machine: `${name}.toml`, events: `${name}.events` }, part, step, way: events ? { base, said: 'A way of this example.' } : null });
   editors['machine.toml'].show(pair[0].split('\n').findIndex(line => line && !line.startsWith('#')) + 1, 0);
+  if (lesson.shown) partShown();
   return opened;
 }
 

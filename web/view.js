@@ -18,6 +18,7 @@ class View {
     Object.assign(this, { onCursor, onPicture, onFault });
     this.run = null;
     this.step = 0;
+    this.wanted = null; // the step that the next run is to be shown at, which the one that is shown may not have
     this.zoom = 0; // how many steps the picture shows; 0 is as many as fit
     this.beside = null; // the rows of the run that a way was opened from
     this.trace = new Trace($('trace'), step => this.goTo(step));
@@ -76,6 +77,7 @@ class View {
     this.beside = beside;
     this.drawn = null;
     this.stopPlaying();
+    if (this.wanted !== null) [this.step, this.wanted] = [this.wanted, null];
     document.body.classList.remove('stale');
     return this.move(this.step, true);
   }
