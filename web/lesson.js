@@ -34,13 +34,14 @@ class Lesson {
   begin(name, part = name === this.shown?.name ? this.part : 0) {
     const was = this.shown;
     this.shown = LESSONS.find(it => it.name === name) ?? null;
-    document.body.classList.toggle('lesson', this.shown !== null);
-    $('lesson').hidden = $('lesson-tab').hidden = !this.shown;
+    const isSeen = this.shown !== null && !document.body.classList.contains('embed'); // a page around this one has its own words
+    document.body.classList.toggle('lesson', isSeen);
+    $('lesson').hidden = $('lesson-tab').hidden = !isSeen;
     if (!this.shown) {
       if (was && document.body.dataset.pane === 'lesson') $('tabs').querySelector('[data-pane=run]').click();
       return;
     }
-    if (!was) $('lesson-tab').click();
+    if (!was && isSeen) $('lesson-tab').click();
     this.part = Math.min(part, this.shown.parts.length - 1);
     this.draw();
   }
@@ -86,7 +87,7 @@ class Lesson {
     if (!this.shown) return;
     try { localStorage.setItem(SOLVED, JSON.stringify([...this.solved().add(this.shown.name)])); } catch {} // there is no room, or none is allowed
     this.list();
-    this.draw();
+    $('part-next').classList.add('first');
   }
 
   /** Lists the lessons, with a mark at each that was solved. */
