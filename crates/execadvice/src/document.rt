@@ -1,10 +1,11 @@
 //! What is said of bytes that are no TOML document.
 
 use crate::escaped::hidden_reason;
-use crate::events::is_event;
+use crate::events::{is_event, is_of_trace};
 use crate::made::Made;
 use crate::show::{Advice, Span, width_of};
 use crate::text::{Text, text_or_nothing};
+use crate::values::number_meant;
 use crate::written::FilePlace;
 use escape::is_hidden;
 use std::alloc::Global;
@@ -19,10 +20,20 @@ fn likely_reason(before: char, c: char) -> Option<&'static str> {
         '\u{201C}' | '\u{201D}' | '\u{201E}' => Some("put a plain quote, \", in place of this one"),
         '\u{2018}' | '\u{2019}' => Some("put a plain quote, ', in place of this one"),
         '\0' => Some("this is not a text: it has bytes that are 0"),
+        '\r' => Some("lines end with a line feed, not with a carriage return alone"),
+        '{' => Some(
+            "this is JSON; a machine file is TOML, with KEY = VALUE, and [[task]] above each task",
+        ),
+        ':' => Some("TOML has = between a key and its value"),
         _ if before == '"' => Some(
             "a double quote within a string is written \\\", or the string is put between single quotes",
         ),
-        _ if before == ' ' && c.is_ascii_alphabetic() => Some("text is put between double quotes"),
+        'T' | 'F' if before == ' ' => Some(
+            "true and false have small letters, and text is put between double quotes",
+        ),
+        _ if (before == ' ' || before == '[') && c.is_ascii_alphabetic() => {
+            Some("text is put between double quotes")
+        }
         _ => None,
     }
 }
@@ -39,12 +50,47 @@ fn character_reason(alloc: Global, message: &str, before: char, c: char) -> Made
     }
 }
 
+/// How many bytes K or M after a number are.
+fn unit_of(text: &str) -> u32 {
+    if text.ends_with("K") || text.ends_with("k") {
+        1024
+    } else if text.ends_with("M") {
+        1_048_576
+    } else {
+        1
+    }
+}
+
+/// The number that is meant by the value of a line `KEY = VALUE`, as `$1000` or `4K`.
+fn number_of_line(alloc: Global, line: &str) -> Made<Option<u32>> {
+    let Some((_, value)) = line.split_once("=") else {
+        return Ok(None);
+    };
+    let value = value.trim();
+    let digits = value.trim_end_matches('K').trim_end_matches('k');
+    match number_meant(alloc, digits.trim_end_matches('M'))? {
+        None => Ok(None),
+        Some(number) => Ok(number.checked_mul(unit_of(value))),
+    }
+}
+
 /// Why bytes are no document, at a character of a line that is text, by its number from 0. `message` is what the reader of TOML says.
 fn reason_in(alloc: Global, line: &str, start: usize, message: &str) -> Made<String> {
     if is_event(line) {
         return String::from_str(
             alloc,
             "this is a line of an event text; the machine file is the first path, and the event text the second",
+        );
+    }
+    if is_of_trace(line) {
+        return String::from_str(
+            alloc,
+            "this is a line of a trace, which execsim writes; the first path is the machine file",
+        );
+    }
+    if let Some(number) = number_of_line(alloc, line)? {
+        return format!(in alloc;
+            "{message}; a number is in decimal digits, or in base 16 after 0x; did you mean {number}?"
         );
     }
     let before = match start {
@@ -59,7 +105,7 @@ fn reason_in(alloc: Global, line: &str, start: usize, message: &str) -> Made<Str
 }
 
 /// Why bytes are no text.
-fn reason_of_bytes(bytes: &[u8]) -> &'static str {
+pub(crate) fn reason_of_bytes(bytes: &[u8]) -> &'static str {
     match bytes {
         [0xFF, 0xFE, ..] | [0xFE, 0xFF, ..] => {
             "this file is written in UTF-16; save it in UTF-8"

@@ -3,6 +3,7 @@ ghost use Rattle.std.specs.Prelude.{◌≡◌, Some, IfOk};
 ghost use Rattle.taskscript.specs.Events.{script_of};
 ghost use Rattle.execadvice.specs.Findings.{fault_of};
 
+use crate::document::reason_of_bytes;
 use crate::file::first_line;
 use crate::made::Made;
 use crate::near::{are_digits, proposing_nearest};
@@ -83,6 +84,16 @@ fn is_of_machine_file(line: &str) -> bool {
     line.starts_with("[[") || line.contains(" = ") || line.starts_with("version=")
 }
 
+/// Whether a line is one of a trace.
+pub(crate) fn is_of_trace(line: &str) -> bool {
+    let digits = match line.rsplit_once(" $") {
+        None => "",
+        Some((_, digits)) => digits,
+    };
+    let is_result = digits.len() == 8 && digits.as_bytes().iter().all(|b| b.is_ascii_hexdigit());
+    line == "idle" || line.starts_with("switch ") || is_result && !line.contains('=')
+}
+
 /// Why the first word of a line begins no event.
 fn word_reason(alloc: Global, word: &str) -> Made<String> {
     let words = ["run", "tick", "irq"];
@@ -119,6 +130,11 @@ fn event_advice(alloc: Global, line: &str) -> Made<Advice> {
     if is_of_machine_file(line) {
         let reason =
             "this is a line of a machine file; the machine file is the first path, and the event text the second";
+        return Advice::new(alloc, field_span(line, 0), reason);
+    }
+    if is_of_trace(line) {
+        let reason =
+            "this is a line of a trace, which execsim writes; the second path is the event text";
         return Advice::new(alloc, field_span(line, 0), reason);
     }
     // A carriage return at the end has a reason of its own.
@@ -193,7 +209,10 @@ fn bad_line_text(text: &Text<'_>, number: usize) -> Made<String> {
         }
         Err(_) => {
             let start = bytes.iter().position(|byte| !byte.is_ascii()).unwrap_or(0);
-            let reason = "this is not valid UTF-8; save the file in UTF-8";
+            let reason = match text.bytes {
+                [0xFF, 0xFE, ..] | [0xFE, 0xFF, ..] => reason_of_bytes(text.bytes),
+                _ => "this is not valid UTF-8; save the file in UTF-8",
+            };
             text.bytes_text(number, "BadLine", start, reason)
         }
     }

@@ -16,7 +16,7 @@ use crate::variables::past_limit_in;
 use crate::warnings::warnings_of;
 use crate::written::{Part, Written};
 use std::alloc::{AllocError, Global};
-use taskscript::{FileFault, LinePlace, Place, Refused, TreePlace, items_at, read_placed};
+use taskscript::{FileFault, LinePlace, Place, Refused, TreePlace, read_placed};
 
 /// How many parts of dotted keys a refused file has at most that is read again. Each part is a table of its own.
 const MOST_PARTS: usize = 200_000;
@@ -75,10 +75,7 @@ impl File<'_, '_> {
         };
         match found {
             Some(advice) => Ok(advice),
-            None => {
-                let softints = items_at(&self.table, "softint");
-                line_advice(alloc, softints, line_at(&self.table, place))
-            }
+            None => { line_advice(alloc, &self.table, line_at(&self.table, place)) }
         }
     }
 

@@ -60,6 +60,9 @@ const END: &str = "RemTask 0, or nothing: the end of the code ends the task";
 
 const NEW_TASK: &str = "a [[task]] table with start = false, and AddTask NUMBER";
 
+/// How a number is divided.
+const COUNT_DOWN: &str = "a loop of Sub";
+
 /// What has the place of a semaphore that more than one task may have.
 const NOT_SHARED: &str = "ObtainSemaphore s, since semaphores are not shared here";
 
@@ -67,7 +70,7 @@ const NOT_SHARED: &str = "ObtainSemaphore s, since semaphores are not shared her
 const READ_TIME: &str = "SetIO r 10 0 0 and then DoIO r; the time is in IOSecs r and IOMicros r";
 
 /// Names of Exec and of other systems, each with what is written in their place.
-const NAMES: [(&str, &str); 56] = [
+const NAMES: [(&str, &str); 77] = [
     ("InitSemaphore", "s = NewSem"),
     (
         "AddSemaphore",
@@ -145,6 +148,30 @@ const NAMES: [(&str, &str); 56] = [
     ("WaitTOF", "Wait for a signal of a server of VERTB"),
     ("OldOpenLibrary", "b = OpenLibrary \"NAME\" 0"),
     ("nop", "x = Set x"),
+    (
+        "Mul",
+        "x = Add y y for twice y, and a loop for other products",
+    ),
+    ("Div", COUNT_DOWN),
+    ("Mod", COUNT_DOWN),
+    ("Shl", "x = Add y y for each place"),
+    ("Lsl", "x = Add y y for each place"),
+    ("Not", "x = Sub -1 y"),
+    ("Neg", "x = Sub 0 y"),
+    ("Xor", "o = Or x y, a = And x y and then x = Sub o a"),
+    ("Eor", "o = Or x y, a = And x y and then x = Sub o a"),
+    ("Inc", "x = Add x 1"),
+    ("Dec", "x = Sub x 1"),
+    ("Move", "x = Set VALUE"),
+    ("Let", "x = Set VALUE"),
+    ("bra", "Jump LABEL"),
+    ("jmp", "Jump LABEL"),
+    ("beq", "JumpZ x LABEL"),
+    ("bne", "JumpNZ x LABEL"),
+    ("rts", END),
+    ("end", END),
+    ("stop", END),
+    ("halt", END),
 ];
 
 const NO_RESOURCES: &str = "there are no resources";

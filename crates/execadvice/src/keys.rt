@@ -69,7 +69,11 @@ pub fn unknown_key(alloc: Global, of: TablePlace, table: &Table) -> Made<&str> {
 }
 
 /// Names that other systems have for keys, each with the keys that may be meant.
-const OTHER_KEYS: [(&str, &str); 16] = [
+const OTHER_KEYS: [(&str, &str); 20] = [
+    ("libraries", "library"),
+    ("lib", "library"),
+    ("libs", "library"),
+    ("interrupts", "server"),
     ("tasks", "task"),
     ("process", "task"),
     ("thread", "task"),
@@ -101,6 +105,12 @@ fn key_meant(name: &str, keys: &[&str]) -> Option<&'static str> {
 /// Why a key is none of a table, with the keys that the table may have.
 pub fn unknown_key_reason(alloc: Global, of: TablePlace, key: &str) -> Made<String> {
     let keys = key_texts(alloc, of)?;
+    if of != TablePlace::Top && key_texts(alloc, TablePlace::Top)?.contains(&key) {
+        return String::from_str(
+            alloc,
+            "this key belongs to the top of the file, above all tables",
+        );
+    }
     let near = match key_meant(key, &keys) {
         Some(meant) => Some(meant),
         None => nearest(alloc, key, &keys)?,

@@ -1,7 +1,8 @@
 //! Labels that are twice in a body, and jumps to labels that it lacks.
 
 use crate::made::Made;
-use crate::near::proposing_nearest;
+use crate::near::nearest;
+use crate::proposal::{proposing_line, proposing_part};
 use crate::said::{Said, label_of, said_by};
 use crate::show::{Advice, Span, width_of};
 use std::alloc::Global;
@@ -54,20 +55,32 @@ fn repeated(alloc: Global, labels: &[Label<'_>]) -> Made<Option<Advice>> {
     Ok(None)
 }
 
-/// Why a body lacks the label of that name, to which a line jumps.
-fn astray_reason(alloc: Global, labels: &[Label<'_>], said: &Said<'_>, name: &str) -> Made<String> {
-    let first = said.arguments.get(0).copied().unwrap_or("");
+/// Why a body lacks the label of that name, to which a line jumps in the part of that number.
+fn astray_reason(
+    alloc: Global,
+    labels: &[Label<'_>],
+    said: &Said<'_>,
+    line: &str,
+    part: usize,
+) -> Made<String> {
+    let (first, name) = match said.arguments.as_slice() {
+        [first, name] => (*first, *name),
+        [name] => ("", *name),
+        _ => ("", ""),
+    };
     if label_named(labels, first).is_some() {
         let word = said.word.text();
-        return format!(in alloc; "the label is last; did you mean {word} {name} {first}?");
+        let meant = format!(in alloc; "{word} {name} {first}")?;
+        return proposing_line(alloc, "the label is last", line, part, meant.as_str());
     }
     let names: Vec<&str> = labels.iter().map(|label| label.name).collect(alloc)?;
-    proposing_nearest(
+    let near = nearest(alloc, name, &names)?;
+    proposing_part(
         alloc,
         "the body has no label of this name",
-        name,
-        &names,
-        "",
+        line,
+        part,
+        near,
     )
 }
 
@@ -78,7 +91,7 @@ fn astray(alloc: Global, labels: &[Label<'_>], line: &str) -> Made<Option<Advice
     };
     match said.jump() {
         Some((part, name)) if label_named(labels, name).is_none() => {
-            let reason = astray_reason(alloc, labels, &said, name)?;
+            let reason = astray_reason(alloc, labels, &said, line, part)?;
             Ok(Some(Advice::of_field(line, part, reason)))
         }
         _ => Ok(None),

@@ -2,7 +2,6 @@
 #![tactic(auto)]
 
 mod advice;
-mod assignments;
 mod bodies;
 mod document;
 mod escaped;
@@ -14,7 +13,10 @@ mod keys;
 mod labels;
 mod made;
 mod members;
+mod mending;
 mod near;
+mod proposal;
+mod reads;
 mod regions;
 mod said;
 mod scan;
@@ -23,8 +25,10 @@ mod spacing;
 mod stands;
 mod text;
 mod tree;
+mod values;
 mod variables;
 mod warnings;
+mod words;
 mod written;
 
 pub use bodies::line_at;

@@ -1,6 +1,7 @@
 //! Lines that may not be in the body of an interrupt.
 
 use crate::made::Made;
+use crate::proposal::proposing_part;
 use crate::said::{Said, label_of, said_by};
 use crate::show::Advice;
 use crate::variables::{is_shared, is_variable};
@@ -24,9 +25,9 @@ fn word_advice(alloc: Global, line: &str, said: &Said<'_>) -> Made<Option<Advice
     }
     for (place, name) in &said.values(alloc)? {
         if is_variable(*name) && !is_shared(*name) {
-            let reason = format!(in alloc;
-                "an interrupt's code may use shared variables only; did you mean @{name}?"
-            )?;
+            let sentence = "an interrupt's code may use shared variables only";
+            let shared = format!(in alloc; "@{name}")?;
+            let reason = proposing_part(alloc, sentence, line, *place, Some(shared.as_str()))?;
             return Ok(Some(Advice::of_field(line, *place, reason)));
         }
     }

@@ -4,7 +4,8 @@ use crate::bodies::{Body, Spoken, bodies_in};
 use crate::labels::labels_of;
 use crate::made::Made;
 use crate::members::{member_of, name_of};
-use crate::near::{nearest, proposing};
+use crate::near::nearest;
+use crate::proposal::proposing_part;
 use crate::show::{Advice, Span, field_span};
 use crate::variables::{Variables, is_shared, is_variable};
 use script::{PortWord, TaskWord, Word};
@@ -138,7 +139,20 @@ fn add_never_run(out: &mut Warnings, tasks: &[Value]) -> Made<()> {
 struct Quoted<'a> {
     name: &'a str,
     place: LinePlace,
-    span: Span,
+    line: &'a str,
+    /// The number of its part of the line.
+    part: usize,
+}
+
+impl Quoted<'_> {
+    /// A sentence, and after it the question that proposes the line with another name, if there is one.
+    fn reason(self, alloc: Global, sentence: &str, near: Option<&str>) -> Made<String> {
+        let Some(near) = near else {
+            return String::from_str(alloc, sentence);
+        };
+        let name = format!(in alloc; "\"{near}\"")?;
+        proposing_part(alloc, sentence, self.line, self.part, Some(name.as_str()))
+    }
 }
 
 /// The names between double quotes that are the argument of that number of a word.
@@ -156,7 +170,8 @@ fn quoted_at<'a>(
                 found.push(Quoted {
                     name: field.trim_matches('"'),
                     place: one.place,
-                    span: field_span(one.line, one.said.place_of(number)),
+                    line: one.line,
+                    part: one.said.place_of(number),
                 })?;
             }
         }
@@ -208,8 +223,8 @@ fn add_unknown(
     for one in asked {
         if !names.set.contains(one.name) {
             let near = names.nearest(out.alloc, one.name, &mut pairs)?;
-            let reason = proposing(out.alloc, sentence, near, "\"")?;
-            out.push(one.place, one.span, reason)?;
+            let reason = one.reason(out.alloc, sentence, near)?;
+            out.push(one.place, field_span(one.line, one.part), reason)?;
         }
     }
     Ok(())
