@@ -6,14 +6,17 @@ use crate::made::Made;
 use crate::variables::is_variable;
 use script::{Kind, word_of};
 use std::alloc::Global;
-use taskscript::{fields_of, is_identifier, label_in, number_of, quoted_in};
+use taskscript::{fields_of, is_identifier, label_in, number_of, quoted_in, variable_of};
 
 /// Whether a field is an argument of that kind.
 fn is_argument(kind: Kind, field: &str) -> bool
     ensures { result ≡ is_some (argument_of kind field.now) }
 {
     match kind {
-        Kind::Value => is_variable(field) || number_of(field.as_bytes()).is_some(),
+        Kind::Value => match variable_of(field) {
+            Some(_) => true,
+            None => number_of(field.as_bytes()).is_some(),
+        },
         Kind::Label => is_identifier(field.as_bytes()),
         Kind::Name | Kind::Softint => quoted_in(field).is_some(),
         Kind::NameOrNone => field == "0" || quoted_in(field).is_some(),
