@@ -1,5 +1,6 @@
 //! Why there is no answer, what the command says of it, and the status that it ends with.
-ghost use Rattle.std.specs.Prelude.{◌≤◌};
+ghost use Rattle.std.specs.Prelude.{◌≡◌, ◌≤◌};
+ghost use Rattle.execexplore.specs.Failing.{of_machine, of_script, of_text, status_of};
 
 use escape::Shown;
 use execrun::{CannotRead, TextFault, Unread};
@@ -40,12 +41,20 @@ pub enum Failure<'a> {
 }
 
 impl From<AllocError> for Failure<'_> {
+    ghost use Rattle.execexplore.specs.declared.failure.Failure.TheVariants.{NoMemory};
+
+    ghost from_gives = { λ _ failure. failure ≡ NoMemory };
+
     fn from(_error: AllocError) -> Self {
         Failure::NoMemory
     }
 }
 
 impl<T: Drop> From<AllocFailed<T>> for Failure<'_> {
+    ghost use Rattle.execexplore.specs.declared.failure.Failure.TheVariants.{NoMemory};
+
+    ghost from_gives = { λ _ failure. failure ≡ NoMemory };
+
     fn from(_error: AllocFailed<T>) -> Self {
         Failure::NoMemory
     }
@@ -62,8 +71,30 @@ impl From<SearchFault> for Failure<'_> {
 }
 
 impl<'a> Failure<'a> {
+    /// Why a machine file is not had.
+    pub(crate) fn of_machine(fault: FileFault) -> Failure<'a>
+        ensures { result ≡ of_machine fault }
+    {
+        match fault {
+            FileFault::OutOfMemory => Failure::NoMemory,
+            fault => Failure::Machine(fault),
+        }
+    }
+
+    /// Why an event text is not had.
+    pub(crate) fn of_script(fault: EventFault) -> Failure<'a>
+        ensures { result ≡ of_script fault }
+    {
+        match fault {
+            EventFault::OutOfMemory => Failure::NoMemory,
+            fault => Failure::Events(fault),
+        }
+    }
+
     /// Why the text at a path is not at hand.
-    pub(crate) fn of_text(path: &'a str, fault: TextFault) -> Failure<'a> {
+    pub(crate) fn of_text(path: &'a str, fault: TextFault) -> Failure<'a>
+        ensures { result ≡ of_text path.entry fault }
+    {
         match fault {
             TextFault::NoMemory => Failure::NoMemory,
             TextFault::CannotRead(why) => Failure::CannotRead(path, why),
@@ -76,7 +107,8 @@ impl Failure<'_> {
     ///
     /// Source: project rule.
     pub fn status(&self) -> u8
-        ensures { result ≤ 4 }
+        ensures is { result ≡ status_of self.now }
+        ensures within { result ≤ 4 }
     {
         match self {
             Failure::Machine(_) | Failure::Events(_) => 1,
@@ -193,7 +225,8 @@ impl fmt::Display for Failure<'_> {
 ///
 /// Source: project rule.
 pub fn report<E: Write>(failure: &Failure<'_>, err: &mut E) -> u8
-    ensures { result ≤ 4 }
+    ensures is { result ≡ status_of failure.now }
+    ensures within { result ≤ 4 }
 {
     let _ = writeln!(err, "execexplore: {failure}");
     failure.status()

@@ -1,0 +1,6 @@
+-- The lemma files of `execexplore`.
+pub mod AskLemmas
+pub mod FailLemmas
+pub mod KindLemmas
+pub mod SumLemmas
+pub mod TickLemmas
