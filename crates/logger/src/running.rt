@@ -1,5 +1,5 @@
 //! The command over any words and writers, and on the arguments of its process.
-ghost use Rattle.std.specs.Prelude.{◌≡◌, ◌≤◌, IfOk, false, sum_by};
+ghost use Rattle.std.specs.Prelude.{◌≡◌, ◌≤◌, ◌⊎◌, IfOk, false, sum_by};
 ghost use Rattle.script.specs.Events.{event_ticks};
 ghost use Rattle.execsim.specs.Time.{HasTimeFor};
 ghost use Rattle.execlog.specs.Log.{turns};
@@ -43,7 +43,7 @@ const HEAD: &[u8] = b" step       ms  line  trace                               
 
 /// The status of a run.
 fn status_of(is_stopped: bool) -> u8
-    ensures { result ≤ 4 }
+    ensures { (result ≡ 0) ⊎ (result ≡ 3) }
 {
     if is_stopped { ALERTED } else { DONE }
 }
@@ -60,7 +60,7 @@ fn write_log_of<'a, F: Form, W: Write>(
     requires left { HasTimeFor 1000000 machine.old.seen }
     requires few { sum_by turns events.now ≤ 4000000 }
     requires time { sum_by event_ticks events.now ≤ 1000000 }
-    ensures { IfOk result (λ status. status ≤ 4) }
+    ensures { IfOk result (λ status. (status ≡ 0) ⊎ (status ≡ 3)) }
 {
     let mut sink = WriteSink::new(&mut *out);
     run_events(alloc, machine, events, form, &mut sink)?;
@@ -77,7 +77,7 @@ fn write_form<'a, F: Form, W: Write>(
 ) -> Result<u8, Failure<'a>>
     requires few { sum_by turns events.now ≤ 4000000 }
     requires time { sum_by event_ticks events.now ≤ 1000000 }
-    ensures { IfOk result (λ status. status ≤ 4) }
+    ensures { IfOk result (λ status. (status ≡ 0) ⊎ (status ≡ 3)) }
 {
     match Machine::boot(alloc, &run.listed.machine) {
         Err(_) => Err(Failure::NoMemory),
@@ -105,7 +105,7 @@ fn write_rows<'a, W: Write>(
 ) -> Result<u8, Failure<'a>>
     requires few { sum_by turns events.now ≤ 4000000 }
     requires time { sum_by event_ticks events.now ≤ 1000000 }
-    ensures { IfOk result (λ status. status ≤ 4) }
+    ensures { IfOk result (λ status. (status ≡ 0) ⊎ (status ≡ 3)) }
 {
     write_text(HEAD, out)?;
     if options.plain_words {
@@ -134,7 +134,7 @@ fn write_json<'a, W: Write>(
 ) -> Result<u8, Failure<'a>>
     requires few { sum_by turns events.now ≤ 4000000 }
     requires time { sum_by event_ticks events.now ≤ 1000000 }
-    ensures { IfOk result (λ status. status ≤ 4) }
+    ensures { IfOk result (λ status. (status ≡ 0) ⊎ (status ≡ 3)) }
 {
     let ends = ends_of(alloc, run.events.list())?;
     let form = Json {
@@ -146,17 +146,17 @@ fn write_json<'a, W: Write>(
     write_form(alloc, run, events, &form, out)
 }
 
-/// Writes all that the machine shows after a step.
+/// Writes all that the machine shows after a step of a run, of which the last one has the number `last`.
 fn write_state<'a, W: Write>(
     alloc: Global,
     run: &Run,
+    last: u64,
     paths: Paths<'a>,
     number: u64,
     out: &mut W,
 ) -> Result<u8, Failure<'a>>
-    ensures { IfOk result (λ status. status ≤ 4) }
+    ensures { IfOk result (λ status. (status ≡ 0) ⊎ (status ≡ 3)) }
 {
-    let last = last_number(run.events.list());
     let number = number_within(alloc, "--state", number, last)?;
     let events = events_up_to(alloc, run.events.list(), number)?;
     let (page, is_stopped) = state_page(alloc, run, paths.machine, &events, number, last)?;
@@ -164,17 +164,18 @@ fn write_state<'a, W: Write>(
     Ok(status_of(is_stopped))
 }
 
-/// Writes the log of a part of a run.
+/// Writes the log of a part of a run, of which the last step has the number `end`.
 fn write_part<'a, W: Write>(
     alloc: Global,
     run: &Run,
+    end: u64,
     paths: Paths<'a>,
     options: &Options<'a>,
     out: &mut W,
 ) -> Result<u8, Failure<'a>>
-    ensures { IfOk result (λ status. status ≤ 4) }
+    ensures { IfOk result (λ status. (status ≡ 0) ⊎ (status ≡ 3)) }
 {
-    let choice = chosen(alloc, run, paths, options)?;
+    let choice = chosen(alloc, run, end, paths, options)?;
     let events = events_up_to(alloc, run.events.list(), choice.last)?;
     if options.view == View::Json {
         write_json(alloc, run, &events, choice, options, out)
@@ -199,12 +200,13 @@ pub fn write_run<'a, W: Write>(
     options: &Options<'a>,
     out: &mut W,
 ) -> Result<u8, Failure<'a>>
-    ensures { IfOk result (λ status. status ≤ 4) }
+    ensures { IfOk result (λ status. (status ≡ 0) ⊎ (status ≡ 3)) }
 {
+    let end = last_number(run.events.list());
     let status = match options.view {
-        View::State(number) => write_state(alloc, run, paths, number, out)?,
-        View::Svg | View::Chrome => status_of(write_picture(alloc, run, paths, options, out)?),
-        _ => write_part(alloc, run, paths, options, out)?,
+        View::State(number) => write_state(alloc, run, end, paths, number, out)?,
+        View::Svg | View::Chrome => status_of(write_picture(alloc, run, end, paths, options, out)?),
+        _ => write_part(alloc, run, end, paths, options, out)?,
     };
     write_text(&[], out)?;
     Ok(status)
@@ -218,7 +220,7 @@ fn write_asked<'a, T: Texts, W: Write>(
     options: &Options<'a>,
     out: &mut W,
 ) -> Result<u8, Failure<'a>>
-    ensures { IfOk result (λ status. status ≤ 4) }
+    ensures { IfOk result (λ status. (status ≡ 0) ⊎ (status ≡ 3)) }
 {
     let run = read_run(texts, alloc, paths)?;
     write_run(alloc, &run, paths, options, out)
@@ -232,7 +234,8 @@ fn write_help<W: Write>(error: &clap::Error, out: &mut W) -> io::Result<()> {
 
 /// Answers a command line that asks for nothing: the help, or why it is refused.
 fn answer_without_work<W: Write, E: Write>(error: &clap::Error, out: &mut W, err: &mut E) -> u8
-    ensures { result ≤ 4 }
+    ensures status { (result ≡ 0) ⊎ (result ≡ 2) ⊎ (result ≡ 4) }
+    ensures silent { result ≡ 0 → err.new ≡ err.old }
 {
     if error.kind() == ErrorKind::OutOfMemory {
         return report(&Failure::NoMemory, err);
@@ -258,7 +261,8 @@ pub fn run_on_texts<T: Texts, W: Write, E: Write>(
     out: &mut W,
     err: &mut E,
 ) -> u8
-    ensures { result ≤ 4 }
+    ensures status { result ≤ 4 }
+    ensures silent { (result ≡ 0) ⊎ (result ≡ 3) → err.new ≡ err.old }
 {
     let done = match asked_by(alloc, words) {
         Err(Refusal::Words(error)) => return answer_without_work(&error, out, err),
@@ -277,7 +281,8 @@ fn run_buffered<R: Env + Files + AllocGlobal, W: Write + Drop, E: Write>(
     out: W,
     err: &mut E,
 ) -> io::Result<u8>
-    ensures { IfOk result (λ status. status ≤ 4) }
+    ensures status { IfOk result (λ status. status ≤ 4) }
+    ensures silent { IfOk result (λ status. (status ≡ 0) ⊎ (status ≡ 3) → err.new ≡ err.old) }
 {
     let alloc = rt.alloc();
     let arguments: Vec<String> = env::args(rt)?.skip(1).collect(alloc)?;
@@ -298,7 +303,8 @@ pub fn run_on_arguments<R: Env + Files + AllocGlobal, W: Write + Drop, E: Write>
     out: W,
     err: &mut E,
 ) -> u8
-    ensures { result ≤ 4 }
+    ensures status { result ≤ 4 }
+    ensures silent { (result ≡ 0) ⊎ (result ≡ 3) → err.new ≡ err.old }
 {
     match run_buffered(rt, out, err) {
         Ok(status) => status,

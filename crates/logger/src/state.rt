@@ -1,87 +1,46 @@
 //! All that a machine shows after some steps, as a page of text.
-ghost use Rattle.std.specs.Prelude.{◌≡◌, ◌≤◌, false, sum_by};
+ghost use Rattle.std.specs.Prelude.{◌≡◌, ◌≤◌, false, IfErr, IfOk, sum_by};
 ghost use Rattle.script.specs.Events.{event_ticks};
-ghost use Rattle.execsim.specs.Time.{HasTimeFor};
-ghost use Rattle.execlog.specs.Log.{turns};
+ghost use Rattle.execmodel.specs.State.{booted};
+ghost use Rattle.execmodel.specs.Step.{run as run_of};
+ghost use Rattle.execsim.specs.{Agreement.Agrees, Time.HasTimeFor};
 
 use crate::failure::Failure;
 use execlist::link::LinkSpace;
-use execlist::space::ListSpace;
-use execlog::{Actor, Before, Form, Moment, Page};
 use execsim::Machine;
-use exectrace::WriteSink;
-use logforms::{Run, page_of, run_events};
-use script::Event;
-use std::alloc::{AllocError, Global};
-use std::io;
-use std::io::Write;
+use exectrace::{Said, Witness};
+use logforms::{Run, page_of};
+use script::{Event, MachineFile};
+use std::alloc::Global;
 
-/// A writer that takes all, and keeps nothing.
+/// A listener that keeps nothing.
 #[derive(Clone, Copy, Drop)]
-struct Nowhere;
+struct Nobody;
 
-impl Write for Nowhere {
-    fn write(&mut self, buf: &[u8]) -> io::Result<usize> {
-        Ok(buf.len())
-    }
+impl Witness for Nobody {
+    ghost use Rattle.logger.specs.Unheard.{unheard};
 
-    fn flush(&mut self) -> io::Result<()> {
-        Ok(())
-    }
-}
+    ghost hearing = { unheard };
 
-/// The form that shows nothing.
-#[derive(Clone, Copy)]
-struct Silent;
+    ghost told = { λ _. tt };
 
-impl Form for Silent {
-    ghost use Rattle.std.specs.Prelude.{⊤};
+    fn hear(&mut self, _said: &Said<'_>) {}
 
-    ghost shows = { λ f e bytes. ⊤ };
-
-    fn note<S: ListSpace>(
-        &self,
-        _machine: &Machine<S>,
-        _number: u64,
-        _actor: Option<Actor>,
-        _before: &mut Before,
-    ) {}
-
-    fn shows_silent(&self) -> bool {
-        false
-    }
-
-    fn push_entry(
-        &self,
-        _before: &Before,
-        _moment: &Moment,
-        _text: &[u8],
-        _page: &mut Page,
-    ) -> Result<(), AllocError> {
-        Ok(())
+    fn is_good(&self) -> bool {
+        true
     }
 }
 
-/// Runs a machine that was not started yet over events: the page of what it shows then, and whether an alert has stopped it.
-fn page_after<'a>(
-    alloc: Global,
-    run: &Run,
-    path: &str,
-    machine: &mut Machine<LinkSpace>,
-    events: &[Event],
-    number: u64,
-    last: u64,
-) -> Result<(String, bool), Failure<'a>>
+/// Runs a machine that was not started, that of the file, over events, and answers whether an alert has stopped it.
+fn stops_over(machine: &mut Machine<LinkSpace>, _file: &MachineFile, events: &[Event]) -> bool
     requires going { machine.old.failed ≡ false }
+    requires agrees { Agrees machine.old.seen (booted _file.now) }
     requires left { HasTimeFor 1000000 machine.old.seen }
-    requires few { sum_by turns events.now ≤ 4000000 }
     requires time { sum_by event_ticks events.now ≤ 1000000 }
+    ensures { result ≡ (run_of _file.now events.now).state.stopped }
 {
-    let mut sink = WriteSink::new(Nowhere);
-    run_events(alloc, machine, events, &Silent, &mut sink)?;
-    let is_stopped = machine.view().stopped;
-    let page = page_of(alloc, run, path, machine, number, last)?;
-    Ok((page, is_stopped))
+    let _flow = machine.play(events, &mut Nobody);
+    machine.view().stopped
 }
 
 /// The page of what a machine shows after the step of a number, which is the last of these events, and whether an alert has stopped it.
@@ -99,11 +58,12 @@ pub fn state_page<'a>(
     number: u64,
     last: u64,
 ) -> Result<(String, bool), Failure<'a>>
-    requires few { sum_by turns events.now ≤ 4000000 }
-    requires time { sum_by event_ticks events.now ≤ 1000000 }
+    requires { sum_by event_ticks events.now ≤ 1000000 }
+    ensures stopped { IfOk result (λ page. page.1 ≡ (run_of run.now.listed.machine events.now).state.stopped) }
+    ensures failure { IfErr result (λ failure. failure ≡ Failure.NoMemory) }
 {
-    match Machine::boot(alloc, &run.listed.machine) {
-        Err(_) => Err(Failure::NoMemory),
-        Ok(mut machine) => page_after(alloc, run, path, &mut machine, events, number, last),
-    }
+    let mut machine = Machine::boot(alloc, &run.listed.machine)?;
+    let is_stopped = stops_over(&mut machine, &run.listed.machine, events);
+    let page = page_of(alloc, run, path, &machine, number, last)?;
+    Ok((page, is_stopped))
 }

@@ -1,0 +1,5 @@
+pub mod Asking
+pub mod Choosing
+pub mod Failing
+pub mod Reading
+pub mod Unheard
