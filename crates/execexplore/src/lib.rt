@@ -2,6 +2,7 @@
 #![tactic(auto)]
 
 mod arguments;
+mod bounds;
 mod command_line;
 mod failure;
 mod frame;

@@ -7,8 +7,9 @@ ghost use Rattle.execrun.specs.Texts.{IsTextAt};
 ghost use Rattle.execexplore.specs.{Failing.IsOfMachine, Failing.IsOfScript, Failing.IsUnread, Framing.FailsTexts, Framing.FramesTexts, Framing.IsFrameOf, Framing.IsOfFrame, Framing.IsOfSizes, Framing.IsOneOf};
 ghost use Rattle.execexplore.specs.Reporting.{limits_text, names_text, part_in, report_in, report_with, title_text};
 
+use crate::bounds::{MOST_WAYS, check_ticks, kinds_for, number_of};
 use crate::failure::Failure;
-use crate::frame::{Frame, MOST_WAYS, check_ticks, kinds_for, number_of};
+use crate::frame::Frame;
 use crate::options::{Options, kinds_text};
 use crate::stretch::{Stretch, stretch_window};
 use escape::Shown;
