@@ -1,5 +1,5 @@
 -- What a fault of a text is to the command, and how many actions an accepted text has.
-use Rattle.std.proofs.Common.{◌≡◌, ◌<◌, ◌≤◌, ℕ, ◌+◌, ◌-◌, ◌^◌, min, List, [], ◌∷◌, ◌++◌, length, replicate, Result, Ok, Err, is_ok, ap, Bor, Option, arith, cc, inl, inr, refl, flat_map, sum_by}
+use Rattle.std.proofs.Common.{◌≡◌, ◌<◌, ◌≤◌, ℕ, ◌+◌, ◌-◌, ◌^◌, min, List, [], ◌∷◌, ◌++◌, length, replicate, Result, Ok, Err, is_ok, ap, Bor, Option, arith, inl, inr, refl, flat_map, sum_by}
 use Rattle.std.specs.Prelude.{⊤, ◌⊎◌}
 use Rattle.std.proofs.lemmas.{List.length-append, List.length-replicate, List.Sums.sum_by-cons}
 use Rattle.script.specs.{Events.AreWithin, Events.event_steps, Events.event_ticks, File.MachineData, declared.event.Event.Event}

@@ -1,7 +1,7 @@
 -- What is read at the paths of reports.
-use Rattle.std.proofs.Common.{◌≡◌, ◌<◌, ◌≤◌, ◌∙◌, ℕ, zero, suc, ◌+◌, add-one, get_or, List, [], ◌∷◌, ◌++◌, length, min, take, Option, None, Some, IfSome, Bor, arith, sym, subst, refl}
+use Rattle.std.proofs.Common.{◌≡◌, ◌<◌, ◌≤◌, ◌∙◌, ℕ, zero, suc, ◌+◌, add-one, get_or, List, [], ◌∷◌, ◌++◌, length, min, take, Option, None, Some, IfSome, option_map, ap₂, Bor, arith, sym, subst, refl}
 use Rattle.std.specs.Prelude.{⊤}
-use Rattle.std.proofs.lemmas.List.{length-take}
+use Rattle.std.proofs.lemmas.List.{length-take, take_all}
 use Rattle.wayreport.specs.declared.report.Report.{Report}
 use Rattle.execrun.specs.Texts.{Opens, TextAt}
 use Rattle.execrun.specs.declared.unread.TextFault.{TextFault}
@@ -15,9 +15,15 @@ pub read_front : (told remaining : Option (List ℕ)) (bytes : List ℕ) → Ope
 read_front None remaining bytes opens read = tt
 read_front (Some all) remaining bytes opens read = rw opens at read
 
+-- what is read up to a limit is the front of what is there
+pub front_of : (known : Option (List ℕ)) (limit : ℕ) (old new : List ℕ) → limit ≡ 268435457 → old ≡ [] → IfSome (option_map (take limit) known) (λ xs. new ≡ old ++ xs)
+    → IfSome known (λ all. new ≡ take 268435457 all)
+front_of None limit old new most empty read = tt
+front_of (Some all) limit old new most empty read = read ∙ ap₂ (λ (xs : List ℕ) (n : ℕ). xs ++ take n all) empty most
+
 -- a front that is shorter than was asked for is the whole
 front_is_whole : (n : ℕ) (all : List ℕ) → length (take (n + 1) all) ≤ n → take (n + 1) all ≡ all
-front_is_whole n all short = let few : length all ≤ n = grind (arith, length-take (n + 1) all) in grind (arith, few)
+front_is_whole n all short = let few : length all ≤ n = grind (arith, length-take (n + 1) all) in take_all (n + 1) all (omega arith)
 
 -- a report of no more bytes than a report may have is all that is at its path
 pub whole_text : (told : Option (List ℕ)) (bytes all_of_it : List ℕ) → IfSome told (λ all. bytes ≡ take 268435457 all) → length bytes ≤ 268435456

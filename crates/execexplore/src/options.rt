@@ -1,10 +1,11 @@
 //! What the options of a command line ask for.
 ghost use Rattle.std.specs.Prelude.{◌≡◌, ◌≤◌, ◌++◌, IfOk, IfSome, OnOk, flat_map, string_bytes};
+ghost use Rattle.std.specs.List.{list_any};
 ghost use Rattle.execexplore.specs.Kinds.{is_exter, is_ports, is_served, kinds_served, request_if};
 ghost use Rattle.execexplore.specs.Reporting.{kind_text, kinds_text, marked_kind};
 
 use crate::stretch::Stretch;
-use script::{Event, MachineFile, Source};
+use script::{Event, MachineFile, ServerRecord, Source};
 use std::alloc::{AllocError, Global};
 use wayrun::See;
 
@@ -126,20 +127,32 @@ fn is_exter(source: Source) -> bool
     }
 }
 
+/// Whether one of some servers serves PORTS.
+fn has_ports(servers: &[ServerRecord]) -> bool
+    ensures { result ≡ list_any (λ s. is_ports s.source) servers.now }
+{
+    servers.iter().any(|server| is_ports(server.source))
+}
+
+/// Whether one of some servers serves EXTER.
+fn has_exter(servers: &[ServerRecord]) -> bool
+    ensures { result ≡ list_any (λ s. is_exter s.source) servers.now }
+{
+    servers.iter().any(|server| is_exter(server.source))
+}
+
 /// Whether a server of the file serves PORTS.
-#[tactic(auto, using(crate::proofs::KindLemmas::served_seen))]
 fn serves_ports(file: &MachineFile) -> bool
     ensures { result ≡ is_served is_ports file.now.servers }
 {
-    file.servers().iter().any(|server| is_ports(server.source))
+    has_ports(file.servers())
 }
 
 /// Whether a server of the file serves EXTER.
-#[tactic(auto, using(crate::proofs::KindLemmas::served_seen))]
 fn serves_exter(file: &MachineFile) -> bool
     ensures { result ≡ is_served is_exter file.now.servers }
 {
-    file.servers().iter().any(|server| is_exter(server.source))
+    has_exter(file.servers())
 }
 
 /// Adds a request by a source, if it is served.
