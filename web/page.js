@@ -5,8 +5,8 @@ const FIRST_EXAMPLE = 'ports';
 /** How long nothing is typed before the texts are run, and before the address is written, in milliseconds. */
 const PAUSE = 300, ADDRESS_PAUSE = 400;
 
-/** Four workers: one for what is shown, one for the proved trace and the findings, one for the strip, and one for searches. */
-let library, checker, asides, editors, view, strip, search, exercise, lesson, work, embed, examples = [];
+/** Beside the worker for what is shown three more: one for the proved trace and the findings, one for the strip, and one for searches. */
+let checker, asides, editors, view, strip, search, exercise, lesson, work, embed, examples = [];
 
 /** The run that is shown, and the run whose events a way was opened from: the same if no way is. */
 let shownRun = null, frame = null;
@@ -479,9 +479,8 @@ const DEEDS = {
   },
 };
 
-/** Makes the editors, whose script the page carries packed. */
-function makeEditors(script) {
-  document.head.append(made('script', script));
+/** Makes the editors. */
+function makeEditors() {
   CodeMirror.defineMode('machine', machineMode);
   CodeMirror.defineMode('events', eventsMode);
   editors = {
@@ -490,20 +489,16 @@ function makeEditors(script) {
   };
 }
 
-async function begin() {
-  const script = URL.createObjectURL(new Blob([$('worker').textContent], { type: 'text/javascript' })), helper = new Library(script);
-  library = new Library(script);
-  const loads = library.load($('module'));
-  const [code, data] = await Promise.all([helper.unpack($('editor-packed')), helper.unpack($('data'))]), carried = JSON.parse(decoded(data));
+/** Begins, with what the page carries as data, once the module is loaded. */
+async function begin(carried, loads) {
   examples = carried.topics;
   takeWords(carried);
   EXERCISES = carried.exercises;
   LESSONS = carried.lessons;
   listExamples();
   view = new View({ onCursor: cursorAt, onPicture: () => strip?.pictured(), onFault: why => says(`The simulator broke off: ${why.message}`, 'fault') });
-  makeEditors(decoded(code));
+  makeEditors();
   await loads;
-  helper.worker.terminate();
   [checker, asides, search] = [library.another(), library.another(), new Search(library.another(), texts, frameTexts, openWay)];
   exercise = new Exercise({ library: search.library, begun: name => exampleOf(name).texts, now: frameTexts, onWay: openWay, onJudged: judged });
   lesson = new Lesson({ onOpen: openLesson, onStep: showStep, onPart: partShown });
@@ -516,8 +511,3 @@ async function begin() {
   embed.tell({ did: 'ready' });
   window.execsim = { library, exercise, lesson, view, editors, texts, strip, search, work }; // for a console, and for tests
 }
-
-/** Whether this browser has WebAssembly with memory of 64 bits: whether it takes a module that has nothing else. */
-const hasMemory = () => WebAssembly.validate(new Uint8Array([0, 97, 115, 109, 1, 0, 0, 0, 5, 3, 1, 4, 1]));
-
-begin().catch(why => says(hasMemory() ? `The page broke off: ${why.message}` : 'This browser cannot run the simulator, which needs WebAssembly with memory of 64 bits, as Chrome has from 133 and Firefox from 134 on.', 'fault'));
