@@ -17,7 +17,7 @@ function otherThanAllowed(changes, [machine, events], [nowMachine, nowEvents]) {
   const was = tablesOf(machine), is = tablesOf(nowMachine), areEqual = (a, b) => a.join('\n') === b.join('\n');
   const commands = text => text.split('\n').filter(line => line && !line.startsWith('#'));
   if (!areEqual(commands(events), commands(nowEvents))) return 'the events are';
-  if (!areEqual(was.map(it => it.name), is.map(it => it.name))) return 'there are other tables, or other names,';
+  if (!areEqual(was.map(it => it.name), is.map(it => it.name))) return 'the tables, or their names, are';
   const other = was.find((it, i) => !areEqual(it.head, is[i].head) || (!changes.includes(it.name) && !areEqual(it.code, is[i].code)));
   if (!other) return '';
   return changes.includes(other.name) ? `what is above the code of \`${other.name}\` is` : `\`${other.name}\` is`;

@@ -51,6 +51,7 @@ class Editor {
     this.whole = null;
     this.shown.setOption('readOnly', isLong);
     this.shown.setValue(isLong ? text.slice(0, LONGEST_LINE) : text);
+    this.shown.clearHistory(); // what was there before is brought back by Undo
     this.shown.scrollTo(0, 0);
     this.cut.hidden = !isLong;
     this.cut.textContent = `All ${shown(bytes.length)} bytes are run. Only the beginning is shown: a line of this length cannot be edited here.`;

@@ -110,7 +110,7 @@ class Search {
     if (one === this.base) item.append(made('p', 'as now'));
     if (other) {
       const line = made('p');
-      line.append(made('code', inShort(other.line)), ' not ', made('code', inShort(other.was)));
+      line.append(made('code', inShort(other.line)), ', not ', made('code', inShort(other.was)));
       item.append(line);
     }
     more.append(made('summary', `${counted(one.lines.length, 'line')}, first ${one.way}`), made('pre', one.lines.join('\n')));

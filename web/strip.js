@@ -188,16 +188,21 @@ class Strip {
     return it;
   }
 
-  /** The outcomes with what is other in each. */
+  /** The outcomes with what is other in each, those that are bad first. */
   drawClasses() {
-    const [base, ...others] = this.classes;
-    $('strip-said').replaceChildren(...(this.said ? [made('p', this.said, 'all')] : []), ...others.map((one, i) => {
-      const item = made('p'), other = firstOtherLine(one, base);
-      item.append(made('b', letterOf(i + 1), classOf(i + 1, one)), ` ${counted(one.count, 'place')}: `, made('code', inShort(other?.line ?? '')), ' not ', made('code', inShort(other?.was ?? '')));
-      item.title = one.text;
-      return item;
-    }), ...(others.length || this.said || !base ? [] : [made('p', 'One more interrupt changes nothing that is printed, wherever it comes.', 'all')]));
+    const [base, ...others] = this.classes, inOrder = [...others.filter(it => it.isBad), ...others.filter(it => !it.isBad)], some = [];
+    if (this.said) some.push(made('p', this.said, 'all'));
+    else if (base && !others.length) some.push(made('p', 'One more interrupt changes nothing that is printed, wherever it comes.', 'all'));
+    $('strip-said').replaceChildren(...some, ...inOrder.map(one => this.describe(one, this.classes.indexOf(one), base)));
     $('strip-said').title = this.compared ?? '';
+  }
+
+  /** An outcome: its letter, how many places bring it, and the first line that is other. */
+  describe(one, number, base) {
+    const item = made('p'), other = firstOtherLine(one, base);
+    item.append(made('b', letterOf(number), classOf(number, one)), ` ${counted(one.count, 'place')}: `, made('code', inShort(other?.line ?? '')), ', not ', made('code', inShort(other?.was ?? '')));
+    item.title = one.text;
+    return item;
   }
 
   /** Arrow keys go from cell to cell. */

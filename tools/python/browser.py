@@ -2,6 +2,7 @@
 import base64
 import json
 import os
+import pathlib
 import re
 import select
 import shutil
@@ -13,6 +14,11 @@ NAMES = ("chromium", "chromium-browser", "google-chrome")
 WORDS = ["--headless=new", "--no-sandbox", "--disable-gpu", "--hide-scrollbars", "--no-first-run", "--disable-background-networking", "--remote-debugging-pipe"]
 # How long the browser may say nothing, in seconds: a machine with much else to do takes its time.
 PATIENCE = 180
+# A promise that is kept when an expression holds, or after so many milliseconds, and says whether it does.
+WAITING = """new Promise(done => {
+  const end = performance.now() + %d, look = () => { let is = false; try { is = %s; } catch {} is || performance.now() > end ? done(!!is) : setTimeout(look, 5); };
+  look();
+})"""
 
 
 def found():
@@ -131,11 +137,11 @@ class Browser:
 
     def wait(self, expression, seconds=150):
         """Waits until an expression holds; answers whether it does."""
-        return self.value(f"new Promise(done => {{ const end = performance.now() + {1000 * seconds}, look = () => {{ let is = false; try {{ is = {expression}; }} catch {{}} is || performance.now() > end ? done(!!is) : setTimeout(look, 5); }}; look(); }})")
+        return self.value(WAITING % (1000 * seconds, expression))
 
     def key(self, key, code=None, modifiers=0, text=""):
         """Presses a key and lets it go: 1 is Alt, 2 is Ctrl, 8 is Shift."""
-        numbers = {"Enter": 13, "Tab": 9, "Escape": 27, "ArrowLeft": 37, "ArrowRight": 39, "ArrowUp": 38, "ArrowDown": 40, "Home": 36, "End": 35, "F1": 112, ",": 188, ".": 190}
+        numbers = {"Enter": 13, "Tab": 9, "Escape": 27, "ArrowLeft": 37, "ArrowRight": 39, "ArrowUp": 38, "ArrowDown": 40, "Home": 36, "End": 35, "F1": 112, "Backspace": 8, "Delete": 46, ",": 188, ".": 190}
         number = numbers.get(key) or (ord(key.upper()) if re.fullmatch("[a-z0-9 ]", key) else 0)
         it = {"key": key, "code": code or key, "modifiers": modifiers, "windowsVirtualKeyCode": number}
         self.ask("Input.dispatchKeyEvent", type="keyDown", **it, **({"text": text} if text else {}))
@@ -146,13 +152,10 @@ class Browser:
         for it in text:
             self.key("Enter" if it == "\n" else it, text="\r" if it == "\n" else it)
 
-    def click(self, selector):
-        """Clicks the middle of a part of the page."""
-        place = self.value(f"(e => {{ e.scrollIntoView({{ block: 'nearest' }}); const r = e.getBoundingClientRect(); return [r.x + r.width / 2, r.y + r.height / 2]; }})(document.querySelector({json.dumps(selector)}))")
-        for kind in ("mousePressed", "mouseReleased"):
-            self.ask("Input.dispatchMouseEvent", type=kind, x=place[0], y=place[1], button="left", clickCount=1)
+    def paper(self):
+        """The page as it is printed, a PDF."""
+        return base64.b64decode(self.ask("Page.printToPDF", preferCSSPageSize=True)["data"])
 
-    def shoot(self, to, whole=False):
-        """Takes a screenshot, of the whole page or of what is in sight."""
-        with open(to, "wb") as file:
-            file.write(base64.b64decode(self.ask("Page.captureScreenshot", format="png", captureBeyondViewport=whole)["data"]))
+    def shoot(self, to):
+        """Takes a screenshot of what is in sight."""
+        pathlib.Path(to).write_bytes(base64.b64decode(self.ask("Page.captureScreenshot", format="png")["data"]))
