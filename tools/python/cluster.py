@@ -1,5 +1,6 @@
-"""Slurm on this machine alone: munge, a controller and one node, on the loopback interface, in a folder of their own and without systemd. They run as the
-user who asks, in the foreground, and do not end by themselves: work that starts them is to be done by `tended.apart`."""
+"""Slurm on this machine alone: munge, a controller and one node, on the loopback interface, in a folder of their own
+and without systemd. They run as the user who asks, in the foreground, and do not end by themselves: work that starts
+them is to be done by `tended.apart`."""
 import contextlib
 import os
 import pwd
@@ -54,7 +55,8 @@ def search_path():
 
 def lacking():
     """Why there can be no cluster here, or none."""
-    packages = sorted({package for program, package in PACKAGES.items() if not shutil.which(program, path=search_path())})
+    path = search_path()
+    packages = sorted({package for program, package in PACKAGES.items() if not shutil.which(program, path=path)})
     if packages:
         listed = f"{' and '.join(packages)} {'is' if len(packages) == 1 else 'are'} missing"
         return f"{listed}; as root: apt-get install -y --no-install-recommends {' '.join(packages)}"
@@ -82,22 +84,24 @@ def configure(room):
     key.touch(mode=0o600)
     key.write_bytes(os.urandom(1024))
     host, user = socket.gethostname().split(".")[0], pwd.getpwuid(os.geteuid()).pw_name
-    text = CONFIGURATION.format(room=room, host=host, user=user, ports=free_ports(2), processors=NODE_PROCESSORS)
-    (room / "slurm.conf").write_text(text)
+    values = {"room": room, "host": host, "user": user, "ports": free_ports(2), "processors": NODE_PROCESSORS}
+    (room / "slurm.conf").write_text(CONFIGURATION.format(**values))
 
 
 def daemons(room):
     """The command lines of the daemons, each of which stays in the foreground."""
-    own = {"key-file": "key", "socket": "socket", "pid-file": "pid", "seed-file": "seed", "log-file": "log"}
-    yield ["munged", "--foreground", "--force", *(f"--{option}={room}/munge.{ending}" for option, ending in own.items())]
+    files = {"key-file": "key", "socket": "socket", "pid-file": "pid", "seed-file": "seed", "log-file": "log"}
+    options = [f"--{option}={room}/munge.{ending}" for option, ending in files.items()]
+    yield ["munged", "--foreground", "--force", *options]
     yield ["slurmctld", "-D", "-c", "-f", f"{room}/slurm.conf"]
     yield ["slurmd", "-D", "-N", "here", "-f", f"{room}/slurm.conf"]
 
 
 def call(words, environment, room):
     """The status and standard output of a program of Slurm, or none of both if it does not end in time."""
+    options = {"cwd": room, "env": environment, "timeout": PATIENCE}
     try:
-        done = subprocess.run(words, cwd=room, env=environment, capture_output=True, text=True, timeout=PATIENCE, check=False)
+        done = subprocess.run(words, capture_output=True, text=True, check=False, **options)
     except subprocess.TimeoutExpired:
         return None, None
     return done.returncode, done.stdout
@@ -124,9 +128,10 @@ def has_run_first(room, environment):
 
 
 def environment_of(room):
-    """What the clients of a cluster find in their environment: nothing of another cluster that this script may run in."""
-    own = {name: value for name, value in os.environ.items() if not name.startswith(("SLURM", "SBATCH", "SQUEUE"))}
-    return {**own, "PATH": search_path(), "SLURM_CONF": f"{room}/slurm.conf"}
+    """The environment of a cluster's clients, with nothing of another cluster that this script may run in."""
+    others = ("SLURM", "SBATCH", "SQUEUE")
+    kept = {name: value for name, value in os.environ.items() if not name.startswith(others)}
+    return {**kept, "PATH": search_path(), "SLURM_CONF": f"{room}/slurm.conf"}
 
 
 def start(room):

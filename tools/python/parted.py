@@ -1,7 +1,9 @@
-"""Searches in parts as docs/COMMANDS.md says it: by xargs, by GNU parallel and by an array of Slurm, and what comes of a part that is missing, that failed
-or that is of another search. What is run are the lines of that page, in a folder with its lost.toml and lost.events, and with the program on PATH.
+"""Searches in parts as docs/COMMANDS.md says it: by xargs, by GNU parallel and by an array of Slurm, and what comes of
+a part that is missing, that failed or that is of another search. What is run are the lines of that page, in a folder
+with its lost.toml and lost.events, and with the program on PATH.
 
-`parted.py PROGRAM` tries a program. It says what differs, and at the end `N passed, M failed`, with what was skipped, if any."""
+`parted.py PROGRAM` tries a program. It says what differs, and at the end `N passed, M failed`, with what was skipped,
+if any."""
 import os
 import pathlib
 import re
@@ -21,20 +23,22 @@ FEW = 300  # bytes: fewer than a report has
 FAILED = "execexplore: write failed\n"
 CUT = "execexplore: part.5: this is not a report"
 MISSING = "execexplore: part 5 is missing;"
-OTHER = "execexplore: part.5: this report is of other texts, other options or another number of parts than the first;"
+OTHER = "execexplore: part.5: this report is of other texts, other options or another number of parts"
 DONE = (0, b"", "")
 
 
 def block(*marks):
     """The one block of code of the page's part on execexplore that has some texts."""
-    part = (TOP / "docs/COMMANDS.md").read_text(encoding="utf-8").partition("\n## execexplore\n")[2].partition("\n## ")[0]
-    found = [textwrap.dedent(it) for it in re.findall(r"(?m)(?:^    .*\n)+", part) if all(mark in it for mark in marks)]
-    assert len(found) == 1, f"docs/COMMANDS.md has {len(found)} blocks of code of execexplore with {marks}, and is to have one"
+    page = (TOP / "docs/COMMANDS.md").read_text(encoding="utf-8")
+    part = page.partition("\n## execexplore\n")[2].partition("\n## ")[0]
+    blocks = map(textwrap.dedent, re.findall(r"(?m)(?:^    .*\n)+", part))
+    found = [it for it in blocks if all(mark in it for mark in marks)]
+    assert len(found) == 1, f"the part on execexplore of docs/COMMANDS.md has {len(found)} blocks of code with {marks}"
     return found[0]
 
 
 class Bench:
-    """Where searches run: a folder of folders, what commands in them find in their environment, and the report of one run."""
+    """Where searches run: a folder of folders, the environment of the commands in them, and the report of one run."""
 
     def __init__(self, room, program, note):
         self.room, self.note, self.environment = room, note, dict(os.environ)
@@ -52,8 +56,9 @@ class Bench:
 
     def run(self, command, folder, **more):
         """The status, standard output and standard error of a command of the shell."""
-        environment = {**self.environment, "PATH": os.pathsep.join([f"{self.room}/bin", self.environment.get("PATH", os.defpath)])}
-        done = subprocess.run(["sh", "-c", command], cwd=folder, env=environment, capture_output=True, timeout=PATIENCE, check=False, **more)
+        path = os.pathsep.join([f"{self.room}/bin", self.environment.get("PATH", os.defpath)])
+        options = {"cwd": folder, "env": {**self.environment, "PATH": path}, "timeout": PATIENCE, **more}
+        done = subprocess.run(["sh", "-c", command], capture_output=True, check=False, **options)
         return done.returncode, done.stdout, done.stderr.decode()
 
     def makes(self, title, command, folder):
@@ -69,7 +74,8 @@ class Bench:
     def refuses(self, title, folder, said):
         """The parts in a folder have no sum, and the line that says why begins so."""
         status, out, err = got = self.run(block("--sum part.*"), folder)
-        self.note(f"{title}: no sum", (status, out) == (2, b"") and err.startswith(said) and err.count("\n") == 1, got)
+        is_right = (status, out) == (2, b"") and err.startswith(said) and err.count("\n") == 1
+        self.note(f"{title}: no sum", is_right, got)
 
 
 def by_xargs(bench):
@@ -80,7 +86,7 @@ def by_xargs(bench):
 
 
 def by_parallel(bench):
-    """All parts by the page's line of GNU parallel; and again with a full disk for one of them, which then is made alone."""
+    """All parts by the page's line of GNU parallel; and with a full disk for one of them, which then is made alone."""
     line, folder = block("parallel ", "::: 1 2"), bench.folder("parallel")
     bench.makes("GNU parallel", line, folder)
     bench.sums("GNU parallel", folder)
@@ -98,7 +104,7 @@ def by_parallel(bench):
 
 
 def orders_and_others(bench, folder):
-    """The parts in a folder have the same sum in another order, and none with a part of another text of the same name."""
+    """The parts in a folder have the same sum in another order, and none with a part of another text of that name."""
     bench.sums("another order", folder, "execexplore --sum part.8 part.3 part.1 part.7 part.2 part.5 part.6 part.4")
     other = bench.folder("other")
     (other / "lost.toml").write_text("\n" + (other / "lost.toml").read_text())
@@ -130,7 +136,7 @@ def by_array(bench):
 
 
 def with_few_bytes():
-    """Lets a program, and what it submits, write no file of more than some bytes: the write that goes beyond kills it."""
+    """Lets a program, and what it submits, write no file of more than some bytes: what goes on is killed."""
     resource.setrlimit(resource.RLIMIT_FSIZE, (FEW, resource.getrlimit(resource.RLIMIT_FSIZE)[1]))
 
 
@@ -168,15 +174,19 @@ def by_slurm(bench):
 
 def no_parallel():
     """Why GNU parallel cannot be tried, or none. Debian's moreutils have another program of this name."""
-    said = subprocess.run(["parallel", "--version"], capture_output=True, check=False).stdout if shutil.which("parallel") else b""
-    return None if said.startswith(b"GNU parallel") else "parallel is missing; as root: apt-get install -y --no-install-recommends parallel"
+    if shutil.which("parallel"):
+        said = subprocess.run(["parallel", "--version"], capture_output=True, check=False).stdout
+        if said.startswith(b"GNU parallel"):
+            return None
+    return "parallel is missing; as root: apt-get install -y --no-install-recommends parallel"
 
 
 def try_here(program, room, note):
-    """Tries a program, in a folder: notes each thing, whether it is right or none if it cannot be tried, and what was found."""
+    """Tries a program, in a folder, and notes each thing: whether it is right, or none and why it cannot be tried."""
     bench = Bench(room, program, note)
     by_xargs(bench)
-    for title, reason, test in ("GNU parallel", no_parallel(), by_parallel), ("an array of Slurm", cluster.lacking(), by_slurm):
+    tests = ("GNU parallel", no_parallel(), by_parallel), ("an array of Slurm", cluster.lacking(), by_slurm)
+    for title, reason, test in tests:
         if reason:
             note(f"parts by {title}", None, reason)
         else:
@@ -184,7 +194,7 @@ def try_here(program, room, note):
 
 
 def try_all(program, note):
-    """Tries a program, whose path is given, and notes each thing by `note`; answers how many parts could not be tried."""
+    """Tries a program by its path, and notes each thing by `note`; answers how many parts could not be tried."""
     skipped = 0
     for title, is_right, found in tended.apart(lambda room, put: try_here(program, room, put)):
         if is_right is None:

@@ -1,4 +1,5 @@
-"""Does work in a process of its own, with which all ends that the work began, also what has a session of its own, as daemons have."""
+"""Does work in a process of its own, with which all ends that the work began, also what has a session of its own, as
+daemons have."""
 import contextlib
 import ctypes
 import multiprocessing
@@ -26,7 +27,8 @@ def parent_of(pid):
 
 
 def end_children():
-    """Kills the children of this process until there are none. The children of one that is killed come to this process, and are killed too."""
+    """Kills the children of this process until there are none. The children of one that is killed come to this process,
+    and are killed too."""
     while True:
         for pid in [int(it.name) for it in pathlib.Path("/proc").iterdir() if it.name.isdigit()]:
             if parent_of(pid) == os.getpid():
