@@ -7,8 +7,9 @@ const LIMIT = 4194304;
 const LONGEST_LINE = 20000;
 
 class Editor {
-  /** `onChange` is called after each change by a user, and `onLine` with a line whose number is clicked, or which has the caret when Alt+Enter is pressed. */
-  constructor(place, label, mode, onChange, onLine) {
+  /** `onChange` is called after each change by a user, and `onLine` with a line whose number is clicked, or which has the caret when Alt+Enter is pressed.
+      If there is `onBreaks`, lines can have breaks, and it is called with their number. */
+  constructor(place, label, mode, onChange, onLine, onBreaks = null) {
     this.place = place;
     this.marks = [];
     this.lines = [];
@@ -16,9 +17,10 @@ class Editor {
     this.cut = made('p', '', 'cut');
     this.cut.hidden = true;
     place.before(this.cut);
+    this.onBreaks = onBreaks;
     this.shown = CodeMirror(place, this.options(label, mode, onLine));
-    this.shown.on('changes', (_editor, changes) => { if (changes.some(it => it.origin !== 'setValue')) this.changed(onChange); });
-    this.shown.on('gutterClick', (_editor, line, gutter) => { if (gutter === 'CodeMirror-linenumbers') onLine(line + 1); });
+    this.shown.on('changes', (_editor, changes) => { if (changes.some(it => it.origin !== 'setValue')) this.changed(onChange); onBreaks?.(this.breaks.length); });
+    this.shown.on('gutterClick', (_editor, line, gutter) => { if (gutter === 'CodeMirror-linenumbers') onLine(line + 1); else if (gutter === 'breaks') this.toggleBreak(line + 1); });
     this.shown.on('drop', (_editor, event) => { if (event.dataTransfer.types.includes('Files')) event.preventDefault(); });
     for (const [key, value] of [['role', 'textbox'], ['aria-multiline', 'true']]) this.shown.getInputField().setAttribute(key, value);
     place.addEventListener('mousemove', event => this.hover(event));
@@ -30,9 +32,9 @@ class Editor {
     const help = () => this.help(this.shown.getCursor());
     return {
       mode, lineNumbers: true, lineSeparator: '\n', inputStyle: 'contenteditable', screenReaderLabel: label, indentUnit: 2, tabSize: 4, matchBrackets: true,
-      autoCloseBrackets: { pairs: '[]""\'\'', explode: '[]' }, foldGutter: { rangeFinder: foldsAt }, gutters: ['CodeMirror-linenumbers', 'CodeMirror-foldgutter'],
+      autoCloseBrackets: { pairs: '[]""\'\'', explode: '[]' }, foldGutter: { rangeFinder: foldsAt }, gutters: [...(this.onBreaks ? ['breaks'] : []), 'CodeMirror-linenumbers', 'CodeMirror-foldgutter'],
       hintOptions: { hint: completion, completeSingle: false }, workTime: 20, workDelay: 200,
-      extraKeys: { Tab: false, 'Shift-Tab': false, 'Ctrl-Space': 'autocomplete', F1: help, 'Alt-Enter': () => onLine(this.shown.getCursor().line + 1), 'Ctrl-Enter': () => {}, 'Cmd-Enter': () => {}, 'Alt-.': () => {}, 'Alt-,': () => {}, Esc: editor => { hideTip(); if (!editor.state.completionActive) return CodeMirror.Pass; } },
+      extraKeys: { Tab: false, 'Shift-Tab': false, 'Ctrl-Space': 'autocomplete', F1: help, F9: () => this.toggleBreak(this.shown.getCursor().line + 1), 'Alt-Enter': () => onLine(this.shown.getCursor().line + 1), 'Ctrl-Enter': () => {}, 'Cmd-Enter': () => {}, 'Alt-.': () => {}, 'Alt-,': () => {}, Esc: editor => { hideTip(); if (!editor.state.completionActive) return CodeMirror.Pass; } },
     };
   }
 
@@ -87,6 +89,21 @@ class Editor {
     const field = editor.getInputField(), faults = marks.filter(it => it.kind === 'fault' || it.kind === 'alert');
     field.setAttribute('aria-invalid', String(marks.some(it => it.kind === 'fault')));
     field.setAttribute('aria-describedby', faults.map(it => it.id).join(' '));
+  }
+
+  /** The lines that have a break. */
+  get breaks() {
+    const found = [];
+    this.shown.eachLine(it => { if (it.gutterMarkers?.breaks) found.push(it.lineNo() + 1); });
+    return found;
+  }
+
+  /** Gives a line a break, or takes it away. */
+  toggleBreak(line) {
+    if (!this.onBreaks) return;
+    const isThere = this.breaks.includes(line);
+    this.shown.setGutterMarker(line - 1, 'breaks', isThere ? null : made('span', '●', 'break'));
+    this.onBreaks(this.breaks.length);
   }
 
   /** Marks whole lines. */

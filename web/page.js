@@ -479,12 +479,15 @@ const DEEDS = {
   },
 };
 
+/** The number of lines that have a break is another, and what is played may stop elsewhere. */
+function breaksChanged(count) { $('to-break').hidden = count === 0; }
+
 /** Makes the editors. */
 function makeEditors() {
   CodeMirror.defineMode('machine', machineMode);
   CodeMirror.defineMode('events', eventsMode);
   editors = {
-    'machine.toml': new Editor($('machine-editor'), 'Machine file', 'machine', () => typed('machine'), line => view.goToNext(row => row.line === line)),
+    'machine.toml': new Editor($('machine-editor'), 'Machine file', 'machine', () => typed('machine'), line => view.goToSuch(row => row.line === line), breaksChanged),
     'run.events': new Editor($('events-editor'), 'Events', 'events', () => typed('events'), line => { const event = shownRun?.events.find(it => it.line === line); if (event) view.goTo(event.from); }),
   };
 }
@@ -496,7 +499,7 @@ async function begin(carried, loads) {
   EXERCISES = carried.exercises;
   LESSONS = carried.lessons;
   listExamples();
-  view = new View({ onCursor: cursorAt, onPicture: () => strip?.pictured(), onFault: why => says(`The simulator broke off: ${why.message}`, 'fault') });
+  view = new View({ onCursor: cursorAt, breaks: () => editors['machine.toml'].breaks, onPicture: () => strip?.pictured(), onFault: why => says(`The simulator broke off: ${why.message}`, 'fault') });
   makeEditors();
   await loads;
   [checker, asides, search] = [library.another(), library.another(), new Search(library.another(), texts, frameTexts, openWay)];

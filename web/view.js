@@ -6,16 +6,17 @@ const COLUMN = 24, NAMES = 175, SMALLEST = 0.87;
 /** What is above the columns of a picture: its title, which the page has elsewhere. */
 const TITLE_HEIGHT = 56;
 
-/** How many parts of the log further on the next step of a line is looked for. */
-const PARTS_AHEAD = 20;
+/** How many parts of the log further a row is looked for. */
+const PARTS_FURTHER = 20;
 
 /** How long a step is shown while the run is played, in milliseconds. */
 const BEAT = 700;
 
 class View {
-  /** `onCursor` is called with the run, the step, its rows and its event; `onPicture` when a picture is drawn or its size is another; `onFault` with an error. */
-  constructor({ onCursor, onPicture, onFault }) {
-    Object.assign(this, { onCursor, onPicture, onFault });
+  /** `onCursor` is called with the run, the step, its rows and its event; `onPicture` when a picture is drawn or its size is another; `onFault` with an error.
+      `breaks` gives the lines of the machine file that have a break. */
+  constructor({ onCursor, onPicture, onFault, breaks }) {
+    Object.assign(this, { onCursor, onPicture, onFault, breaks });
     this.run = null;
     this.step = 0;
     this.wanted = null; // the step that the next run is to be shown at, which the one that is shown may not have
@@ -37,6 +38,8 @@ class View {
       $('find').ariaInvalid = String(!await this.find($('find').value, event.shiftKey));
     });
     $('find').addEventListener('input', () => { $('find').ariaInvalid = 'false'; });
+    $('find').addEventListener('focus', () => $('look-ups').replaceChildren(...lookUps(this.trace.rows).map(it => new Option(it, it))));
+    $('to-break').addEventListener('click', () => this.goToBreak());
     for (const part of ['view', 'now']) $(part).addEventListener('keydown', event => this.key(event));
     new ResizeObserver(() => this.resized()).observe($('picture'));
   }
@@ -90,35 +93,40 @@ class View {
     if (this.run) this.move(step, false).catch(why => { if (!(why instanceof Stopped)) this.onFault(why); });
   }
 
-  /** Finds a text in the trace, or in the sources of its rows: goes to the next step with such a row, or to the one before; answers whether there is any. */
-  async find(text, isBack) {
-    const low = text.toLowerCase(), isSuch = row => `${textOf(row)}\n${row.source ?? ''}`.toLowerCase().includes(low), rows = this.trace.rows.filter(isSuch);
-    if (isBack) this.goTo((rows.findLast(row => row.step < this.step) ?? rows.at(-1))?.step ?? this.step);
-    else await this.goToNext(isSuch);
+  /** Finds some words in the trace: goes to the next step with such a row, or to the one before; answers whether there is any in the part that is shown. */
+  async find(words, isBack) {
+    const isSuch = isLookedFor(words);
+    await this.goToSuch(isSuch, isBack);
     return this.trace.rows.some(isSuch);
   }
 
-  /** Moves the cursor to the next step that has such a row, looking some parts of the log further on; or else to the first one of the part that is shown. */
-  async goToNext(isSuch) {
-    const { run } = this, rows = this.trace.rows.filter(isSuch), next = rows.find(one => one.step > this.step);
+  /** Moves the cursor to the next step that has such a row, or to the one before, looking some parts of the log further; or else to one of the part that
+      is shown. */
+  async goToSuch(isSuch, isBack = false) {
+    const { run } = this, rows = this.trace.rows.filter(isSuch), next = isBack ? rows.findLast(one => one.step < this.step) : rows.find(one => one.step > this.step);
     if (!run || next) return this.goTo(next?.step ?? this.step);
     try {
-      for (let part = 1, from = run.log.to + 1; part <= PARTS_AHEAD && from <= run.end; part++, from += TRACED) {
-        const found = (await run.rows(from, Math.min(run.end, from + TRACED - 1))).find(isSuch);
+      const { from: begin } = run.log, isThere = from => from >= 0 && from <= run.end;
+      for (let part = 1, from = begin; part <= PARTS_FURTHER && isThere(from += isBack ? -TRACED : TRACED); part++) {
+        const more = await run.rows(from, Math.min(run.end, from + TRACED - 1)), found = isBack ? more.findLast(isSuch) : more.find(isSuch);
         if (run !== this.run) return;
         if (found) return this.move(found.step, false);
       }
-      this.goTo(rows[0]?.step ?? this.step);
+      this.goTo(rows.at(isBack ? -1 : 0)?.step ?? this.step);
     } catch (why) {
       if (!(why instanceof Stopped)) this.onFault(why);
     }
   }
 
-  /** Goes a step further by itself until the end, or no more. */
+  /** Moves the cursor to the next step of a line that has a break. */
+  goToBreak() { return this.goToSuch(row => this.breaks().includes(row.line)); }
+
+  /** Goes a step further by itself until the end, or a line that has a break; or no more. */
   play() {
     if (this.playing || !this.run) return this.stopPlaying();
     if (this.step >= this.run.end) this.goTo(0);
-    this.playing = setInterval(() => this.step < this.run.end ? this.goTo(this.step + 1) : this.stopPlaying(), BEAT);
+    const begun = this.step, isOver = () => this.step >= this.run.end || (this.step !== begun && this.trace.at(this.step).some(row => this.breaks().includes(row.line)));
+    this.playing = setInterval(() => isOver() ? this.stopPlaying() : this.goTo(this.step + 1), BEAT);
     $('play').textContent = 'Pause';
     $('play').ariaPressed = 'true';
   }

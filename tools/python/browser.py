@@ -47,6 +47,7 @@ class Browser:
         target = next(it for it in self.ask("Target.getTargets")["targetInfos"] if it["type"] == "page")
         self.session = self.ask("Target.attachToTarget", targetId=target["targetId"], flatten=True)["sessionId"]
         self.look(width, height, dark)
+        self.ask("Emulation.setFocusEmulationEnabled", enabled=True)
         for part in ("Page", "Runtime", "Log"):
             self.ask(f"{part}.enable")
         self.open(url)
@@ -141,7 +142,7 @@ class Browser:
 
     def key(self, key, code=None, modifiers=0, text=""):
         """Presses a key and lets it go: 1 is Alt, 2 is Ctrl, 8 is Shift."""
-        numbers = {"Enter": 13, "Tab": 9, "Escape": 27, "ArrowLeft": 37, "ArrowRight": 39, "ArrowUp": 38, "ArrowDown": 40, "Home": 36, "End": 35, "F1": 112, "Backspace": 8, "Delete": 46, ",": 188, ".": 190}
+        numbers = {"Enter": 13, "Tab": 9, "Escape": 27, "ArrowLeft": 37, "ArrowRight": 39, "ArrowUp": 38, "ArrowDown": 40, "Home": 36, "End": 35, "F1": 112, "F9": 120, "Backspace": 8, "Delete": 46, ",": 188, ".": 190}
         number = numbers.get(key) or (ord(key.upper()) if re.fullmatch("[a-z0-9 ]", key) else 0)
         it = {"key": key, "code": code or key, "modifiers": modifiers, "windowsVirtualKeyCode": number}
         self.ask("Input.dispatchKeyEvent", type="keyDown", **it, **({"text": text} if text else {}))

@@ -22,7 +22,8 @@ SETTINGS = {
     "network.connectivity-service.enabled": False,
 }
 # How keys that write nothing are named, and those that are held.
-KEYS = {"Tab": "\ue004", "Enter": "\ue007", "Escape": "\ue00c", "End": "\ue010", "Home": "\ue011", "ArrowLeft": "\ue012", "ArrowUp": "\ue013", "ArrowRight": "\ue014", "ArrowDown": "\ue015", "F1": "\ue031"}
+KEYS = {"Backspace": "\ue003", "Tab": "\ue004", "Enter": "\ue007", "Escape": "\ue00c", "End": "\ue010", "Home": "\ue011", "ArrowLeft": "\ue012", "ArrowUp": "\ue013"}
+KEYS |= {"ArrowRight": "\ue014", "ArrowDown": "\ue015", "Delete": "\ue017", "F1": "\ue031", "F9": "\ue039"}
 HELD = {1: "\ue00a", 2: "\ue009", 8: "\ue008"}
 # What each byte of a frame is sent as.
 MASKED = bytes(it ^ 1 for it in range(256))
