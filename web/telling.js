@@ -81,7 +81,7 @@ function tellStep(rows, step, event, before, after) {
 
 /** Shows a step in words. */
 function drawTelling({ sentence, then, word }, title) {
-  $('now-title').firstChild.data = `${title} `;
+  $('now-title').textContent = title;
   $('said').replaceChildren(...sentence);
   $('then').replaceChildren(...then.map(text => made('li', text)));
   const effect = word?.effect ? [made('b', word.name), ': ', ...withCode(word.effect), '. '] : [];
