@@ -1,4 +1,4 @@
-"""Firefox without a window, which is asked for things by WebDriver BiDi over a plain socket. A page is driven as browser.py drives one in Chromium."""
+"""Firefox without a window, which is asked for things by WebDriver BiDi over a plain socket. It is driven as Chromium is by browser.py."""
 import base64
 import json
 import os
@@ -111,17 +111,22 @@ def plain(value):
 class Browser:
     """One page in a Firefox of its own, which is ended with it."""
 
-    def __init__(self, url, width=1280, height=900, **settings):
-        self.profile, self.number, port = tempfile.TemporaryDirectory(ignore_cleanup_errors=True), 0, free_port()
-        text = "".join(f"user_pref({json.dumps(key)}, {json.dumps(it)});\n" for key, it in {**SETTINGS, **settings}.items())
+    def __init__(self, url, width=1280, height=900, dark=False):
+        self.problems, self.asked_to_stay, self.number, self.url = [], 0, 0, url
+        self.start(dark)
+        self.look(width, height, dark)
+        self.open(url)
+
+    def start(self, dark):
+        """Starts it, in dark or in light, which cannot be changed while it runs."""
+        self.profile, self.socket, self.is_dark, port = tempfile.TemporaryDirectory(ignore_cleanup_errors=True), None, dark, free_port()
+        settings = SETTINGS | {"layout.css.prefers-color-scheme.content-override": 0 if dark else 1}
+        text = "".join(f"user_pref({json.dumps(key)}, {json.dumps(it)});\n" for key, it in settings.items())
         pathlib.Path(self.profile.name, "user.js").write_text(text)
         words = [found(), "--headless", f"--remote-debugging-port={port}", "--no-remote", "--profile", self.profile.name]
         self.process = subprocess.Popen(words, stdout=subprocess.DEVNULL, stderr=subprocess.DEVNULL)
-        self.problems, self.asked_to_stay, self.socket = [], 0, None
         try:
             self.begin(port)
-            self.look(width, height)
-            self.open(url)
         except BaseException:
             self.end()
             raise
@@ -172,8 +177,12 @@ class Browser:
         """Goes to another page, and waits until it is loaded; another address of the same page loads nothing."""
         self.ask("browsingContext.navigate", context=self.context, url=url, wait="complete")
 
-    def look(self, width, height):
-        """Sets the size of the page."""
+    def look(self, width, height, dark=False):
+        """Sets the size of the page, and whether it is dark: if that is new it begins again, with the page that it began with."""
+        if dark != self.is_dark:
+            self.end()
+            self.start(dark)
+            self.open(self.url)
         self.ask("browsingContext.setViewport", context=self.context, viewport={"width": width, "height": height})
 
     def value(self, expression):
