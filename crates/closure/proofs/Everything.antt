@@ -24,7 +24,7 @@ module _ {S : Type 0} (machine_of : S → MachineData) (stands : S → List Even
     after list one rest then (inl found) =
         subst (λ (l : List Event). IsFound machine_of stands key machine keys l ⊎ EndsBy machine alerts l) (append_assoc list (one ∷ []) rest) (then found)
     after list one rest then (inr ends) =
-        inr (record { before = list; last = one; after = rest; text = ends.0; is = refl; ends = ends.1; listed = ends.2 })
+        inr (record { before = list; last = one; after = rest; line = ends.0; is = refl; ends = ends.1; listed = ends.2 })
 
     more : (list rest : List Event) → AreOf kinds rest → IsFound machine_of stands key machine keys list
         → IsFound machine_of stands key machine keys (list ++ rest) ⊎ EndsBy machine alerts (list ++ rest)

@@ -1,8 +1,9 @@
 -- What a machine comes to by events of some kinds, and when a set of its states is closed. A walker is in one of them, and its key says in which.
-use Rattle.std.specs.Prelude.{◌≡◌, ◌<◌, ◌⊎◌, ℕ, true, false, List, [], ◌∷◌, ◌++◌, length, slice_index_or}
+use Rattle.std.specs.Prelude.{◌≡◌, ◌<◌, ◌⊎◌, ◌==◌, ℕ, Bool, true, false, List, [], ◌∷◌, ◌++◌, length, map, slice_index_or, if◌then◌else◌}
 use Rattle.exectrace.specs.Trace.{printed}
 use Rattle.script.specs.{File.MachineData, declared.event.Event.Event}
 use Rattle.execmodel.specs.{Step.event, Step.run}
+use Rattle.closure.specs.declared.found.Alert.{Alert}
 
 -- ---- texts and kinds
 
@@ -28,23 +29,42 @@ abbrev pub AreOf : List Event → List Event → Type 0
 AreOf kinds [] = Unit {0}
 AreOf kinds (one ∷ rest) = IsKind kinds one × AreOf kinds rest
 
+-- ---- lines
+
+-- the last line of a text that is not empty, without its end, if this line came before the text, and had ended or not
+abbrev pub last_from : List ℕ → Bool → List ℕ → List ℕ
+last_from line ended [] = line
+last_from line ended (b ∷ rest) =
+    if b == 10 then last_from line true rest else last_from ((if ended then [] else line) ++ b ∷ []) false rest
+
+abbrev pub last_line : List ℕ → List ℕ
+last_line text = last_from [] false text
+
 -- ---- alerts
 
--- after these events the next one ends in an alert, and writes this text
-pub record EndsAt (machine : MachineData) (before : List Event) (last : Event) (text : List ℕ) : Type 0 where
+-- after these events the next one ends in an alert, and this is the last line that it writes: an alert's own
+pub record EndsAt (machine : MachineData) (before : List Event) (last : Event) (line : List ℕ) : Type 0 where
   pub going : (run machine before).state.stopped ≡ false
   pub stops : (run machine (before ++ last ∷ [])).state.stopped ≡ true
-  pub writes : printed (event last (run machine before).state).lines ≡ text
+  pub writes : last_line (printed (event last (run machine before).state).lines) ≡ line
 
--- one of these events ends in an alert, whose text is one of these
+-- an alert that was found is that of its events
+abbrev pub IsShown : MachineData → Alert → Type 0
+IsShown machine a = EndsAt machine a.before.items a.last a.line.items
+
+-- the lines of some alerts
+abbrev pub lines_of : List Alert → List (List ℕ)
+lines_of alerts = map (λ a. a.line.items) alerts
+
+-- one of these events ends in an alert, whose line is one of these
 pub record EndsBy (machine : MachineData) (alerts : List (List ℕ)) (list : List Event) : Type 0 where
   pub before : List Event
   pub last : Event
   pub after : List Event
-  pub text : List ℕ
+  pub line : List ℕ
   pub is : list ≡ before ++ (last ∷ after)
-  pub ends : EndsAt machine before last text
-  pub listed : IsOneOf alerts text
+  pub ends : EndsAt machine before last line
+  pub listed : IsOneOf alerts line
 
 -- ---- found states
 
@@ -59,7 +79,7 @@ module _ {S : Type 0} (machine_of : S → MachineData) (stands : S → List Even
   -- after some events the next one comes to a state that was found, or ends in an alert that was
   abbrev pub Leads : MachineData → (keys alerts : List (List ℕ)) → List Event → Event → Type 0
   Leads machine keys alerts list one =
-      IsFound machine keys (list ++ one ∷ []) ⊎ ((text : List ℕ) × EndsAt machine list one text × IsOneOf alerts text)
+      IsFound machine keys (list ++ one ∷ []) ⊎ ((line : List ℕ) × EndsAt machine list one line × IsOneOf alerts line)
 
   -- a walker is in a state of that key, to which some events come; and from there one event leads to what was found
   pub record GoesOn (machine : MachineData) (keys alerts : List (List ℕ)) (from : List ℕ) (one : Event) : Type 0 where

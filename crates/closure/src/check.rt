@@ -1,8 +1,9 @@
 //! The check of a closed set: each state that was found is come to once more, and from it each kind leads to what was found.
 ghost use Rattle.std.specs.Prelude.{◌≡◌, ◌<◌, ℕ, List, [], true, length, slice_index_or, IfOk, OnOk};
 ghost use Rattle.script.specs.declared.event.Event.{Event};
-ghost use Rattle.closure.specs.Closed.{GoesOn, IsAt, IsEverything, IsFound, IsNumber, Leads};
+ghost use Rattle.closure.specs.Closed.{GoesOn, IsAt, IsEverything, IsFound, IsNumber, Leads, lines_of};
 
+use crate::alerts::has_line;
 use crate::fault::Fault;
 use crate::found::{Found, Next};
 use crate::walker::Walker;
@@ -10,7 +11,11 @@ use script::Event;
 use std::alloc::Global;
 
 /// Begins anew and goes along some events, and answers whether all of them could come.
-fn walk<W: Walker>(walker: &mut W, list: &[Event], text: &mut Vec<u8>) -> Result<bool, Fault>
+pub(crate) fn walk<W: Walker>(
+    walker: &mut W,
+    list: &[Event],
+    text: &mut Vec<u8>,
+) -> Result<bool, Fault>
     ensures same { W.machine_of walker.new ≡ W.machine_of walker.old }
     ensures there { IfOk result (λ yes. yes ≡ true → W.stands walker.new list.now) }
 {
@@ -55,7 +60,7 @@ fn leads<W: Walker>(
 ) -> Result<bool, Fault>
     ensures same { W.machine_of walker.new ≡ W.machine_of walker.old }
     ensures leads { IfOk result (λ yes. yes ≡ true → (list : List Event) → W.stands walker.old list
-        → Leads W.machine_of W.stands W.key (W.machine_of walker.old) found.now.keys found.now.alerts list one) }
+        → Leads W.machine_of W.stands W.key (W.machine_of walker.old) found.now.keys (lines_of found.now.alerts.items) list one) }
 {
     let ended = walker.go(one, text)?;
     match next {
@@ -66,7 +71,7 @@ fn leads<W: Walker>(
             }
             is_at(walker, found, state, text)
         }
-        Some(Next::Alert(alert)) => Ok(ended && found.alerts.has_at(alert, text.as_slice())),
+        Some(Next::Alert(alert)) => Ok(ended && has_line(&found.alerts, alert, text.as_slice())),
     }
 }
 
@@ -82,7 +87,7 @@ fn goes_on<W: Walker>(
 ) -> Result<bool, Fault>
     ensures same { W.machine_of walker.new ≡ W.machine_of walker.old }
     ensures goes { IfOk result (λ yes. yes ≡ true → (one : Event) → IsNumber kinds.now kind one
-        → GoesOn W.machine_of W.stands W.key (W.machine_of walker.old) found.now.keys found.now.alerts (slice_index_or found.now.keys state []) one) }
+        → GoesOn W.machine_of W.stands W.key (W.machine_of walker.old) found.now.keys (lines_of found.now.alerts.items) (slice_index_or found.now.keys state []) one) }
 {
     let Some(one) = kinds.get(kind) else {
         return Ok(false);
@@ -106,7 +111,7 @@ fn all_go_on<W: Walker>(
 ) -> Result<bool, Fault>
     ensures same { W.machine_of walker.new ≡ W.machine_of walker.old }
     ensures goes { IfOk result (λ yes. yes ≡ true → (k : ℕ) (one : Event) → k < length kinds.now → IsNumber kinds.now k one
-        → GoesOn W.machine_of W.stands W.key (W.machine_of walker.old) found.now.keys found.now.alerts (slice_index_or found.now.keys state []) one) }
+        → GoesOn W.machine_of W.stands W.key (W.machine_of walker.old) found.now.keys (lines_of found.now.alerts.items) (slice_index_or found.now.keys state []) one) }
 {
     for kind in 0..kinds.len() {
         if !goes_on(walker, list, kinds, kind, found, state, text)? {
@@ -132,7 +137,7 @@ pub fn is_closed<W: Walker>(
     found: &Found,
 ) -> Result<bool, Fault>
     ensures { IfOk result (λ yes. yes ≡ true
-        → IsEverything W.machine_of W.stands W.key (W.machine_of walker.old) kinds.now found.now.keys found.now.alerts) }
+        → IsEverything W.machine_of W.stands W.key (W.machine_of walker.old) kinds.now found.now.keys (lines_of found.now.alerts.items)) }
 {
     let mut list = Vec::new(alloc);
     let mut text = Vec::new(alloc);

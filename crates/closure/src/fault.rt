@@ -10,6 +10,8 @@ pub enum Fault {
     TooLong,
     /// No key distinguishes the states of this machine.
     NoKey,
+    /// The check sees another alert after some events than the search has seen.
+    IsOther,
 }
 
 impl From<AllocError> for Fault {

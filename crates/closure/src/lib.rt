@@ -2,14 +2,18 @@
 //! shows that nothing leaves it.
 #![tactic(auto)]
 
+mod alerts;
 mod check;
 mod fault;
 mod found;
+mod seeking;
 mod texts;
 mod walker;
 
+pub use alerts::are_shown;
 pub use check::is_closed;
 pub use fault::Fault;
-pub use found::{Found, Next, Node};
+pub use found::{Alert, Found, Next, Node};
+pub use seeking::{Limits, Searched, Watcher, search};
 pub use texts::Texts;
 pub use walker::Walker;

@@ -54,16 +54,6 @@ impl Texts {
         Ok(())
     }
 
-    /// Lends a text; none past the last.
-    ///
-    /// Source: project rule.
-    pub fn get(&self, i: usize) -> Option<&[u8]> {
-        match self.texts.get(i) {
-            None => None,
-            Some(text) => Some(text.as_slice()),
-        }
-    }
-
     /// Whether the text of a number is this one. Past the last it is not.
     ///
     /// Source: project rule.

@@ -26,7 +26,7 @@ pub trait Walker {
         ensures same { machine_of self.new ≡ machine_of self.old }
         ensures there { OnOk result (stands self.new []) };
 
-    /// Goes on by an event, and answers whether it ended in an alert; what the event writes is left in `text`.
+    /// Goes on by an event, and answers whether it ended in an alert; the last line that the event writes is left in `text`.
     ///
     /// # Errors
     ///

@@ -7,8 +7,8 @@ use Rattle.execmodel.specs.State.{Memory, Pending, Scripts, State, Outcome, andt
 use Rattle.execmodel.specs.Step.{starts, event, events, run}
 use Rattle.execsim.specs.{Agreement.Agrees, Agreement.Seen, Agreement.in_order, Headline.Shown, Headline.Acts, Headline.flow_of, declared.machine.Flow.Flow as Flows}
 use Rattle.execsim.specs.declared.machine.Flow.TheVariants as Flow
-use Rattle.closure.specs.Closed.{EndsAt}
-use Rattle.statekeys.specs.{Fits.placed, Fits.StaysSchedule, Fits.StaysScripts, Numbers.numbers, Runs.IsBareMachine, Stands.IsWhere, Views.key_seen}
+use Rattle.closure.specs.Closed.{EndsAt, last_line}
+use Rattle.statekeys.specs.{Fits.placed, Fits.StaysSchedule, Fits.StaysScripts, Numbers.numbers, Runs.IsBareMachine, Stands.IsWhere, Stands.is_ended, Views.key_seen}
 use Rattle.statekeys.proofs.{ByteLemmas.bytes_tell, Runs.booted_even, Runs.run_bare, Runs.run_right, Runs.run_more, Runs.goes_alike, Telling.IsIdleRight, Telling.AreSame, Telling.numbers_tell}
 
 -- ---- one key
@@ -74,7 +74,7 @@ one_key_of first second one other list others same e at there =
 
 -- ---- one event
 
--- what an event does from where a machine is
+-- what an event does from where a machine is: what the machine shows then, whether an alert has stopped it, and the text that it writes
 pub record Led (machine : MachineData) (list : List Event) (e : Event) (new : Shown) (flow : Flows) (text : List ℕ) : Type 0 where
   pub flow_is : flow ≡ flow_of (run machine (list ++ e ∷ [])).state.stopped
   pub text_is : text ≡ printed (event e (run machine list).state).lines
@@ -104,10 +104,24 @@ led machine list e old new bytes after state end flow acts at none =
       };
     }
 
+stopped_by : (stopped : Bool) (flow : Flows) → flow ≡ flow_of stopped → is_ended flow ≡ stopped
+stopped_by true flow is = ap is_ended is
+stopped_by false flow is = ap is_ended is
+
+-- it goes on
+pub goes_there : (machine : MachineData) (list : List Event) (e : Event) (new : Shown) (flow : Flows) (text : List ℕ)
+    → Led machine list e new flow text → is_ended flow ≡ false → IsWhere machine new (list ++ e ∷ [])
+goes_there machine list e new flow text led going =
+    led.goes (sym (stopped_by (run machine (list ++ e ∷ [])).state.stopped flow led.flow_is) ∙ going)
+
 -- it ends in an alert
-pub ends_there : (machine : MachineData) (list : List Event) (e : Event) (old new : Shown) (flow : Flows) (text : List ℕ) → IsWhere machine old list
-    → Led machine list e new flow text → (run machine (list ++ e ∷ [])).state.stopped ≡ true → EndsAt machine list e text
-ends_there machine list e old new flow text at led stops = record { going = at.going; stops = stops; writes = sym led.text_is }
+pub ends_there : (machine : MachineData) (list : List Event) (e : Event) (old new : Shown) (flow : Flows) (text line : List ℕ) → IsWhere machine old list
+    → Led machine list e new flow text → is_ended flow ≡ true → line ≡ last_line text → EndsAt machine list e line
+ends_there machine list e old new flow text line at led ended last = record {
+  going = at.going;
+  stops = sym (stopped_by (run machine (list ++ e ∷ [])).state.stopped flow led.flow_is) ∙ ended;
+  writes = sym (last ∙ ap last_line led.text_is);
+}
 
 -- ---- the start
 

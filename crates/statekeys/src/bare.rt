@@ -6,7 +6,7 @@ ghost use Rattle.statekeys.specs.{Fits.HasBareWord, Fits.is_bare, Runs.IsBareMac
 use script::{Command, MachineFile, ServerRecord, SoftintRecord, TaskRecord, Word};
 
 /// Whether a word neither asks for memory nor touches what lies in it.
-fn is_bare_word(word: Word) -> bool
+pub(crate) fn is_bare_word(word: Word) -> bool
     ensures { result ≡ is_bare word }
 {
     match word {

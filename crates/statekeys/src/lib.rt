@@ -3,6 +3,7 @@
 #![tactic(auto)]
 
 mod bare;
+mod beyond;
 mod bytes;
 mod key;
 pub mod laws;
@@ -10,4 +11,5 @@ mod parts;
 mod queues;
 
 pub use bare::is_bare_machine;
+pub use beyond::{Beyond, first_beyond};
 pub use key::write_key;

@@ -1,7 +1,7 @@
 -- The walker is where the events come, and the kind leads from there to what was found.
 use Rattle.std.proofs.Common.{rules, ◌≡◌, ◌∙◌, true, subst, sym}
 use Rattle.script.specs.{File.MachineData, declared.event.Event.Event}
-use Rattle.closure.specs.Closed.{Leads}
+use Rattle.closure.specs.Closed.{Leads, lines_of}
 use Rattle.closure.proofs.check.goes_on.Goals as goal
 
 pub returns-clause-goes : goal.returns-clause-goes
@@ -18,8 +18,8 @@ returns-clause-goes g c = λ is one place.
       list = c.args.list.now;
       there = c.in_ok-walk.ensures.there walked;
       leads = λ others there.
-          subst (λ (machine : MachineData). Leads g.W.Walker.machine_of g.W.Walker.stands g.W.Walker.key machine c.args.found.now.keys c.args.found.now.alerts others one)
+          subst (λ (machine : MachineData). Leads g.W.Walker.machine_of g.W.Walker.stands g.W.Walker.key machine c.args.found.now.keys (lines_of c.args.found.now.alerts.items) others one)
           c.walk.ensures.same
-          (subst (λ (last : Event). Leads g.W.Walker.machine_of g.W.Walker.stands g.W.Walker.key (g.W.Walker.machine_of c.walk.new.walker) c.args.found.now.keys c.args.found.now.alerts others last)
+          (subst (λ (last : Event). Leads g.W.Walker.machine_of g.W.Walker.stands g.W.Walker.key (g.W.Walker.machine_of c.walk.new.walker) c.args.found.now.keys (lines_of c.args.found.now.alerts.items) others last)
           same (led others there));
     }
