@@ -79,10 +79,14 @@ class Bench:
 
 
 def by_xargs(bench):
-    """All parts by the page's line of xargs."""
-    folder = bench.folder("xargs")
-    bench.makes("xargs", block("xargs"), folder)
+    """All parts by the page's line of xargs; and with a full disk for one of them."""
+    line, folder = block("xargs"), bench.folder("xargs")
+    bench.makes("xargs", line, folder)
     bench.sums("xargs", folder)
+    (folder / "part.5").unlink()
+    (folder / "part.5").symlink_to("/dev/full")
+    got = bench.run(line, folder)
+    bench.note("xargs with a full disk", got == (123, b"", FAILED), got)
 
 
 def by_parallel(bench):
@@ -140,6 +144,11 @@ def with_few_bytes():
     resource.setrlimit(resource.RLIMIT_FSIZE, (FEW, resource.getrlimit(resource.RLIMIT_FSIZE)[1]))
 
 
+def size_of(file):
+    """The bytes of a file, or none if it is not there."""
+    return file.stat().st_size if file.exists() else None
+
+
 def by_failing_array(bench):
     """An array without one part, which then meets a full disk, is killed as it writes, and at last is made."""
     folder, again = job_folder(bench, "failing array"), block("sbatch", "--array=5")
@@ -151,7 +160,7 @@ def by_failing_array(bench):
     got = submitted(bench, folder, again), *(it.read_text() for it in folder.glob("slurm-*_5.out"))
     bench.note("an array with a full disk", got == (1, FAILED), got)
     part.unlink()
-    got = submitted(bench, folder, again, preexec_fn=with_few_bytes), part.stat().st_size
+    got = submitted(bench, folder, again, preexec_fn=with_few_bytes), size_of(part)
     bench.note("an array of which a part is killed", got == (1, FEW), got)
     bench.refuses("an array of which a part is killed", folder, CUT)
     got = submitted(bench, folder, again)
