@@ -63,7 +63,10 @@ class WebSocket:
         raise Failure("Firefox does not answer")
 
     def more(self):
-        some = self.socket.recv(1 << 20)
+        try:
+            some = self.socket.recv(1 << 20)
+        except TimeoutError:
+            raise Failure(f"Firefox says nothing for {PATIENCE} s") from None
         if not some:
             raise Failure("Firefox has ended")
         self.buffer += some
