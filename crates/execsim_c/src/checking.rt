@@ -7,7 +7,7 @@ use crate::names::{EVENTS, MACHINE};
 use crate::put::hand_over;
 use crate::refusal::no_memory;
 use crate::status::{ALERTED, EVENTS_REFUSED, MACHINE_REFUSED, RAN};
-use execadvice::{check_events, check_machine};
+use execadvice::{Look, are_grave, check_events, check_machine, rendered};
 use runadvice::check_run;
 use std::alloc::{AllocError, Global};
 
@@ -40,14 +40,14 @@ fn status_of_findings(is_machine_refused: bool, is_script_refused: bool, warns: 
 fn found_in(alloc: Global, machine: &[u8], events: &[u8]) -> Result<Found, AllocError>
     ensures { IfOk result (λ found. Judges (file_of machine.now) (script_of events.now) found.status) }
 {
-    let of_machine = check_machine(alloc, MACHINE, machine)?;
-    let of_events = check_events(alloc, EVENTS, events)?;
-    let of_run = check_run(alloc, MACHINE, machine, events)?;
-    let warns = of_run.is_alerted || of_run.warns || !of_machine.text.is_empty();
+    let of_machine = check_machine(alloc, machine)?;
+    let of_events = check_events(alloc, events)?;
+    let of_run = check_run(alloc, machine, events)?;
+    let warns = of_run.is_alerted || are_grave(&of_run.found) || are_grave(&of_machine.found);
     let status = status_of_findings(of_machine.fault.is_some(), of_events.fault.is_some(), warns);
-    let mut text = of_machine.text;
-    text.push_str(of_events.text.as_str())?;
-    text.push_str(of_run.text.as_str())?;
+    let mut text = rendered(alloc, MACHINE, &of_machine.found, Look::PLAIN)?;
+    text.push_str(rendered(alloc, EVENTS, &of_events.found, Look::PLAIN)?.as_str())?;
+    text.push_str(rendered(alloc, MACHINE, &of_run.found, Look::PLAIN)?.as_str())?;
     Ok(Found { text, status })
 }
 
