@@ -69,7 +69,7 @@ _execsim() {
         local options='--help'
         [[ $command == execsim || $command == execc ]] || options+=' --version'
         [[ $command != execlog ]] || options+=' --plain-words --json --svg --chrome --state --from --to --at --task'
-        [[ $command != execexplore ]] || options+=' --extra --of --see --part --events --progress --sum'
+        [[ $command != execexplore ]] || options+=' --extra --of --see --part --events --progress --sum --all'
         [[ $command != execc ]] || options+=' --log --check --svg --state --record --explore --of --events --twice --quantum --accesses --jobs --cc= --cflags= --keep='
         for it in $options; do
             [[ $used == *" $it "* ]] || _execsim_offer "$it"
