@@ -1,4 +1,4 @@
-/* The heap of the library in a WebAssembly module of 64 bits. A block is of one of the sizes 2^k and 3*2^(k-1), with a header of 16 bytes in front
+/* The heap of the library in a WebAssembly module, of 64 or of 32 bits. A block is of one of the sizes 2^k and 3*2^(k-1), with a header of 16 bytes in front
  * that has its kind; freed blocks are kept by kind and handed out again, and the last block grows and shrinks in place. The heap is emptied
  * before each call, so no memory is given back. Each block is aligned to 16. */
 typedef unsigned long long Number;
@@ -15,7 +15,8 @@ typedef struct Header {
 } Header;
 
 enum { ALIGNMENT = 16, WASM_PAGE = 65536, KINDS = 64 };
-#define MOST_BYTES (1ull << 34)
+#define MOST_BYTES (sizeof(void *) == 8 ? 1ull << 34 : 0xffff0000ull)
+#define REFUSED ((__SIZE_TYPE__)-1)
 
 extern char __heap_base;
 static char nothing;
@@ -49,7 +50,7 @@ static int reaches(Number to) {
         return 1;
     }
     Number pages = (to - have + WASM_PAGE - 1) / WASM_PAGE;
-    return __builtin_wasm_memory_grow(0, pages + have / WASM_PAGE / 2) != (Number)-1 || __builtin_wasm_memory_grow(0, pages) != (Number)-1;
+    return __builtin_wasm_memory_grow(0, pages + have / WASM_PAGE / 2) != REFUSED || __builtin_wasm_memory_grow(0, pages) != REFUSED;
 }
 
 /* Makes the last block one of this kind, if memory is granted. */

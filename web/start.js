@@ -15,10 +15,13 @@ async function start() {
   await begin(JSON.parse(data), loads);
 }
 
-/** Says why there is nothing to be seen. */
+/** Says why there is nothing to be seen: if it is for want of memory of 64 bits, what runs without. */
 function breakOff(why) {
+  const is64 = document.querySelector('[name=bits]').content === '64', other = made('a', 'execsim-32.html');
+  other.href = `execsim-32.html${location.hash}`;
   $('status').className = 'fault';
-  $('status').textContent = hasMemory() ? `The page broke off: ${why.message}` : 'This browser cannot run the simulator, which needs WebAssembly with memory of 64 bits, as Chrome has from 133 and Firefox from 134 on.';
+  if (is64 && !hasMemory()) $('status').replaceChildren('This browser has no WebAssembly with memory of 64 bits, as Chrome has from 133 and Firefox from 134 on. ', other, ', if it is beside this file, does without.');
+  else $('status').textContent = `The page broke off: ${why.message}`;
 }
 
 start().catch(breakOff);

@@ -2,7 +2,7 @@
 const TOO_LONG = 5, PAGE = 65536;
 let compiled, instance;
 
-/** Grows a memory of 64 bits, whose pages older engines do not count in big integers. */
+/** Grows a memory. The pages of one of 64 bits are big integers, but not to older engines. */
 function grow(memory, bytes) {
   const pages = Math.ceil(bytes / PAGE) - memory.buffer.byteLength / PAGE;
   if (pages <= 0) return;
@@ -24,8 +24,8 @@ function callWith(room, name, texts, numbers) {
   grow(memory, at);
   exports.heap_from(BigInt(at));
   texts.forEach((text, i) => new Uint8Array(memory.buffer).set(text, places[i]));
-  const given = texts.flatMap((text, i) => [BigInt(places[i]), BigInt(text.length)]);
-  const status = exports[name](...given, ...numbers, BigInt(out), BigInt(room), BigInt(length));
+  const placeOf = typeof exports.__heap_base.value === 'bigint' ? BigInt : Number, given = texts.flatMap((text, i) => [placeOf(places[i]), BigInt(text.length)]);
+  const status = exports[name](...given, ...numbers, placeOf(out), BigInt(room), placeOf(length));
   const filled = Number(new DataView(memory.buffer).getBigUint64(length, true));
   if (status === TOO_LONG && filled > room) return callWith(filled, name, texts, numbers);
   return { status, bytes: new Uint8Array(memory.buffer, out, Math.min(filled, room)).slice() };

@@ -71,10 +71,12 @@ class InNode:
         self.page, self.words = page, words
 
     @staticmethod
-    def found():
+    def found(page):
         """The words that start a node that can run the page's module, or None."""
         if not shutil.which("node"):
             return None
+        if '<meta name="bits" content="32">' in page.read_text(encoding="utf-8"):
+            return NODES[0]
         return next((words for words in NODES if subprocess.run([*words, "-e", HAS_MEMORY], capture_output=True, check=False).returncode == 0), None)
 
     def value(self, expression):

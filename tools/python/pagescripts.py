@@ -2,13 +2,14 @@
 
 # 30,000 calls of the heap over up to some thousand blocks, each filled with a byte of its own; and 20,000 products and shifts.
 HEAP = """(packed => {
-  const x = new WebAssembly.Instance(new WebAssembly.Module(Uint8Array.from(atob(packed), it => it.charCodeAt(0))), {}).exports, base = x.__heap_base.value;
-  x.heap_from(base + 64n);
+  const x = new WebAssembly.Instance(new WebAssembly.Module(Uint8Array.from(atob(packed), it => it.charCodeAt(0))), {}).exports, base = x.__heap_base.value, start = Number(base);
+  const place = typeof base === 'bigint' ? BigInt : Number; // as the module's memory has 64 or 32 bits
+  x.heap_from(BigInt(start + 64));
   let seed = 1;
   const below = n => { seed = (seed * 1103515245 + 12345) % 2147483648; return Math.floor(seed / 2147483648 * n); };
-  const number = at => new DataView(x.memory.buffer).getBigUint64(Number(at), true), bytes = (block, n) => new Uint8Array(x.memory.buffer, block.at, n), live = [];
+  const number = at => new DataView(x.memory.buffer).getBigUint64(at, true), bytes = (block, n) => new Uint8Array(x.memory.buffer, block.at, n), live = [];
   const wrong = new Set(), same = (block, n) => bytes(block, n).every(it => it === block.value) || wrong.add('a block is not as it was');
-  const got = block => { if (number(base) !== 1n) wrong.add('memory was refused'); block.at = Number(number(base + 8n)); if (block.at % 16) wrong.add('alignment'); };
+  const got = block => { if (number(start) !== 1n) wrong.add('memory was refused'); block.at = Number(number(start + 8) & 0xffffffffn); if (block.at % 16) wrong.add('alignment'); };
   for (let k = 0; k < 30000; k++) {
     const kind = below(10), i = below(live.length), block = live[i];
     if (kind < 4 || !block) {
@@ -19,20 +20,20 @@ HEAP = """(packed => {
       live.push(made);
     } else if (kind < 7) {
       const n = below(3) ? Math.min(2 * block.n + 1, 50000) : below(block.n + 1), kept = Math.min(n, block.n);
-      x.rattle_realloc(base, BigInt(block.at), BigInt(block.n), BigInt(n), 8n);
+      x.rattle_realloc(base, place(block.at), BigInt(block.n), BigInt(n), 8n);
       got(block);
       same(block, kept);
       block.n = n;
       bytes(block, n).fill(block.value);
     } else {
       same(block, block.n);
-      x.rattle_dealloc(BigInt(block.at));
+      x.rattle_dealloc(place(block.at));
       live.splice(i, 1);
     }
   }
   live.forEach(block => same(block, block.n));
   const half = () => [0, 1, 2, 3].reduce(sum => sum << 16n | BigInt(below(65536)), 0n), signed = it => BigInt.asIntN(64, it), all = (1n << 128n) - 1n;
-  const is = (name, wanted) => { if ((number(base + 8n) << 64n | number(base)) !== (wanted & all)) wrong.add(name); };
+  const is = (name, wanted) => { if ((number(start + 8) << 64n | number(start)) !== (wanted & all)) wrong.add(name); };
   for (let k = 0; k < 20000; k++) {
     const [a, b, c, d] = [half(), half(), half(), half()], first = b << 64n | a, second = d << 64n | c, n = below(128);
     x.__multi3(base, signed(a), signed(b), signed(c), signed(d));
