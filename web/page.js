@@ -499,7 +499,7 @@ async function begin(carried, loads) {
   EXERCISES = carried.exercises;
   LESSONS = carried.lessons;
   listExamples();
-  view = new View({ onCursor: cursorAt, breaks: () => editors['machine.toml'].breaks, onPicture: () => strip?.pictured(), onFault: why => says(`The simulator broke off: ${why.message}`, 'fault') });
+  view = new View({ onCursor: cursorAt, breaks: () => editors['machine.toml'].breaks, onPicture: () => strip?.pictured(), onNone: says, onFault: why => says(`The simulator broke off: ${why.message}`, 'fault') });
   makeEditors();
   await loads;
   [checker, asides, search] = [library.another(), library.another(), new Search(library.another(), texts, frameTexts, openWay)];

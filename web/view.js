@@ -14,9 +14,9 @@ const BEAT = 700;
 
 class View {
   /** `onCursor` is called with the run, the step, its rows and its event; `onPicture` when a picture is drawn or its size is another; `onFault` with an error.
-      `breaks` gives the lines of the machine file that have a break. */
-  constructor({ onCursor, onPicture, onFault, breaks }) {
-    Object.assign(this, { onCursor, onPicture, onFault, breaks });
+      `onNone` with a sentence if there is no step to go to. `breaks` gives the lines of the machine file that have a break. */
+  constructor({ onCursor, onPicture, onFault, onNone, breaks }) {
+    Object.assign(this, { onCursor, onPicture, onFault, onNone, breaks });
     this.run = null;
     this.step = 0;
     this.wanted = null; // the step that the next run is to be shown at, which the one that is shown may not have
@@ -101,25 +101,37 @@ class View {
   }
 
   /** Moves the cursor to the next step that has such a row, or to the one before, looking some parts of the log further; or else to one of the part that
-      is shown. */
+      is shown. Answers whether there is one further. */
   async goToSuch(isSuch, isBack = false) {
     const { run } = this, rows = this.trace.rows.filter(isSuch), next = isBack ? rows.findLast(one => one.step < this.step) : rows.find(one => one.step > this.step);
-    if (!run || next) return this.goTo(next?.step ?? this.step);
+    if (!run || next) {
+      this.goTo(next?.step ?? this.step);
+      return Boolean(next);
+    }
     try {
       const { from: begin } = run.log, isThere = from => from >= 0 && from <= run.end;
       for (let part = 1, from = begin; part <= PARTS_FURTHER && isThere(from += isBack ? -TRACED : TRACED); part++) {
         const more = await run.rows(from, Math.min(run.end, from + TRACED - 1)), found = isBack ? more.findLast(isSuch) : more.find(isSuch);
-        if (run !== this.run) return;
-        if (found) return this.move(found.step, false);
+        if (run !== this.run) return true;
+        if (found) {
+          await this.move(found.step, false);
+          return true;
+        }
       }
       this.goTo(rows.at(isBack ? -1 : 0)?.step ?? this.step);
+      return false;
     } catch (why) {
       if (!(why instanceof Stopped)) this.onFault(why);
+      return true;
     }
   }
 
-  /** Moves the cursor to the next step of a line that has a break. */
-  goToBreak() { return this.goToSuch(row => this.breaks().includes(row.line)); }
+  /** Moves the cursor to the next step of a line that has a break. If there is none as far as is looked, it says so and how far; without a run, nothing. */
+  async goToBreak() {
+    const { run } = this, last = run ? run.log.from + TRACED * (PARTS_FURTHER + 1) - 1 : 0;
+    if (!run || await this.goToSuch(row => this.breaks().includes(row.line))) return;
+    this.onNone(`No later step${last < run.end ? ` up to ${shown(last)}` : ''} is at a line that has a break.`);
+  }
 
   /** Goes a step further by itself until the end, or a line that has a break; or no more. */
   play() {

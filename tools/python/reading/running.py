@@ -18,6 +18,10 @@ LIMIT = 4_194_304
 class _Told(Exception):
     """What is said instead of an answer, and the status."""
 
+def _shown(text):
+    """A text as a terminal can show it in one line: each character that does not print is written as an escape."""
+    return "".join(it if it.isprintable() else repr(it)[1:-1] for it in str(text))
+
 # ---- the texts
 
 def _data_of(value, deep=0):
@@ -50,7 +54,7 @@ def _tree_of(text):
         tree = tomllib.loads(text.removeprefix(b"\xef\xbb\xbf").decode(), parse_float=_float_of)
         return Some(_data_of(tree).a0), ""
     except (ValueError, RecursionError) as why:
-        return None, str(why)
+        return None, _shown(why)
 
 def _place_of(place):
     """Where a fault of a machine file is."""
@@ -86,7 +90,7 @@ def _read(path):
     except OSError:
         text = None
     if text is None or len(text) > LIMIT:
-        raise _Told(f"execsim: cannot read {path}", 4)
+        raise _Told(f"execsim: cannot read {_shown(path)}", 4)
     return text
 
 def _watch(name, before):
@@ -173,7 +177,7 @@ def _check(project, first, seconds, part, only):
         counts[name.startswith("recordings/")] += 1
         wrong += bool(told)
         if told:
-            print(f"{name}: {told}", flush=True)
+            print(f"{_shown(name)}: {_shown(told)}", flush=True)
             if first:
                 return 1
         if sys.stderr.isatty():
@@ -291,13 +295,13 @@ def _propose(name):
     known = {it.lower(): it for it in (*rows, *texts)}
     near = [known[it] for it in difflib.get_close_matches(name.lower(), known, 5, 0.5)]
     speaking = [it for it, text in texts.items() if re.search(rf"(?m)^ *#.*\b{re.escape(name)}\b", text)][:20]
-    said = [f"no definition and no word is named {name}", f"near it are {', '.join(near)}"][:1 + bool(near)]
+    said = [f"no definition and no word is named {_shown(name)}", f"near it are {', '.join(near)}"][:1 + bool(near)]
     raise _Told("; ".join(said + [f"of it speak {', '.join(speaking)}"] * bool(speaking)), 2)
 
 def _show_run(name, project):
     """Prints a stored run that uses a definition or a word."""
     if not os.path.isdir(os.path.join(project, "crates", "runs", "data")):
-        print(f"A run that shows it is looked for in PROJECT/crates/runs/data: {project} has none")
+        print(f"A run that shows it is looked for in PROJECT/crates/runs/data: {_shown(project)} has none")
         return
     calls, is_called = [], name in _texts()
     if is_called:
@@ -306,8 +310,8 @@ def _show_run(name, project):
         if is_called:
             _outcome(machine, events)
         if calls or not is_called and status == 0 and re.search(rb"\b%b\b" % name.encode(), machine):
-            texts = [it.decode(errors="replace") for it in (machine, events)]
-            print(f"A run that uses it: {title}\n", *texts, sep="\n")
+            texts = ["\n".join(map(_shown, it.decode(errors="replace").split("\n"))) for it in (machine, events)]
+            print(f"A run that uses it: {_shown(title)}\n", *texts, sep="\n")
             return
     print("No stored run uses it.")
 
@@ -379,10 +383,16 @@ def _why(number, machine, events):
 
 # ---- the command line
 
+class _Parser(argparse.ArgumentParser):
+    """A parser that shows the words that it refuses as a terminal can show them."""
+
+    def error(self, message):
+        super().error(_shown(message))
+
 def _words():
     """What the command line asks for."""
     usage = "definitions.py [--why N] MACHINE EVENTS | --show NAME [PROJECT] | --check PROJECT"
-    parser = argparse.ArgumentParser("definitions.py", usage)
+    parser = _Parser("definitions.py", usage)
     parser.add_argument("texts", nargs="*", help="MACHINE EVENTS: the trace of a run, as execsim prints it")
     parser.add_argument("--why", type=int, metavar="N", help="line N of the trace, and what made and decided it")
     parser.add_argument("--show", metavar="NAME", help="a definition, or what is done for a word as DoIO; and a run")
@@ -404,7 +414,7 @@ def _main():
     given = _words()
     if given.check:
         if not os.path.isdir(os.path.join(given.check, "crates", "runs", "data")):
-            raise _Told(f"execsim: {given.check} has no folder crates/runs/data", 4)
+            raise _Told(f"execsim: {_shown(given.check)} has no folder crates/runs/data", 4)
         return _check(given.check, given.first, given.seconds, given.part, given.only)
     if given.show:
         return _show(given.show, *(given.texts or [os.path.dirname(os.path.dirname(os.path.abspath(__file__)))]))
