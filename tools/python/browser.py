@@ -30,6 +30,10 @@ class Failure(Exception):
     """What a page threw, or what the browser refused."""
 
 
+class Silence(Failure):
+    """A browser that answers no more, or has ended. The next one may."""
+
+
 class Browser:
     """One page in a browser of its own, which is ended with it."""
 
@@ -69,10 +73,10 @@ class Browser:
         """The next message of the browser."""
         while b"\0" not in self.buffer:
             if not select.select([self.read], [], [], PATIENCE)[0]:
-                raise Failure(f"the browser says nothing for {PATIENCE} s")
+                raise Silence(f"the browser says nothing for {PATIENCE} s")
             more = os.read(self.read, 1 << 20)
             if not more:
-                raise Failure("the browser has ended")
+                raise Silence("the browser has ended")
             self.buffer += more
         text, _, self.buffer = self.buffer.partition(b"\0")
         return json.loads(text)

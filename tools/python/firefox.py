@@ -9,7 +9,7 @@ import subprocess
 import tempfile
 import time
 
-from browser import WAITING, Failure
+from browser import WAITING, Failure, Silence
 
 NAMES = ("firefox-esr", "firefox")
 # How long it may take to begin, and to answer, in seconds.
@@ -60,15 +60,17 @@ class WebSocket:
                 return socket.create_connection(("127.0.0.1", port), PATIENCE)
             except OSError:
                 time.sleep(0.1)
-        raise Failure("Firefox does not answer")
+        raise Silence("Firefox does not answer")
 
     def more(self):
         try:
             some = self.socket.recv(1 << 20)
+        except ConnectionError:
+            some = b""
         except TimeoutError:
-            raise Failure(f"Firefox says nothing for {PATIENCE} s") from None
+            raise Silence(f"Firefox says nothing for {PATIENCE} s") from None
         if not some:
-            raise Failure("Firefox has ended")
+            raise Silence("Firefox has ended")
         self.buffer += some
 
     def take(self, count):
