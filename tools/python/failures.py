@@ -9,7 +9,7 @@ MOST, WIDTH = 50, 400
 # Lines that say nothing of a failure, though other lines of the same part do.
 PASSED = re.compile(
     r"(passed|refused|proved|shown|run|rt): |\s*$|.*\btook [0-9,.]+ m?s\b|.*: not tried, since |.*: (skipped|SKIPPED): |\d+ passed, \d+ failed"
-    r"|equations: \d+ "
+    r"|equations: \d+ |judge(-definitions)?: \d+ of "
 )
 # Lines of `rt ci`, and of checks that it shows, that say what failed: a verdict, and what else has a word of failure and is not the name of what was proved.
 VERDICT = re.compile(r"(rt: )?(FAILED: |.*\b(NOT PROVED|FAILED)\b)")
