@@ -30,7 +30,7 @@ enum {
     EXECSIM_TOO_LONG = 5,        /* what is to be put into the buffer is longer than it */
     EXECSIM_NO_MACHINE = 6,      /* there is no machine: none was opened, or it was closed */
     EXECSIM_NOT_THERE = 7,       /* there is no such task, step or outcome, or no block at that address; or a number is out of range */
-    EXECSIM_TOO_MANY = 8         /* a search has more ways than the limit, or more outcomes or ticks than it takes */
+    EXECSIM_TOO_MANY = 8         /* a search has more ways than the limit, or more outcomes, bytes or ticks than it takes */
 };
 
 /* The most bytes that the program takes of a machine file or of an event text. Here a longer text is read too. */
@@ -97,8 +97,8 @@ enum { EXECSIM_SEE_END = 0, EXECSIM_SEE_PRINTS = 1, EXECSIM_SEE_TRACE = 2 };
 /* Every way to insert at most so many more interrupts (0 to 8) into the events, and what is seen of each, as `execexplore` writes it.
  * limit: how many ways are tried at most; the program's own limit is 2^40.
  * EXECSIM_RAN: there is one outcome and no alert. EXECSIM_ALERTED: there are more, or an alert. EXECSIM_TOO_MANY: nothing was searched, and the buffer
- * begins with a sentence that has the number of ways; or there are more than 65,536 outcomes or 1,000,000 ticks. EXECSIM_NOT_THERE: a number is
- * out of range. */
+ * begins with a sentence that has the number of ways; or there are more than 65,536 outcomes, 160,000,000 bytes of outcomes or 1,000,000 ticks.
+ * EXECSIM_NOT_THERE: a number is out of range. */
 uint32_t execsim_explore(const uint8_t *machine, size_t machine_length, const uint8_t *events, size_t events_length, uint32_t extra, uint32_t kinds,
                          uint32_t see, uint64_t limit, uint8_t *out, size_t out_length, uint64_t *length);
 

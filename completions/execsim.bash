@@ -16,6 +16,11 @@ _execsim_names() {
     [[ ! -f $file ]] || awk -F '["'\'']' '/^\[/ { is_actor = /^\[\[(task|server|softint)\]\]/ } is_actor && /^name *=/ { print $2 }' "$file"
 }
 
+# What execcheck may find, by name.
+_execsim_found='NotToml UnknownKey MissingKey BadValue NameTwice BadRegions BadCommand BadLabel NotInInterrupt TooMany BadLine HANDLE MASK VALUE MEM NEST
+LINK PORT SEM LIB IO unset unused-variable unused-label unreachable never-added unknown-port unknown-task unknown-library no-memory waits
+lost-wakeup unread owner-gone deadlock busy ends-early late'
+
 # Puts the words of a list, one a line, that begin with what is typed into COMPREPLY.
 _execsim_offer() {
     local it
@@ -41,7 +46,8 @@ _execsim() {
         it=${COMP_WORDS[at]}
         case $is_path$option$it in
         *=) ;;
-        --state | --from | --to | --at | --task | --extra | --of | --see | --part | --events | --record | --explore | --quantum | --accesses | --jobs)
+        --state | --from | --to | --at | --task | --extra | --of | --see | --part | --events | --record | --explore | --quantum | --accesses | --jobs | \
+            --color | --serves | --explain)
             option=$it used+="$it "
             ;;
         --cc | --cflags | --keep) option=$it used+="$it= " ;;
@@ -56,7 +62,9 @@ _execsim() {
     [[ $word != '=' ]] || word=''
     local endings=()
     case $option in
-    --task) _execsim_offer "$(_execsim_names)" && return ;;
+    --task | --serves) _execsim_offer "$(_execsim_names)" && return ;;
+    --color) _execsim_offer $'auto\nalways\nnever' && return ;;
+    --explain) _execsim_offer "$(printf '%s\n' $_execsim_found)" && return ;;
     --extra | --explore) _execsim_offer "$(printf '%s\n' 0 1 2 3 4 5 6 7 8)" && return ;;
     --see) _execsim_offer $'end\nprints\ntrace' && return ;;
     --of) compopt -o nospace 2>/dev/null; _execsim_offer "$(_execsim_kinds)" && return ;;
@@ -68,11 +76,12 @@ _execsim() {
     if [[ $word == -* && -z $is_path$option ]]; then
         local options='--help'
         [[ $command == execsim || $command == execc ]] || options+=' --version'
+        [[ $command != execcheck ]] || options+=' --short --json --color --serves --fix --explain --lsp'
         [[ $command != execlog ]] || options+=' --plain-words --json --svg --chrome --state --from --to --at --task'
         [[ $command != execexplore ]] || options+=' --extra --of --see --part --events --progress --sum'
         [[ $command != execc ]] || options+=' --log --check --svg --state --record --explore --of --events --twice --quantum --accesses --jobs --cc= --cflags= --keep='
         for it in $options; do
-            [[ $used == *" $it "* ]] || _execsim_offer "$it"
+            [[ $used == *" $it "* && $it != --serves ]] || _execsim_offer "$it"
             [[ $it != *= || ${COMPREPLY[*]} != *= ]] || compopt -o nospace 2>/dev/null
         done
         return

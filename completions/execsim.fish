@@ -54,6 +54,13 @@ for command in execsim execcheck execlog execexplore
     complete -c $command -n 'not __execsim_sums; and test (__execsim_paths) -eq 1' -a '(__execsim_files .events)' -d 'Event text'
 end
 complete -c execcheck -l version -d 'Print the version'
+complete -c execcheck -l short -d 'Write the first line of each finding alone'
+complete -c execcheck -l json -d 'Write one document in the format SARIF'
+complete -c execcheck -l color -x -a 'auto always never' -d 'When there are colors'
+complete -c execcheck -l serves -x -a '(__execsim_names)' -d 'This task or server runs or waits by design'
+complete -c execcheck -l fix -d 'Write what is proposed into the files'
+complete -c execcheck -l explain -x -a "NotToml UnknownKey MissingKey BadValue NameTwice BadRegions BadCommand BadLabel NotInInterrupt TooMany BadLine HANDLE MASK VALUE MEM NEST LINK PORT SEM LIB IO unset unused-variable unused-label unreachable never-added unknown-port unknown-task unknown-library no-memory waits lost-wakeup unread owner-gone deadlock busy ends-early late" -d 'Explain a fault, an alert or a warning'
+complete -c execcheck -l lsp -d 'Serve an editor'
 complete -c execlog -l version -d 'Print the version'
 complete -c execlog -l plain-words -d 'Show also the words that print nothing'
 complete -c execlog -l json -d 'Print one JSON object a line'

@@ -1,38 +1,33 @@
-// What execsim_check says of the texts: findings that begin with a file, a line and a column.
+// What execsim_check says of the texts: findings that begin with a file, a line and a column, how grave they are, a rule and a reason.
 
-const PLACE = /^(machine\.toml|run\.events)(?::(\d+))?(?::(\d+))?: (.*)$/;
+const FIRST = /^(machine\.toml|run\.events)(?::(\d+):(\d+))?: (error|warning|note)\[([\w-]+)\]: (.*)$/;
 
 /** The findings of an answer, each with its place, the lines that follow, what is marked, and its kind. */
 function findingsOf(answer) {
   const found = [];
   for (const line of answer.text().split('\n')) {
-    const match = line.match(PLACE);
-    if (match) found.push({ file: match[1], line: Number(match[2] ?? 0), column: Number(match[3] ?? 0), length: 0, head: match[4], rest: [] });
-    else if (found.length && line) withLine(found.at(-1), line.replace(/^ {4}/, ''));
+    const match = line.match(FIRST);
+    if (match) {
+      const [, file, row, column, severity, rule, why] = match;
+      found.push({ file, line: Number(row ?? 0), column: Number(column ?? 0), length: 0, head: `${severity}[${rule}]`, why, kind: kindOf(severity, rule), below: [] });
+    } else if (found.length && line) found.at(-1).below.push(line.replace(/^ {4}/, ''));
   }
-  for (const one of found) one.kind = kindOf(one.head);
+  for (const one of found) finish(one);
   return found;
 }
 
-/** Adds a line to a finding: one with marks says how long the part is, and what is wrong with it. */
-function withLine(finding, line) {
-  const marks = line.match(/^( *)(\^+)(?: (.*))?$/), place = line.match(/ at line (\d+), column (\d+)$/);
-  if (marks) {
-    [finding.from, finding.length, finding.why] = [marks[1].length, marks[2].length, marks[3] ?? ''];
-    if (finding.file === 'run.events') finding.column ||= finding.from + 1; // the line is shown whole
-    return;
-  }
-  if (place && !finding.line) [finding.line, finding.column, finding.length] = [Number(place[1]), Number(place[2]), 1];
-  finding.rest.push(line);
+/** Tells apart what is below the first line of a finding: the place in words, and the line that is shown with its marks. */
+function finish(one) {
+  const marks = one.below.at(-1)?.match(/^( *)(\^+)$/);
+  if (marks) [one.shown, one.from, one.length] = [one.below.at(-2) ?? '', marks[1].length, marks[2].length];
+  one.whose = one.below.slice(0, marks ? -2 : undefined).join(' ');
 }
 
-/** An alert, a warning, a remark or a fault of a text: what the head says after its place, in which names are within quotes. */
-function kindOf(head) {
-  const said = head.replace(/"[^"]*"/g, '""').replace(/^in [^:]*: /, '');
-  if (/^alert [A-Z]+ at step \d+$/.test(said)) return 'alert';
-  if (/^note\b/.test(said)) return 'remark';
-  return /^warning\b/.test(said) ? 'warning' : 'fault';
+/** An alert, a warning, a remark or a fault of a text: the alerts are the rules without small letters. */
+function kindOf(severity, rule) {
+  if (severity !== 'error') return severity === 'note' ? 'remark' : 'warning';
+  return /^[A-Z]+$/.test(rule) ? 'alert' : 'fault';
 }
 
 /** What is said below the marked part. */
-const noteOf = finding => finding.why || finding.rest.at(-1) || finding.head;
+const noteOf = finding => finding.why;

@@ -116,7 +116,7 @@ function sayEnd(one, found = []) {
   const { trace, alert, end } = one, all = `${counted(end, 'step')}, ${counted(one.lines, 'line')} of trace`;
   $('status-sure').hidden = false;
   if (trace.status !== ALERTED) return says(`${all}, ${trace.took.toFixed(trace.took < 10 ? 1 : 0)} ms.`);
-  const last = found.find(it => it.kind === 'alert'), part = last?.rest[0] === undefined ? '' : [...last.rest[0]].slice(last.from, last.from + last.length).join('');
+  const last = found.find(it => it.kind === 'alert'), part = [...last?.shown ?? ''].slice(last?.from, last?.from + last?.length).join('');
   const words = [linkTo(alert?.trace ?? 'An alert', () => view.goTo(one.end)), ' at ', linkTo(`step ${shown(end)}`, () => view.goTo(one.end))];
   if (alert?.line) words.push(', ', linkTo(`line ${alert.line}`, () => editors['machine.toml'].goTo(alert.line)));
   if (last) words.push(', ', linkTo(part || 'there', () => editors[last.file].goTo(last.line, last.column || 1)), `: ${last.why}`);
@@ -154,15 +154,13 @@ function findingItem(one) {
   item.id = one.id;
   const place = button([one.file, one.line, one.column].filter(part => part).join(':'), () => editors[one.file].goTo(one.line, one.column || 1));
   place.disabled = !one.line;
-  item.append(place, ' ', one.head);
-  for (const [i, line] of one.rest.entries()) {
-    if (i === 0 && one.why !== undefined) {
-      const characters = [...line], part = (from, to) => characters.slice(from, to).join('');
-      text.append(part(0, one.from), made('mark', part(one.from, one.from + one.length), one.kind), part(one.from + one.length));
-    } else text.append(`${line}\n`);
+  item.append(place, ' ', one.whose || one.head);
+  if (one.shown !== undefined) {
+    const characters = [...one.shown], part = (from, to) => characters.slice(from, to).join('');
+    text.append(part(0, one.from), made('mark', part(one.from, one.from + one.length), one.kind), part(one.from + one.length));
+    item.append(text);
   }
-  if (one.rest.length) item.append(text);
-  if (one.why) item.append(made('p', one.why));
+  item.append(made('p', `${one.head}: ${one.why}`));
   return item;
 }
 

@@ -331,18 +331,23 @@ const char *machine_differs(void) {
                                                : "the run of the recorded file is another";
 }
 
-/* Shows a line of a report, with places of the recorded file as those of the program. */
+/* Shows a line of a report, with places of the recorded file as those of the program: of the first line of a finding that before it, and in the line
+ * below it the call in place of the line of the code. */
 static void show_line_in_c(const char *line) {
+    static const Line *from;
+    static const char of_code[] = " of its code";
     int row = 0, column = 0, at = 0;
+    if (*line != ' ') from = 0;
     if (sscanf(line, "machine.toml:%d:%d: %n", &row, &column, &at) >= 2 && at && row < places_count && places[row] &&
         places[row]->file) {
-        printf("%s:%d: ", places[row]->file, places[row]->line);
-        const char *end = strstr(line + at, ", line ");
-        const char *rest = end ? strchr(end, ':') : 0;
-        if (rest) printf("%.*s, %s", (int)(end - line - at), line + at, places[row]->call);
-        else rest = line + at;
-        printf("%s\n", rest);
-    } else printf("%s\n", line);
+        from = places[row];
+        printf("%s:%d: %s\n", from->file, from->line, line + at);
+        return;
+    }
+    const char *end = from && !strncmp(line, "    in ", 7) ? strstr(line, ", line ") : 0;
+    const char *rest = end ? strstr(end, of_code) : 0;
+    if (rest) printf("%.*s, %s%s\n", (int)(end - line), line, from->call, rest + strlen(of_code));
+    else printf("%s\n", line);
 }
 
 /* A field of an object of JSON as `execlog --json` writes it: its text without the quotes, or its number. */

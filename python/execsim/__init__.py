@@ -108,13 +108,18 @@ class Finding:
     line: int
     #: The column, from 1.
     column: int
-    #: The place in words and the fault, as `in task "a", line 1 of its code: BadCommand`.
-    says: str
-    #: The lines below: the line of code, its marks, and the reason.
+    #: How grave it is: `error`, `warning` or `note`.
+    severity: str
+    #: The name of the fault, the code of the alert, or the name of the warning, as `BadCommand`.
+    rule: str
+    #: Why, in one sentence.
+    reason: str
+    #: The lines below: the place in words, the line of code, and its marks.
     shows: str
 
     def __str__(self) -> str:
-        return f"{self.text}:{self.line}:{self.column}: {self.says}" + (f"\n{self.shows}" if self.shows else "")
+        first = f"{self.text}:{self.line}:{self.column}: {self.severity}[{self.rule}]: {self.reason}"
+        return first + (f"\n{self.shows}" if self.shows else "")
 
 
 @dataclasses.dataclass(frozen=True)
@@ -335,16 +340,17 @@ def chrome(machine: Text, events: Text, first: int = 0, last: typing.Optional[in
     return _shown(_library.execsim_chrome, machine, events, _step(first), _step(last))
 
 
-_PLACE = re.compile(r"(machine\.toml|run\.events):(\d+):(\d+): (.*)")
+_FIRST = re.compile(r"(machine\.toml|run\.events)(?::(\d+):(\d+))?: (error|warning|note)\[([\w-]+)\]: (.*)")
 
 
 def check(machine: Text, events: Text) -> list[Finding]:
     """What is wrong with two texts, and how their run ends, as `execcheck` says it. Refused texts are findings, and no exception. Raises `OutOfMemory`."""
     found: list[Finding] = []
     for line in _of_texts(_library.execsim_check, machine, events)[1].splitlines():
-        begins = _PLACE.fullmatch(line)
+        begins = _FIRST.fullmatch(line)
         if begins:
-            found.append(Finding({"machine.toml": "machine"}.get(begins[1], "events"), int(begins[2]), int(begins[3]), begins[4], ""))
+            text = {"machine.toml": "machine"}.get(begins[1], "events")
+            found.append(Finding(text, int(begins[2] or 1), int(begins[3] or 1), begins[4], begins[5], begins[6], ""))
         elif found:
             shows = f"{found[-1].shows}\n{line}" if found[-1].shows else line
             found[-1] = dataclasses.replace(found[-1], shows=shows)

@@ -182,8 +182,11 @@ def extension():
         {"id": "execsim-events", "aliases": ["execsim events"], "extensions": [".events"], "configuration": "./language.json"},
     ]
     grammars = [{"language": it, "scopeName": f"source.{it}", "path": f"./syntaxes/{it}.tmLanguage.json"} for it in ("execsim", "execsim-events")]
+    pattern = {"regexp": r"^(.*):(\d+):(\d+): (error|warning|note)\[([\w-]+)\]: (.*)$", "file": 1, "line": 2, "column": 3, "severity": 4, "code": 5, "message": 6}
+    matcher = {"name": "execcheck", "owner": "execsim", "fileLocation": ["autoDetect", "${workspaceFolder}"], "pattern": pattern}
     head = {"name": "execsim", "displayName": "execsim", "description": "Machine files and event texts of execsim", "version": "1.0.0", "publisher": "execsim"}
-    return head | {"engines": {"vscode": "^1.60.0"}, "contributes": {"languages": languages, "grammars": grammars}}
+    contributes = {"languages": languages, "grammars": grammars, "problemMatchers": [matcher]}
+    return head | {"engines": {"vscode": "^1.60.0"}, "contributes": contributes}
 
 
 def as_json(value):

@@ -2,12 +2,13 @@
 ghost use Rattle.std.specs.Prelude.{◌≡◌, ◌≢◌, ◌≤◌, ◌⊎◌};
 ghost use Rattle.std.specs.IoError.{error_kind};
 
-use crate::failure::{Failure, report};
-use crate::running::{COMMAND_LINE_REFUSED, run_on_texts};
+use crate::editor::{asks_for_server, serve_editor};
+use crate::failure::{COMMAND_LINE_REFUSED, FAILED, Failure, report};
+use crate::running::run_on_texts;
 use execrun::SystemTexts;
 use std::alloc::Global;
 use std::env::Env;
-use std::io::{ErrorKind, Write};
+use std::io::{ErrorKind, Input, IsTerminal, Write};
 use std::rt::Files;
 use std::{env, io};
 
@@ -17,6 +18,19 @@ fn words_of<R: Env + AllocGlobal>(rt: &R) -> io::Result<Vec<String>> {
     Ok(words)
 }
 
+/// Whether a variable of the environment is there and not empty.
+fn is_set<R: Env + AllocGlobal>(rt: &R, name: &str) -> bool {
+    match env::var(rt, name) {
+        Ok(value) => !value.is_empty(),
+        Err(_) => false,
+    }
+}
+
+/// Whether what is written to a writer has colors: it is a terminal, and the environment does not refuse them (no-color.org).
+fn is_colored<R: Env + AllocGlobal, W: IsTerminal>(rt: &R, out: &W) -> bool {
+    out.is_terminal() && !is_set(rt, "NO_COLOR")
+}
+
 /// Says why the arguments could not be had, and answers the status that represents that: memory was refused, or one is no text.
 fn end_without_words<E: Write>(alloc: Global, error: &io::Error, err: &mut E) -> u8
     ensures memory { error_kind error.now ≡ ErrorKind.OutOfMemory → result ≡ 4 }
@@ -24,20 +38,29 @@ fn end_without_words<E: Write>(alloc: Global, error: &io::Error, err: &mut E) ->
     ensures status { (result ≡ 2) ⊎ (result ≡ 4) }
 {
     if error.kind() == ErrorKind::OutOfMemory {
-        return report(alloc, &Failure::NoMemory, err);
+        return end_without_memory(alloc, err);
     }
     let _ = err.write_all(b"error: an argument is not text\n");
     COMMAND_LINE_REFUSED
 }
 
-/// Runs the program over the system's files on the process's arguments, and answers the status with which it ends.
+/// Says that memory was refused, and answers the status that represents that.
+fn end_without_memory<E: Write>(alloc: Global, err: &mut E) -> u8
+    ensures { result ≡ 4 }
+{
+    let _ = report(alloc, &Failure::NoMemory, err);
+    FAILED
+}
+
+/// Runs the program over the system's files on the process's arguments, and answers the status with which it ends. With the word `--lsp` alone it is
+/// a language server on the process's input.
 ///
 /// Arguments that are no text are refused as a command line is.
-pub fn run_on_arguments<R: Env + Files + AllocGlobal, W: Write + Drop, E: Write>(
-    rt: &R,
-    mut out: W,
-    err: &mut E,
-) -> u8
+pub fn run_on_arguments<
+    R: Env + Files + Input + AllocGlobal,
+    W: Write + IsTerminal + Drop,
+    E: Write,
+>(rt: &R, mut out: W, err: &mut E) -> u8
     ensures status { result ≤ 4 }
     ensures silent { result ≢ 2 → result ≢ 4 → err.new ≡ err.old }
 {
@@ -46,9 +69,17 @@ pub fn run_on_arguments<R: Env + Files + AllocGlobal, W: Write + Drop, E: Write>
         Ok(arguments) => arguments,
         Err(error) => return end_without_words(alloc, &error, err),
     };
+    let is_colored = is_colored(rt, &out);
     let words = arguments.iter().map(|word| word.as_str());
     match words.collect::<Vec<&str>>(alloc) {
-        Err(_) => report(alloc, &Failure::NoMemory, err),
-        Ok(words) => run_on_texts(&SystemTexts(rt), alloc, &words, &mut out, err),
+        Err(_) => end_without_memory(alloc, err),
+        Ok(words) => {
+            let texts = SystemTexts(rt);
+            if asks_for_server(&words) {
+                serve_editor(&texts, alloc, rt.reader(), &mut out, err)
+            } else {
+                run_on_texts(&texts, alloc, &words, is_colored, &mut out, err)
+            }
+        }
     }
 }

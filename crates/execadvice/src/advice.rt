@@ -1,18 +1,26 @@
 //! Why a line is not a command, in one sentence, with a proposal if one is near.
 
-use crate::assignments::{assignment_of_c, call_with_parentheses, is_value, missing_word};
-use crate::foreign::{instead_of, number_of_constants, written_number};
+use crate::branches::{branch_meant, compares};
+use crate::calculations::{Wordless, name_of_operator, without_word};
+use crate::foreign::{instead_of, is_type, number_of_constants};
 use crate::made::Made;
-use crate::members::{name_of, position_named};
-use crate::near::{are_digits, nearest, proposing, proposing_nearest};
+use crate::members::position_named;
+use crate::mending::{Mending, takes_task};
+use crate::near::are_digits;
+use crate::plain::plain_line;
+use crate::proposal::fix_of_line;
 use crate::said::cut;
-use crate::show::{Advice, Span, field_span, width_of};
+use crate::show::{Advice, Fix, Span, field_span, width_of};
 use crate::spacing::spacing_advice;
+use crate::stands::lacked_in_interrupt;
+use crate::values::{base_sixteen, has_point, is_constant, is_value, number_meant};
 use crate::variables::is_variable;
-use script::{Kind, Word, is_name, word_of, words};
+use crate::words::{word_meant, word_near, words_begun};
+use escape::is_hidden;
+use script::{Kind, Word, is_name, is_word_of_interrupt, word_of};
 use std::alloc::Global;
-use taskscript::{fields_of, is_identifier, label_in, number_of, quoted_in};
-use toml::Value;
+use taskscript::{fields_of, is_identifier, items_at, label_in, quoted_in};
+use toml::{Table, Value};
 
 /// What a line has to be that is no label but ends with a colon.
 const LABEL: &str =
@@ -22,6 +30,24 @@ const LABEL: &str =
 const TARGET: &str =
     "expected a variable: a letter a to z, then letters a to z, digits and _, 1 to 16 characters, with @ before it if it is shared";
 
+/// What is said of a text that is near no word.
+const UNKNOWN: &str = "unknown word; a line is [VARIABLE =] WORD ARGUMENTS, or LABEL:";
+
+/// What is said of `->`.
+const FIELDS: &str =
+    "structures have no fields here; words read and set them, as x = MsgWord m and SetMsgWord m 3";
+
+/// What is said of a comparison that is no branch.
+const COMPARED: &str =
+    "a branch asks whether one value is 0; of two values the difference is compared: d = Sub x y and then JumpZ d LABEL";
+
+/// What is said of the braces of C.
+const BRACES: &str =
+    "there are no blocks; a label, JumpZ x LABEL and Jump LABEL have the place of if and while";
+
+/// What is said of a call in the manner of C.
+const CALLED: &str = "arguments follow the word, with one space before each";
+
 /// Whether a part is a word, with a target and `=` that no spaces separate.
 fn is_assignment(field: &str) -> bool {
     match field.split_once("=") {
@@ -30,139 +56,135 @@ fn is_assignment(field: &str) -> bool {
     }
 }
 
-/// Why a name is no label. A colon that is wanted is in `end`, and `wanted` is said if it is none with small letters either.
-fn label_reason(alloc: Global, name: &str, end: &str, wanted: &str) -> Made<String> {
+/// Why a name is no label. `wanted` is said if it is none with small letters either.
+fn label_reason(alloc: Global, name: &str, wanted: &'static str) -> Made<&'static str> {
     let lower = name.to_ascii_lowercase(alloc)?;
-    if is_identifier(lower.as_str().as_bytes()) {
-        return format!(in alloc; "a label has no capital letter; did you mean {lower}{end}?");
-    }
-    String::from_str(alloc, wanted)
+    Ok(if is_identifier(lower.as_str().as_bytes()) {
+        "a label has no capital letter"
+    } else {
+        wanted
+    })
 }
 
 /// What is wrong with a text that is no word, if the characters at its end, or the part after it, show that.
 fn joint_reason(text: &str, fields: &[&str], at: usize) -> Option<&'static str> {
     let next = fields.get(1).copied().unwrap_or("");
-    if at == 0 && (is_assignment(text) || is_variable(text) && next.starts_with("=")) {
+    if text == "=" {
+        Some(if at == 0 {
+            "expected a variable before the ="
+        } else {
+            "one = is enough"
+        })
+    } else if at == 0 && (is_assignment(text) || is_variable(text) && next.starts_with("=")) {
         Some("put one space before and one after the =")
     } else if at == 0 && is_variable(text) && next == ":=" {
         Some("put = in place of :=")
+    } else if at == 0 && is_variable(text) && word_of(next).is_some() {
+        Some("a = is missing after the variable")
+    } else if at == 2 && fields.get(3).copied().unwrap_or("") == "=" {
+        Some("a line has one variable before its word")
     } else if text.ends_with(":") {
         Some("a label has a line of its own")
+    } else if fields.last().copied().unwrap_or("").ends_with(":") {
+        Some("the name of a label has no space")
+    } else if at == 0 && are_digits(text) && !next.is_empty() {
+        Some("a line has no number")
     } else {
         None
     }
 }
 
-/// Why the part of that number is no word.
-fn word_reason(alloc: Global, fields: &[&str], at: usize) -> Made<String> {
-    let text = fields.get(at).copied().unwrap_or("");
-    if at == 0 && fields.len() == 1 && text.ends_with(":") {
-        return label_reason(alloc, text.trim_end_matches(':'), ":", LABEL);
-    }
-    if let Some(reason) = joint_reason(text, fields, at) {
-        return String::from_str(alloc, reason);
-    }
-    if at == 0 && is_variable(text) {
-        let word = fields.get(1).copied().unwrap_or("");
-        if word_of(word).is_some() {
-            return format!(in alloc; "unknown word; did you mean {text} = {word}?");
+/// Why a text is no word. `meant` is the line that is meant, if that is known.
+fn unknown_word_reason(alloc: Global, text: &str, meant: Option<&str>) -> Made<String> {
+    let Some(near) = word_near(alloc, text)? else {
+        let begun = words_begun(alloc, text)?;
+        if begun.len() > 1 && begun.len() < 6 {
+            let list = begun.join(alloc, ", ")?;
+            return format!(in alloc; "unknown word; those that begin so are {list}");
         }
-    }
-    if let Some(meant) = missing_word(alloc, fields)? {
-        return format!(in alloc; "a word is missing; did you mean {meant}?");
-    }
-    if let Some((beginning, rest)) = instead_of(text) {
-        return format!(in alloc; "{beginning}{rest}");
-    }
-    unknown_word_reason(alloc, text)
-}
-
-/// The texts of all words.
-fn word_texts(alloc: Global) -> Made<Vec<&'static str>> {
-    let mut texts = Vec::new(alloc);
-    for word in &words(alloc)? {
-        texts.push(word.text())?;
-    }
-    Ok(texts)
-}
-
-/// That a text is no word, with the nearest one.
-fn unknown_word_reason(alloc: Global, text: &str) -> Made<String> {
-    let near = nearest(alloc, text, &word_texts(alloc)?)?;
-    let sentence = match near {
-        Some(word) if text.eq_ignore_ascii_case(word) => {
-            "unknown word; words are case-sensitive"
-        }
-        _ => "unknown word",
+        return String::from_str(alloc, UNKNOWN);
     };
-    proposing(alloc, sentence, near, "")
+    match meant {
+        None => format!(in alloc; "unknown word; the nearest one is {near}"),
+        Some(_) if text.eq_ignore_ascii_case(near) => {
+            String::from_str(alloc, "unknown word; words are case-sensitive")
+        }
+        Some(_) => String::from_str(alloc, "unknown word"),
+    }
 }
 
 /// Why a field is no variable. `wanted` is said if it is none with small letters either.
-fn variable_reason(alloc: Global, field: &str, wanted: &str) -> Made<String> {
+fn variable_reason(alloc: Global, field: &str, wanted: &'static str) -> Made<&'static str> {
     let lower = field.to_ascii_lowercase(alloc)?;
-    if is_variable(lower.as_str()) {
-        return format!(in alloc; "a variable has no capital letter; did you mean {lower}?");
-    }
-    String::from_str(alloc, wanted)
+    Ok(if is_variable(lower.as_str()) {
+        "a variable has no capital letter"
+    } else {
+        wanted
+    })
 }
 
-/// A part without the zeros before it, or none if that is no number.
-fn without_zeros(field: &str) -> Option<&str> {
-    let short = field.trim_start_matches('0');
-    if short.len() < field.len() && number_of(short.as_bytes()).is_some() {
-        Some(short)
+/// Why digits after `$` or `0x` are no number.
+fn base_sixteen_reason(digits: &str) -> &'static str {
+    let is_number = digits.as_bytes().iter().all(|b| b.is_ascii_hexdigit());
+    if is_number && digits.len() >= 1 && digits.len() <= 8 {
+        "a number in base 16 is $ with digits 0 to 9 and A to F"
+    } else {
+        "a number in base 16 is $ with 1 to 8 digits, 0 to 9 and A to F"
+    }
+}
+
+/// Why a part in capital letters is no number.
+fn constant_reason(field: &str) -> &'static str {
+    if field.as_bytes().iter().any(|b| b.is_ascii_alphabetic()) {
+        "constants are written as numbers; the number of this one is not known here"
+    } else {
+        "a number is written in decimal digits, or with $ in base 16"
+    }
+}
+
+/// Why a part that is written as a number of another language is none here.
+fn foreign_number_reason(field: &str) -> &'static str {
+    if number_of_constants(field).is_some() {
+        "constants are written as numbers"
+    } else if are_digits(field.trim_start_matches('-').trim_start_matches('+')) {
+        "a number has no zero before its digits"
+    } else {
+        "a number is written in decimal digits, or with $ in base 16"
+    }
+}
+
+/// Why a part is no number and no variable, if its characters show that.
+fn shape_reason(field: &str) -> Option<&'static str> {
+    if field.starts_with("\"") || field.starts_with("'") {
+        Some("expected a number or a variable here, not a name")
+    } else if field.starts_with("&") || field.starts_with("*") {
+        Some("a variable has no & and no * before it")
+    } else if has_point(field) {
+        Some("a number is whole: it has no point")
+    } else if field.contains('+') || field.contains('*') || field.contains('/') {
+        Some("an argument is one number or variable; a line before it calculates")
     } else {
         None
     }
 }
 
-/// The digits after `0x`, `0X` or `$`.
-fn base_sixteen(field: &str) -> Option<&str> {
-    match (field.strip_prefix("0x"), field.strip_prefix("0X")) {
-        (Some(digits), _) | (None, Some(digits)) => Some(digits),
-        (None, None) => field.strip_prefix("$"),
-    }
-}
-
-fn base_sixteen_reason(alloc: Global, digits: &str) -> Made<String> {
-    let digits = digits.to_ascii_uppercase(alloc)?;
-    let number = format!(in alloc; "${digits}")?;
-    if number_of(number.as_str().as_bytes()).is_some() {
-        return format!(in alloc;
-            "a number in base 16 is $ with digits 0 to 9 and A to F; did you mean {number}?"
-        );
-    }
-    String::from_str(
-        alloc,
-        "a number in base 16 is $ with 1 to 8 digits, 0 to 9 and A to F",
-    )
-}
-
 /// Why a part is no number and no variable.
-fn value_reason(alloc: Global, field: &str) -> Made<String> {
+fn value_reason(alloc: Global, field: &str) -> Made<&'static str> {
     if let Some(digits) = base_sixteen(field) {
-        return base_sixteen_reason(alloc, digits);
+        return Ok(base_sixteen_reason(digits));
     }
-    if let Some(short) = without_zeros(field) {
-        return format!(in alloc; "a number has no zero before its digits; did you mean {short}?");
+    if let Some(reason) = shape_reason(field) {
+        return Ok(reason);
     }
-    if field == "-0" {
-        return String::from_str(
-            alloc,
-            "a number has no zero before its digits; did you mean 0?",
-        );
-    }
-    if field.starts_with("\"") {
-        return String::from_str(alloc, "expected a number or a variable here, not a name");
-    }
-    if let Some(number) = number_of_constants(field) {
-        let number = written_number(alloc, number)?;
-        return format!(in alloc; "constants are written as numbers; did you mean {number}?");
+    if is_constant(field) && !field.contains(',') && number_of_constants(field).is_none() {
+        return Ok(constant_reason(field));
     }
     let digits = field.trim_start_matches('-');
+    if field == "-0" || number_meant(alloc, field)?.is_some() || field.starts_with("\u{2212}") {
+        return Ok(foreign_number_reason(field));
+    }
     if !digits.is_empty() && are_digits(digits) {
-        return String::from_str(alloc, "a number is from -2147483648 to 4294967295");
+        return Ok("a number is from -2147483648 to 4294967295");
     }
     let first = field.get(..16).unwrap_or("").to_ascii_lowercase(alloc)?;
     let wanted = if field.len() > 16 && is_identifier(first.as_str().as_bytes()) {
@@ -174,52 +196,48 @@ fn value_reason(alloc: Global, field: &str) -> Made<String> {
 }
 
 /// Why a part is no label.
-fn label_argument_reason(alloc: Global, field: &str) -> Made<String> {
+fn label_argument_reason(alloc: Global, field: &str) -> Made<&'static str> {
     let name = field.trim_end_matches(':');
     if name.len() < field.len() && is_identifier(name.as_bytes()) {
-        return format!(in alloc; "only the label's own line has the colon; did you mean {name}?");
+        return Ok("only the label's own line has the colon");
     }
     label_reason(
         alloc,
         name,
-        "",
         "expected the name of a label of this body here",
     )
 }
 
 /// Why a part is no name between double quotes.
-fn quoted_reason(alloc: Global, field: &str, or_none: &str) -> Made<String> {
-    if is_name(field.as_bytes()) {
-        return format!(in alloc;
-            "expected a name between double quotes{or_none} here; did you mean \"{field}\"?"
-        );
-    }
+fn quoted_reason(field: &str, wanted: &'static str) -> &'static str {
     let inside = field.trim_matches('\'');
     if inside.len() < field.len() && is_name(inside.as_bytes()) {
-        return format!(in alloc; "put a name between double quotes; did you mean \"{inside}\"?");
+        return "put a name between double quotes";
     }
-    if field.starts_with("\"") {
-        let reason = if field.ends_with("\"") {
-            "a name has 1 to 31 characters: letters, digits, the dot, _ and -"
-        } else {
-            "a name between double quotes has no space, and ends with a double quote"
-        };
-        return String::from_str(alloc, reason);
+    if !field.starts_with("\"") {
+        wanted
+    } else if field.ends_with("\"") {
+        "a name has 1 to 31 characters: letters, digits, the dot, _ and -"
+    } else {
+        "a name between double quotes has no space, and ends with a double quote"
     }
-    format!(in alloc; "expected a name between double quotes{or_none} here")
 }
 
+/// What has to be where a name is.
+const NAME: &str = "expected a name between double quotes here";
+
+/// What has to be where a name is, or none.
+const NAME_OR_NONE: &str = "expected a name between double quotes, or 0, here";
+
 /// Why a name is none of the file's software interrupts.
-fn softint_reason(alloc: Global, softints: &[Value], field: &str) -> Made<String> {
+fn softint_reason(softints: &[Value], field: &str) -> &'static str {
     if quoted_in(field).is_none() {
-        return quoted_reason(alloc, field, "");
+        quoted_reason(field, NAME)
+    } else if softints.is_empty() {
+        "the file has no software interrupt"
+    } else {
+        "the file has no software interrupt of this name"
     }
-    if softints.is_empty() {
-        return String::from_str(alloc, "the file has no software interrupt");
-    }
-    let names: Vec<&str> = softints.iter().map(name_of).collect(alloc)?;
-    let sentence = "the file has no software interrupt of this name";
-    proposing_nearest(alloc, sentence, field.trim_matches('"'), &names, "\"")
 }
 
 /// `1 argument`, `2 arguments`.
@@ -231,35 +249,89 @@ fn counted(alloc: Global, count: usize) -> Made<String> {
     }
 }
 
-/// Why a word has not as many arguments as it takes.
-fn count_reason(alloc: Global, word: Word, after: &[&str]) -> Made<String> {
+/// What an argument of a kind is.
+fn name_of_kind(kind: Kind) -> &'static str {
+    match kind {
+        Kind::Value => "value",
+        Kind::Label => "label",
+        Kind::Name => "name",
+        Kind::NameOrNone => "name or 0",
+        Kind::Softint => "software interrupt",
+    }
+}
+
+/// What the arguments of a word are, in parentheses.
+fn kinds_text(alloc: Global, word: Word) -> Made<String> {
+    let names: Vec<&str> = word
+        .kinds()
+        .iter()
+        .map(|kind| name_of_kind(*kind))
+        .collect(alloc)?;
+    let list = names.join(alloc, ", ")?;
+    format!(in alloc; " ({list})")
+}
+
+/// How many arguments a word takes, and what they are if too few are given.
+fn wanted_text(alloc: Global, word: Word, given: usize) -> Made<String> {
     let text = word.text();
-    let given = after.len();
-    let wanted = counted(alloc, word.kinds().len())?;
+    let count = word.kinds().len();
+    let wanted = counted(alloc, count)?;
+    if given >= count {
+        return format!(in alloc; "{text} takes {wanted}");
+    }
+    let kinds = kinds_text(alloc, word)?;
+    format!(in alloc; "{text} takes {wanted}{kinds}")
+}
+
+/// Why a word has not as many arguments as it takes. `has_target` says whether one of them is the variable for its
+/// answer.
+fn count_reason(alloc: Global, word: Word, given: usize, has_target: bool) -> Made<String> {
+    let takes = wanted_text(alloc, word, given)?;
     if given == 0 {
-        return format!(in alloc; "{text} takes {wanted}, but none is given");
+        return format!(in alloc; "{takes}, but none is given");
     }
     let verb = if given == 1 { "is" } else { "are" };
-    match after {
-        [target, before @ ..]
-            if word.answers() && before.len() == word.kinds().len() && is_variable(target) => {
-            format!(in alloc;
-                "{text} takes {wanted}, but {given} {verb} given; the variable for its answer is before it, as in {target} = {text}"
-            )
-        }
-        _ => format!(in alloc; "{text} takes {wanted}, but {given} {verb} given"),
-    }
+    let end = if has_target {
+        "; the variable for its answer is before it"
+    } else {
+        ""
+    };
+    format!(in alloc; "{takes}, but {given} {verb} given{end}")
 }
 
-/// A line of a body, and the software interrupts of the file.
+/// The number of a part of a line that is not right, and why.
+#[derive(Drop)]
+struct Mistake {
+    part: usize,
+    sentence: String,
+}
+
+/// A line of a body, the software interrupts of the file, and the line that is meant, if that is known.
 #[derive(Clone, Copy)]
-struct Line<'a> {
+struct Line<'a, 'b, 'c> {
     alloc: Global,
-    softints: &'a [Value],
-    text: &'a str,
+    table: &'a Table,
+    text: &'b str,
+    meant: Option<&'c str>,
+    /// Whether the body is that of an interrupt.
+    is_interrupt: bool,
 }
 
-impl Line<'_> {
+impl Line<'_, '_, '_> {
+    /// A mistake of the part of a number.
+    fn at(&self, part: usize, sentence: &str) -> Made<Option<Mistake>> {
+        let sentence = String::from_str(self.alloc, sentence)?;
+        Ok(Some(Mistake { part, sentence }))
+    }
+
+    /// Whether the line that is meant has a target, and this one has none.
+    fn gains_target(&self) -> bool {
+        match self.meant {
+            None => false,
+            Some(meant) => meant.contains(" = ") && !self.text.contains('='),
+        }
+    }
+
     /// Whether a field is an argument of that kind.
     fn is_right(&self, kind: Kind, field: &str) -> bool {
         match kind {
@@ -269,127 +341,310 @@ impl Line<'_> {
             Kind::NameOrNone => field == "0" || quoted_in(field).is_some(),
             Kind::Softint => match quoted_in(field) {
                 None => false,
-                Some(name) => position_named(self.softints, name.as_str()).is_some(),
+                Some(name) => {
+                    position_named(items_at(self.table, "softint"), name.as_str()).is_some()
+                }
             },
         }
     }
 
     /// Why a field is no argument of that kind.
-    fn kind_reason(&self, kind: Kind, field: &str) -> Made<String> {
-        let alloc = self.alloc;
-        match kind {
-            Kind::Value => value_reason(alloc, field),
-            Kind::Label => label_argument_reason(alloc, field),
-            Kind::Name => quoted_reason(alloc, field, ""),
-            Kind::NameOrNone => quoted_reason(alloc, field, ", or 0,"),
-            Kind::Softint => softint_reason(alloc, self.softints, field),
-        }
-    }
-
-    /// Why the part of a number is not right.
-    fn advice(&self, part: usize, reason: String) -> Option<Advice> {
-        Some(Advice::of_field(self.text, part, reason))
+    fn kind_reason(&self, kind: Kind, field: &str) -> Made<&'static str> {
+        Ok(match kind {
+            Kind::Value => value_reason(self.alloc, field)?,
+            Kind::Label => label_argument_reason(self.alloc, field)?,
+            Kind::Name => quoted_reason(field, NAME),
+            Kind::NameOrNone if number_of_constants(field) == Some(0) => {
+                "constants are written as numbers"
+            }
+            Kind::NameOrNone => quoted_reason(field, NAME_OR_NONE),
+            Kind::Softint => softint_reason(items_at(self.table, "softint"), field),
+        })
     }
 
     /// The first argument of a word that is not right: it is of another kind, or there is none, or it is one too many. `first` is the number of
     /// the part that is the first argument.
-    fn argument_mistake(&self, word: Word, after: &[&str], first: usize) -> Made<Option<Advice>> {
+    fn argument_mistake(&self, word: Word, after: &[&str], first: usize) -> Made<Option<Mistake>> {
+        let count = word.kinds().len();
         for (i, kind) in word.kinds().iter().enumerate() {
-            let part = first.saturating_add(i);
-            match after.get(i).copied() {
-                None => return Ok(self.advice(part, count_reason(self.alloc, word, after)?)),
-                Some(field) => {
-                    if !self.is_right(*kind, field) {
-                        return Ok(self.advice(part, self.kind_reason(*kind, field)?));
+            if let Some(field) = after.get(i).copied() {
+                if !self.is_right(*kind, field) {
+                    let part = first.saturating_add(i);
+                    if i == 0 && takes_task(word) && quoted_in(field).is_some() {
+                        return self.at(part, "a task is named by its number here");
                     }
+                    return self.at(part, self.kind_reason(*kind, field)?);
                 }
             }
         }
-        let count = word.kinds().len();
-        if after.len() <= count {
+        if after.len() == count {
             return Ok(None);
         }
-        let part = first.saturating_add(count);
-        Ok(self.advice(part, count_reason(self.alloc, word, after)?))
+        let part = first.saturating_add(count.min(after.len()));
+        let sentence = count_reason(self.alloc, word, after.len(), self.gains_target())?;
+        Ok(Some(Mistake { part, sentence }))
     }
 
     /// Why a word has not the target that is before it, if it has not.
-    fn target_mistake(&self, word: Word, target: &str) -> Made<Option<String>> {
+    fn target_mistake(&self, word: Word, target: &str) -> Made<Option<Mistake>> {
         if !word.answers() {
             let text = word.text();
-            let reason = format!(in self.alloc;
+            let sentence = format!(in self.alloc;
                 "{text} returns nothing, so it cannot be assigned"
             )?;
-            return Ok(Some(reason));
+            return Ok(Some(Mistake { part: 0, sentence }));
         }
         if !is_variable(target) {
-            return Ok(Some(variable_reason(self.alloc, target, TARGET)?));
+            return self.at(0, variable_reason(self.alloc, target, TARGET)?);
         }
         Ok(None)
     }
 
+    /// Why the part of that number is no word.
+    fn word_reason(&self, fields: &[&str], at: usize) -> Made<String> {
+        let alloc = self.alloc;
+        let text = fields.get(at).copied().unwrap_or("");
+        if at == 0 && fields.len() == 1 && text.ends_with(":") {
+            let reason = label_reason(alloc, text.trim_end_matches(':'), LABEL)?;
+            return String::from_str(alloc, reason);
+        }
+        if let Some(reason) = joint_reason(text, fields, at) {
+            return String::from_str(alloc, reason);
+        }
+        if self.meant.is_some() && without_word(alloc, self.text)? != Wordless::Never {
+            return String::from_str(alloc, "a word is missing");
+        }
+        if let Some((beginning, rest)) = instead_of(text) {
+            return format!(in alloc; "{beginning}{rest}");
+        }
+        match self.meant {
+            Some(meant) if fields.len() == 1 && meant.ends_with(":") => {
+                String::from_str(alloc, "unknown word; a label ends with a colon")
+            }
+            Some(meant) if fields.len() == 1 && meant.starts_with("Jump ") => {
+                String::from_str(alloc, "this is the name of a label, which Jump goes on at")
+            }
+            None
+                if fields.len() == 1
+                    && word_near(alloc, text)?.is_none()
+                    && is_identifier(text.as_bytes()) => {
+                String::from_str(alloc, "unknown word; a label ends with a colon")
+            }
+            meant => unknown_word_reason(alloc, text, meant),
+        }
+    }
+
     /// The first part that is not right, and why: a word that is wanted or is not known, a target, or an argument.
-    fn mistake(&self, parts: &[&str]) -> Made<Option<Advice>> {
+    fn mistake(&self, parts: &[&str]) -> Made<Option<Mistake>> {
         let (target, after) = cut(parts);
         let at = if target.is_some() { 2 } else { 0 };
         let [text, arguments @ ..] = after else {
-            let reason = format!(in self.alloc; "expected a word after the =")?;
-            return Ok(self.advice(at, reason));
+            return self.at(at, "expected a word after the =");
         };
         let Some(word) = word_of(text) else {
-            return Ok(self.advice(at, word_reason(self.alloc, parts, at)?));
+            let sentence = self.word_reason(parts, at)?;
+            return Ok(Some(Mistake { part: at, sentence }));
         };
         if let Some(target) = target {
-            if let Some(reason) = self.target_mistake(word, target)? {
-                return Ok(self.advice(0, reason));
+            let mistake = self.target_mistake(word, target)?;
+            if mistake.is_some() {
+                return Ok(mistake);
             }
         }
         self.argument_mistake(word, arguments, at.saturating_add(1))
     }
 
-    /// What is meant by the line if it is written in the manner of C, with what is wrong with it.
-    fn meant(&self) -> Made<Option<String>> {
-        if let Some(meant) = call_with_parentheses(self.alloc, self.text)? {
-            return Ok(Some(format!(in self.alloc;
-                "arguments follow the word, with one space before each; did you mean {meant}?"
-            )?));
-        }
-        match assignment_of_c(self.alloc, self.text)? {
-            None => Ok(None),
-            Some(meant) => {
-                let reason = format!(in self.alloc; "a word is missing; did you mean {meant}?")?;
-                Ok(Some(reason))
+    /// Why a name of another system is no word, if the line is written in the manner of C or of an assembler.
+    fn foreign_reason(&self, name: &str) -> Made<Option<String>> {
+        let has_form = self.text.contains('(') || self.text.ends_with(";");
+        match instead_of(name) {
+            Some((beginning, rest)) if has_form || self.text.contains('#') => {
+                Ok(Some(format!(in self.alloc; "{beginning}{rest}")?))
             }
+            _ => Ok(None),
+        }
+    }
+
+    /// What has the place of an operator of C for which there is no word, if the parts after the `=` are a calculation
+    /// with one.
+    fn operator_reason(&self, after: &[&str]) -> Made<Option<String>> {
+        let name = match after {
+            [_, operator, _] => name_of_operator(*operator),
+            [value] if value.contains("<<") => name_of_operator("<<"),
+            _ => None,
+        };
+        match instead_of(name.unwrap_or("")) {
+            None => Ok(None),
+            Some((_, rest)) => Ok(Some(format!(in self.alloc;
+                "there is no such operator; write {rest}"
+            )?)),
+        }
+    }
+
+    /// What is wrong with a line that has a sign of C, or the name of a type.
+    fn sign_reason(&self, plain: &str) -> Made<Option<&'static str>> {
+        if self.text.contains("->") {
+            return Ok(Some(FIELDS));
+        }
+        if self.text.ends_with("{") || self.text.starts_with("}") {
+            return Ok(Some(BRACES));
+        }
+        if branch_meant(self.alloc, plain)?.is_some() && self.meant.is_some() {
+            return Ok(Some("a branch is JumpZ or JumpNZ with a value and a label"));
+        }
+        if self.meant.is_none() && compares(self.alloc, plain)? {
+            return Ok(Some(COMPARED));
+        }
+        let first = self.text.split(' ').next().unwrap_or("");
+        Ok(if is_type(first) && self.text.contains(' ') {
+            Some("a variable needs no declaration")
+        } else {
+            None
+        })
+    }
+
+    /// What is wrong with a call in the manner of C, whose plain form has these parts. Of one that cannot be mended as
+    /// a whole its first mistake is said too.
+    fn call_reason(&self, parts: &[&str]) -> Made<String> {
+        if self.meant.is_none() {
+            if let Some(mistake) = self.mistake(parts)? {
+                let sentence = mistake.sentence.as_str();
+                return format!(in self.alloc; "{CALLED}; {sentence}");
+            }
+        }
+        String::from_str(self.alloc, CALLED)
+    }
+
+    /// What is wrong with a line that has no word, or a call in the manner of C. `plain` is its plain form, which has
+    /// these parts.
+    fn plain_reason(&self, plain: &str, parts: &[&str]) -> Made<Option<String>> {
+        let (_, after) = cut(parts);
+        let first = after.first().copied().unwrap_or("");
+        let foreign = self.foreign_reason(first)?;
+        if foreign.is_some() {
+            return Ok(foreign);
+        }
+        if self.meant.is_some() && without_word(self.alloc, plain)? == Wordless::Sets {
+            return Ok(Some(String::from_str(self.alloc, "a word is missing")?));
+        }
+        if self.text.contains('(') && (self.meant.is_some() || word_of(first).is_some()) {
+            return Ok(Some(self.call_reason(parts)?));
+        }
+        if after.len() < parts.len() {
+            return self.operator_reason(after);
+        }
+        Ok(None)
+    }
+
+    /// What is wrong with the whole line, if it is written in the manner of C.
+    fn form_reason(&self) -> Made<Option<String>> {
+        if self.text.len() > 80 || self.text.chars().any(is_hidden) {
+            return Ok(None);
+        }
+        let plain = plain_line(self.alloc, self.text)?;
+        let plain = plain.as_str();
+        if let Some(reason) = self.sign_reason(plain)? {
+            return Ok(Some(String::from_str(self.alloc, reason)?));
+        }
+        let parts = fields_of(self.alloc, plain)?;
+        self.plain_reason(plain, &parts)
+    }
+
+    /// What makes the line the one that is meant, if that is known. `part` is the number of the part that is wrong.
+    fn fix(&self, part: usize) -> Made<Option<Fix>> {
+        match self.meant {
+            None => Ok(None),
+            Some(meant) => fix_of_line(self.alloc, self.text, part, meant),
+        }
+    }
+
+    /// The word that the line has, or that is meant by what it has in its place.
+    fn word(&self) -> Made<Option<Word>> {
+        let plain = plain_line(self.alloc, self.text)?;
+        let parts = fields_of(self.alloc, plain.as_str())?;
+        let (_, after) = cut(&parts);
+        word_meant(self.alloc, after.first().copied().unwrap_or(""))
+    }
+
+    /// Why the line is not one of an interrupt, if it has a word that no interrupt has, or if what is said of it names
+    /// one.
+    fn interrupt_reason(&self, reason: &str) -> Made<Option<String>> {
+        if !self.is_interrupt || self.meant.is_some() {
+            return Ok(None);
+        }
+        match self.word()? {
+            Some(word) if is_word_of_interrupt(word) => Ok(None),
+            Some(word) => Ok(Some(lacked_in_interrupt(self.alloc, word.text())?)),
+            None
+                if ["Jump", "RemTask", "Wait", "IO", "Mem", "Sem"]
+                    .iter()
+                    .any(|name| reason.contains(*name)) => {
+                Ok(Some(lacked_in_interrupt(self.alloc, "such command")?))
+            }
+            None => Ok(None),
         }
     }
 
     /// What is wrong before a mistake in its words, or else that.
-    fn first_mistake(&self, parts: &[&str], mistake: Advice) -> Made<Advice> {
-        if let Some(reason) = self.meant()? {
+    fn first_mistake(&self, parts: &[&str], mistake: Mistake) -> Made<Advice> {
+        if let Some(reason) = self.form_reason()? {
             let (start, width) = (0, width_of(self.text));
             let span = Span { start, width };
-            return Ok(Advice { span, reason });
+            let fix = self.fix(parts.len())?;
+            return Ok(Advice { span, reason, fix });
         }
-        match spacing_advice(self.alloc, self.text, parts)? {
-            Some(advice) => Ok(advice),
-            None => Ok(mistake),
+        if let Some(mut advice) = spacing_advice(self.alloc, self.text, parts)? {
+            advice.fix = self.fix(parts.len())?;
+            return Ok(advice);
+        }
+        let Mistake { part, sentence } = mistake;
+        let fix = self.fix(part)?;
+        Ok(Advice::of_field(self.text, part, sentence, fix))
+    }
+
+    /// What is wrong with the line.
+    fn advice(&self) -> Made<Advice> {
+        let parts = fields_of(self.alloc, self.text)?;
+        match self.mistake(&parts)? {
+            Some(mistake) if label_in(self.text).is_none() => {
+                let mut advice = self.first_mistake(&parts, mistake)?;
+                if let Some(reason) = self.interrupt_reason(advice.reason.as_str())? {
+                    advice.reason = reason;
+                }
+                Ok(advice)
+            }
+            _ => Advice::new(
+                self.alloc,
+                field_span(self.text, 0),
+                "this line is not a command",
+            ),
         }
     }
 }
 
-/// The part of a line for which it is not a command, and why. `softints` are the software interrupts of the file.
+/// The part of a line for which it is not a command, and why, with the line that is meant if that can be told as a
+/// whole. `body` is the body of the line.
 ///
 /// A tab, a part that no line has or a space that separates nothing goes before the mistake in its words: a word that is wanted or is not
 /// known, a target, or an argument. In a line with no mistake it is the first part.
-pub fn line_advice(alloc: Global, softints: &[Value], text: &str) -> Made<Advice> {
+pub fn line_advice(body: Mending<'_>, text: &str) -> Made<Advice> {
+    let Mending {
+        alloc,
+        table,
+        is_interrupt,
+        ..
+    } = body;
+    let found = body.line_meant(text)?;
+    let meant = match &found {
+        None => None,
+        Some(meant) => Some(meant.as_str()),
+    };
     let line = Line {
         alloc,
-        softints,
+        table,
         text,
+        meant,
+        is_interrupt,
     };
-    let parts = fields_of(alloc, text)?;
-    match line.mistake(&parts)? {
-        Some(mistake) if label_in(text).is_none() => line.first_mistake(&parts, mistake),
-        _ => Advice::new(alloc, field_span(text, 0), "this line is not a command"),
-    }
+    line.advice()
 }

@@ -15,6 +15,14 @@ pub fn array_of(owner: Owner) -> Array {
     }
 }
 
+/// Whether the body of an owner is that of an interrupt.
+pub(crate) fn is_interrupt(owner: Owner) -> bool {
+    match owner {
+        Owner::Softint | Owner::Server => true,
+        Owner::Task => false,
+    }
+}
+
 /// The lines of the body that a place is in.
 pub fn body_at(table: &Table, place: LinePlace) -> &[Value] {
     match items_at(table, array_of(place.owner).key()).get(place.item) {

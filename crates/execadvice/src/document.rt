@@ -1,17 +1,36 @@
 //! What is said of bytes that are no TOML document.
 
+use crate::diagnostic::{Diagnostic, of_line};
 use crate::escaped::hidden_reason;
-use crate::events::is_event;
+use crate::events::{is_event, is_of_trace};
+use crate::held::{table_with, value_held};
 use crate::made::Made;
-use crate::show::{Advice, Span, width_of};
+use crate::reads::says_something;
+use crate::show::{Advice, Fix, Span, width_of};
 use crate::text::{Text, text_or_nothing};
 use crate::written::FilePlace;
 use escape::is_hidden;
 use std::alloc::Global;
 use std::str::from_utf8;
+use taskscript::Key;
 
-/// What is likely wrong at a character that TOML does not take; `before` is the character before it.
-fn likely_reason(before: char, c: char) -> Option<&'static str> {
+/// What is said of a line that is none of TOML.
+const PAIRS: &str = "a line is KEY = VALUE, or the head of a table, as [[task]]";
+
+/// What is said of a line of an event text.
+const EVENT: &str =
+    "this is a line of an event text; the machine file is the first path, and the event text the second";
+
+/// What is said of a line of a trace.
+const TRACE: &str =
+    "this is a line of a trace, which execsim writes; the first path is the machine file";
+
+/// What is said of a line of code.
+const CODE: &str =
+    "this is a line of code; it belongs between double quotes, in the code of a task: code = [\"Print 1\"]";
+
+/// What is likely wrong at a character that TOML does not take.
+fn character_likely(c: char) -> Option<&'static str> {
     match c {
         '\n' => Some("a string ends in its line, with the quote that began it"),
         ';' => Some("TOML has no semicolons, and a comment begins with #"),
@@ -19,47 +38,210 @@ fn likely_reason(before: char, c: char) -> Option<&'static str> {
         '\u{201C}' | '\u{201D}' | '\u{201E}' => Some("put a plain quote, \", in place of this one"),
         '\u{2018}' | '\u{2019}' => Some("put a plain quote, ', in place of this one"),
         '\0' => Some("this is not a text: it has bytes that are 0"),
-        _ if before == '"' => Some(
-            "a double quote within a string is written \\\", or the string is put between single quotes",
+        '\r' => Some("lines end with a line feed, not with a carriage return alone"),
+        '{' => Some(
+            "this is JSON; a machine file is TOML, with KEY = VALUE, and [[task]] above each task",
         ),
-        _ if before == ' ' && c.is_ascii_alphabetic() => Some("text is put between double quotes"),
+        '<' => Some(
+            "this is no TOML: a machine file has KEY = VALUE, and [[task]] above each task",
+        ),
+        ':' => Some("TOML has = between a key and its value"),
+        '(' | ')' | '}' => Some("an array is between [ and ]"),
+        '*' | '+' => Some("a value is one number: nothing is calculated"),
         _ => None,
+    }
+}
+
+/// What is likely wrong at a character that TOML does not take; `before` is the character before it, and `wants_value`
+/// says whether a value has to be there.
+fn likely_reason(before: char, c: char, wants_value: bool) -> Option<&'static str> {
+    if c == ',' {
+        return Some(if wants_value {
+            "a value is missing before the comma"
+        } else {
+            "there is no comma after a value"
+        });
+    }
+    let likely = character_likely(c);
+    if likely.is_some() {
+        return likely;
+    }
+    if before == '"' && c != ']' {
+        return Some(
+            "a double quote within a string is written \\\", or the string is put between single quotes",
+        );
+    }
+    if wants_value && c.is_ascii_alphabetic() {
+        Some("text is put between double quotes")
+    } else {
+        None
     }
 }
 
 /// What the reader of TOML says at a character, and what is likely wrong. `before` is the character before it.
 fn character_reason(alloc: Global, message: &str, before: char, c: char) -> Made<String> {
-    match likely_reason(before, c) {
+    match likely_reason(before, c, message.starts_with("invalid value")) {
         Some(reason) => format!(in alloc; "{message}; {reason}"),
         None if is_hidden(c) => {
             let reason = hidden_reason(alloc, c)?;
             format!(in alloc; "{message}; {reason}")
         }
+        None if message.starts_with("key with no value") => {
+            format!(in alloc; "{message}; {PAIRS}")
+        }
         None => String::from_str(alloc, message),
     }
 }
 
-/// Why bytes are no document, at a character of a line that is text, by its number from 0. `message` is what the reader of TOML says.
-fn reason_in(alloc: Global, line: &str, start: usize, message: &str) -> Made<String> {
-    if is_event(line) {
-        return String::from_str(
-            alloc,
-            "this is a line of an event text; the machine file is the first path, and the event text the second",
-        );
+/// The key and the value of a line, if it has the form of them: what is before and after its first `=`, or its first
+/// colon.
+fn pair_of(line: &str) -> Option<(&str, &str)> {
+    let (key, value) = match line.split_once("=") {
+        Some(pair) => pair,
+        None => line.split_once(":")?,
+    };
+    let value = match value.split_once(" #") {
+        None => value,
+        Some((value, _)) => value,
+    };
+    Some((key.trim(), value.trim()))
+}
+
+/// The key of a line whose value is not one of TOML, and the value that is meant, if it is known.
+fn value_in(alloc: Global, line: &str, message: &str) -> Made<Option<(Key, Option<String>)>> {
+    let Some((name, value)) = pair_of(line) else {
+        return Ok(None);
+    };
+    if message == "duplicate key" || value.is_empty() || lacks_equals(line, message) {
+        return Ok(None);
+    }
+    let Some((of, key)) = table_with(name) else {
+        return Ok(None);
+    };
+    let plain = value.trim_end_matches(',').trim_end_matches(';');
+    Ok(match value_held(alloc, of, key, plain)? {
+        Some(held) if held.as_str() != value || !line.contains('=') => Some((key, Some(held))),
+        _ => Some((key, None)),
+    })
+}
+
+/// Whether a line is refused at its key, though it has a `=`.
+fn lacks_equals(line: &str, message: &str) -> bool {
+    message.starts_with("key with no value") && line.contains('=')
+}
+
+/// What is said of a value that is not one of TOML, by what its key holds.
+fn value_reason(key: Key) -> Option<&'static str> {
+    match key {
+        Key::Claim | Key::Start => Some("the value is true or false"),
+        Key::Name | Key::Source | Key::Code => None,
+        _ => Some("a number is in decimal digits, or in base 16 after 0x"),
+    }
+}
+
+/// What is said of a line that is one of another text.
+fn other_text_reason(alloc: Global, line: &str) -> Made<Option<&'static str>> {
+    if is_event(line) && !line.contains('=') {
+        return Ok(Some(EVENT));
+    }
+    if is_of_trace(line) {
+        return Ok(Some(TRACE));
+    }
+    if says_something(alloc, line.trim())? && line.contains(' ') {
+        return Ok(Some(CODE));
+    }
+    Ok(if line.starts_with("---") || line.trim_start().starts_with("- ") {
+        Some("this is YAML; a machine file is TOML, with KEY = VALUE, and [[task]] above each task")
+    } else {
+        None
+    })
+}
+
+/// What is said where a line ends too soon.
+fn end_reason(alloc: Global, line: &str, message: &str) -> Made<String> {
+    if message == "invalid string" {
+        return character_reason(alloc, message, ' ', '\n');
+    }
+    if !message.starts_with("invalid value") {
+        return character_reason(alloc, message, ' ', ' ');
+    }
+    let what = if line.contains('=') {
+        "a value is missing after the ="
+    } else {
+        "an array that begins with [ ends with ]"
+    };
+    format!(in alloc; "{message}; {what}")
+}
+
+/// Why bytes are no document, at a character of a line that is text, by its number from 0. `message` is what the
+/// reader of TOML says, and `key` the key of the line if its value is of another form.
+fn reason_in(
+    alloc: Global,
+    line: &str,
+    start: usize,
+    message: &str,
+    key: Option<Key>,
+) -> Made<String> {
+    if let Some(reason) = other_text_reason(alloc, line)? {
+        return String::from_str(alloc, reason);
     }
     let before = match start {
         0 => '\n',
         _ => line.chars().nth(start.saturating_sub(1)).unwrap_or('\n'),
     };
     let c = line.chars().nth(start).unwrap_or('\n');
-    if c == '\n' && message != "invalid string" {
-        return String::from_str(alloc, message);
+    let likely = match key {
+        None => None,
+        Some(key) => value_reason(key),
+    };
+    match likely {
+        Some(reason) if c != ',' && character_likely(c).is_none() => {
+            format!(in alloc; "{message}; {reason}")
+        }
+        _ if c == '\n' || c == '#' => end_reason(alloc, line, message),
+        _ => character_reason(alloc, message, before, c),
     }
-    character_reason(alloc, message, before, c)
+}
+
+/// What is put in place of the key and the value of a line, so that the value is that text.
+fn fix_of_value(alloc: Global, line: &str, text: &str) -> Made<Option<Fix>> {
+    let Some((name, value)) = pair_of(line) else {
+        return Ok(None);
+    };
+    if !line.contains('=') {
+        let (start, width) = (0, width_of(line));
+        let text = format!(in alloc; "{name} = {text}")?;
+        let span = Span { start, width };
+        return Ok(Some(Fix { span, text }));
+    }
+    let (before, _) = line.split_once(value).unwrap_or((line, ""));
+    let (start, width) = (width_of(before), width_of(value));
+    let span = Span { start, width };
+    let text = String::from_str(alloc, text)?;
+    Ok(Some(Fix { span, text }))
+}
+
+/// What is wrong with a line that is text, at a character by its number from 0. `width` is how many characters are
+/// marked.
+fn line_advice(alloc: Global, line: &str, span: Span, message: &str) -> Made<Advice> {
+    match value_in(alloc, line, message)? {
+        None => {
+            let reason = reason_in(alloc, line, span.start, message, None)?;
+            Advice::new(alloc, span, reason.as_str())
+        }
+        Some((key, meant)) => {
+            let reason = reason_in(alloc, line, span.start, message, Some(key))?;
+            let fix = match meant {
+                None => None,
+                Some(text) => fix_of_value(alloc, line, text.as_str())?,
+            };
+            Ok(Advice { span, reason, fix })
+        }
+    }
 }
 
 /// Why bytes are no text.
-fn reason_of_bytes(bytes: &[u8]) -> &'static str {
+pub(crate) fn reason_of_bytes(bytes: &[u8]) -> &'static str {
     match bytes {
         [0xFF, 0xFE, ..] | [0xFE, 0xFF, ..] => {
             "this file is written in UTF-16; save it in UTF-8"
@@ -68,8 +250,12 @@ fn reason_of_bytes(bytes: &[u8]) -> &'static str {
     }
 }
 
-/// What there is to say of what is no document: what the reader of TOML says, at its place.
-pub fn no_document_text(text: &Text<'_>, name: &str, error: &toml::de::Error) -> Made<String> {
+/// What is said of what is no document: what the reader of TOML says, at its place.
+pub(crate) fn no_document(
+    text: &Text<'_>,
+    rule: &'static str,
+    error: &toml::de::Error,
+) -> Made<Diagnostic> {
     let (offset, end) = match error.span() {
         None => (0, 1),
         Some(span) => (span.start, span.end),
@@ -83,10 +269,10 @@ pub fn no_document_text(text: &Text<'_>, name: &str, error: &toml::de::Error) ->
             // Marks are under what of the error is in the line, but under one character at least.
             let left = width_of(line).saturating_sub(start);
             let width = end.saturating_sub(offset).min(left).max(1);
-            let reason = reason_in(text.alloc, line, start, error.message())?;
             let span = Span { start, width };
-            text.line_text(line, at.line, name, &Advice { span, reason })
+            let advice = line_advice(text.alloc, line, span, error.message())?;
+            of_line(text.alloc, rule, line, at.line, advice)
         }
-        Err(_) => text.bytes_text(at.line, name, start, reason_of_bytes(text.bytes)),
+        Err(_) => text.bytes_found(at.line, rule, start, reason_of_bytes(text.bytes)),
     }
 }

@@ -3,12 +3,15 @@ ghost use Rattle.std.specs.Prelude.{◌≡◌, Some, IfOk};
 ghost use Rattle.taskscript.specs.Events.{script_of};
 ghost use Rattle.execadvice.specs.Findings.{fault_of};
 
-use crate::file::first_line;
+use crate::diagnostic::{Diagnostic, of_line};
+use crate::document::reason_of_bytes;
 use crate::made::Made;
-use crate::near::{are_digits, proposing_nearest};
-use crate::show::{Advice, Span, field_span, width_of};
+use crate::near::{are_digits, nearest};
+use crate::proposal::change;
+use crate::show::{Advice, Fix, Span, field_span, width_of};
 use crate::spacing::hidden_advice;
 use crate::text::{Text, is_line_feed, text_or_nothing};
+use crate::values::number_meant;
 use escape::is_hidden;
 use std::alloc::{AllocError, Global};
 use std::str::from_utf8;
@@ -27,24 +30,37 @@ fn number_reason_of(digits: &str, short: &str) -> &'static str {
     }
 }
 
-/// Why a number of turns is none.
-fn number_reason(alloc: Global, digits: &str) -> Made<String> {
-    let short = digits.trim_start_matches('0');
-    if !short.is_empty() && short.len() < digits.len() && are_digits(digits) {
-        return format!(in alloc; "a number has no zero before its digits; did you mean {short}?");
-    }
-    String::from_str(alloc, number_reason_of(digits, short))
+/// What is wrong with the part of that number of a line, and the event that is likely meant.
+fn part_advice(alloc: Global, line: &str, part: usize, reason: &str) -> Made<Advice> {
+    let reason = String::from_str(alloc, reason)?;
+    let fix = fix_of_event(alloc, line, part)?;
+    Ok(Advice::of_field(line, part, reason, fix))
 }
 
-fn source_reason(alloc: Global, name: &str) -> Made<String> {
-    if name.eq_ignore_ascii_case("VERTB") {
-        return String::from_str(
-            alloc,
-            "VERTB comes with each tick; PORTS and EXTER are asked for by irq",
-        );
-    }
-    let sources = ["PORTS", "EXTER"];
-    proposing_nearest(alloc, "expected PORTS or EXTER here", name, &sources, "")
+/// Why a number of turns is none.
+fn number_advice(alloc: Global, line: &str, digits: &str) -> Made<Advice> {
+    let short = digits.trim_start_matches('0');
+    let reason = if !short.is_empty() && short.len() < digits.len() && are_digits(digits) {
+        "a number has no zero before its digits"
+    } else {
+        number_reason_of(digits, short)
+    };
+    part_advice(alloc, line, 1, reason)
+}
+
+/// Why a name is none of a source that is asked for.
+fn source_advice(alloc: Global, line: &str, name: &str) -> Made<Advice> {
+    let reason = if name.eq_ignore_ascii_case("VERTB") {
+        "VERTB comes with each tick; PORTS and EXTER are asked for by irq"
+    } else {
+        "expected PORTS or EXTER here, a source of interrupts"
+    };
+    part_advice(alloc, line, 1, reason)
+}
+
+/// Why the first word of a line begins no event.
+fn word_advice(alloc: Global, line: &str) -> Made<Advice> {
+    part_advice(alloc, line, 0, "a line is run N, tick N or irq S")
 }
 
 /// What is wrong with the spaces of a line, or with its end.
@@ -83,51 +99,175 @@ fn is_of_machine_file(line: &str) -> bool {
     line.starts_with("[[") || line.contains(" = ") || line.starts_with("version=")
 }
 
-/// Why the first word of a line begins no event.
-fn word_reason(alloc: Global, word: &str) -> Made<String> {
-    let words = ["run", "tick", "irq"];
-    proposing_nearest(alloc, "a line is run N, tick N or irq S", word, &words, "")
+/// Whether a line is one of a trace.
+pub(crate) fn is_of_trace(line: &str) -> bool {
+    let digits = match line.rsplit_once(" $") {
+        None => "",
+        Some((_, digits)) => digits,
+    };
+    let is_result = digits.len() == 8 && digits.as_bytes().iter().all(|b| b.is_ascii_hexdigit());
+    line == "idle" || line.starts_with("switch ") || is_result && !line.contains('=')
+}
+
+/// The word of an event that is meant by another one.
+fn word_meant(alloc: Global, word: &str) -> Made<Option<&'static str>> {
+    let lower = word.to_ascii_lowercase(alloc)?;
+    let meant = match lower.as_str() {
+        "step" | "steps" | "go" => "run",
+        "vblank" | "vertb" => "tick",
+        "int" | "interrupt" => "irq",
+        _ => return nearest(alloc, word, &["run", "tick", "irq"]),
+    };
+    Ok(Some(meant))
+}
+
+/// Whether a character of other languages separates the parts of an event.
+fn is_apart(c: char) -> bool {
+    match c {
+        '(' | ')' | ':' | ';' | '=' | '"' => true,
+        _ => c.is_whitespace(),
+    }
+}
+
+/// A line without the signs of other languages.
+fn plain_event(alloc: Global, line: &str) -> Made<String> {
+    let mut out = String::new(alloc);
+    let mut was_apart = false;
+    for c in line.chars() {
+        if is_apart(c) {
+            was_apart = !out.is_empty();
+        } else if c != '_' && c != ',' && !is_hidden(c) {
+            if was_apart {
+                out.push(' ')?;
+            }
+            was_apart = false;
+            out.push(c)?;
+        }
+    }
+    Ok(out)
+}
+
+/// The argument of an event that is meant by another one.
+fn argument_meant(alloc: Global, word: &str, argument: &str) -> Made<Option<String>> {
+    if word == "irq" {
+        return match nearest(alloc, argument, &["PORTS", "EXTER"])? {
+            None => Ok(None),
+            Some(source) => Ok(Some(String::from_str(alloc, source)?)),
+        };
+    }
+    let short = argument.trim_start_matches('+').trim_start_matches('0');
+    if argument.ends_with("k") || argument.ends_with("K") || argument.ends_with("M") {
+        return Ok(None);
+    }
+    match number_meant(
+        alloc,
+        if are_digits(argument) {
+            short
+        } else {
+            argument
+        },
+    )? {
+        None => Ok(None),
+        Some(number) => Ok(Some(format!(in alloc; "{number}")?)),
+    }
+}
+
+/// The event that is meant by a word and an argument.
+fn event_of(alloc: Global, word: &str, argument: &str) -> Made<Option<String>> {
+    let Some(word) = word_meant(alloc, word)? else {
+        return Ok(None);
+    };
+    match argument_meant(alloc, word, argument)? {
+        None => Ok(None),
+        Some(argument) => Ok(Some(format!(in alloc; "{word} {argument}")?)),
+    }
+}
+
+/// The event that is meant by a line, if that can be told: a line that the reader of events accepts.
+fn event_meant(alloc: Global, line: &str) -> Made<Option<String>> {
+    let plain = plain_event(alloc, line)?;
+    let plain = plain.as_str();
+    let found = match plain.split_once(" ") {
+        None if are_digits(plain) => event_of(alloc, "run", plain)?,
+        None => None,
+        Some((word, argument)) => event_of(alloc, word, argument)?,
+    };
+    match found {
+        Some(event) if read_events(alloc, event.as_str().as_bytes()).is_ok() => Ok(Some(event)),
+        _ => Ok(None),
+    }
+}
+
+/// What makes a line the event that is meant, if that is known. `part` is the number of the part that is wrong.
+fn fix_of_event(alloc: Global, line: &str, part: usize) -> Made<Option<Fix>> {
+    match event_meant(alloc, line)? {
+        None => Ok(None),
+        Some(event) => Ok(Some(change(alloc, line, part, event.as_str())?)),
+    }
+}
+
+/// Whether a word begins an event.
+fn is_event_word(word: &str) -> bool {
+    word == "run" || word == "tick" || word == "irq"
+}
+
+/// Why a line with more than two parts is no event.
+fn rest_reason(rest: &str) -> &'static str {
+    let another = [" run ", " tick ", " irq "];
+    if another.iter().any(|event| rest.contains(*event)) {
+        "each event has a line of its own"
+    } else {
+        "a line ends with its one argument"
+    }
 }
 
 /// Why the parts of a line are no event, and which of them.
 fn parts_advice(alloc: Global, line: &str) -> Made<Advice> {
     let (word, rest) = line.split_once(" ").unwrap_or((line, ""));
+    if line.starts_with("//") || line.starts_with(";") || line.starts_with("REM ") {
+        return part_advice(alloc, line, 0, "a comment begins with #");
+    }
+    if !is_event_word(word) {
+        return word_advice(alloc, line);
+    }
     if rest.contains("#") {
-        return Advice::new(
-            alloc,
-            field_span(line, 1),
-            "a comment has a line of its own",
-        );
+        return part_advice(alloc, line, 1, "a comment has a line of its own");
     }
     if rest.contains(" ") {
-        return Advice::new(
-            alloc,
-            field_span(line, 2),
-            "a line ends with its one argument",
-        );
+        return part_advice(alloc, line, 2, rest_reason(rest));
     }
-    let (part, reason) = match word {
-        "run" | "tick" => (1, number_reason(alloc, rest)),
-        "irq" => (1, source_reason(alloc, rest)),
-        _ => (0, word_reason(alloc, word)),
-    };
-    Ok(Advice::of_field(line, part, reason?))
+    if word == "irq" {
+        source_advice(alloc, line, rest)
+    } else {
+        number_advice(alloc, line, rest)
+    }
 }
 
 /// Why a line is no event.
 fn event_advice(alloc: Global, line: &str) -> Made<Advice> {
-    if is_of_machine_file(line) {
+    if is_of_machine_file(line) && !is_event(line) {
         let reason =
             "this is a line of a machine file; the machine file is the first path, and the event text the second";
+        return Advice::new(alloc, field_span(line, 0), reason);
+    }
+    if is_of_trace(line) {
+        let reason =
+            "this is a line of a trace, which execsim writes; the second path is the event text";
         return Advice::new(alloc, field_span(line, 0), reason);
     }
     // A carriage return at the end has a reason of its own.
     let mut shown = line.trim_end_matches('\r').chars();
     if let Some(start) = shown.position(|c| is_hidden(c) && c != '\t') {
-        return hidden_advice(alloc, line, start);
+        let mut advice = hidden_advice(alloc, line, start)?;
+        advice.fix = fix_of_event(alloc, line, usize::MAX)?;
+        return Ok(advice);
     }
     match spacing_reason(line) {
-        Some((start, reason)) => Advice::new(alloc, Span { start, width: 1 }, reason),
+        Some((start, reason)) => {
+            let mut advice = Advice::new(alloc, Span { start, width: 1 }, reason)?;
+            advice.fix = fix_of_event(alloc, line, usize::MAX)?;
+            Ok(advice)
+        }
         None => parts_advice(alloc, line),
     }
 }
@@ -170,40 +310,47 @@ fn past_limit(bytes: &[u8]) -> Option<(usize, &'static str)> {
     None
 }
 
-/// What there is to say if the events are too many.
-fn too_many_text(text: &Text<'_>) -> Made<String> {
+/// What is said if the events are too many.
+fn too_many_found(text: &Text<'_>) -> Made<Diagnostic> {
+    let alloc = text.alloc;
     match past_limit(text.bytes) {
-        None => first_line(text.alloc, text.path, None, "", "TooMany"),
+        None => {
+            let reason = String::from_str(alloc, "there are too many steps, ticks or events")?;
+            Ok(Diagnostic::refusal(alloc, "TooMany", reason))
+        }
         Some((number, reason)) => {
             let line = text_or_nothing(text.line(number));
             let (start, width) = (0, width_of(line));
-            let advice = Advice::new(text.alloc, Span { start, width }, reason)?;
-            text.line_text(line, number, "TooMany", &advice)
+            let advice = Advice::new(alloc, Span { start, width }, reason)?;
+            of_line(alloc, "TooMany", line, number, advice)
         }
     }
 }
 
-/// What there is to say of the line of a number, from 1, which is no event.
-fn bad_line_text(text: &Text<'_>, number: usize) -> Made<String> {
+/// What is said of the line of a number, from 1, which is no event.
+fn bad_line_found(text: &Text<'_>, number: usize) -> Made<Diagnostic> {
     let bytes = text.line(number);
     match from_utf8(bytes) {
         Ok(line) => {
             let advice = event_advice(text.alloc, line)?;
-            text.line_text(line, number, "BadLine", &advice)
+            of_line(text.alloc, "BadLine", line, number, advice)
         }
         Err(_) => {
             let start = bytes.iter().position(|byte| !byte.is_ascii()).unwrap_or(0);
-            let reason = "this is not valid UTF-8; save the file in UTF-8";
-            text.bytes_text(number, "BadLine", start, reason)
+            let reason = match text.bytes {
+                [0xFF, 0xFE, ..] | [0xFE, 0xFF, ..] => reason_of_bytes(text.bytes),
+                _ => "this is not valid UTF-8; save the file in UTF-8",
+            };
+            text.bytes_found(number, "BadLine", start, reason)
         }
     }
 }
 
-/// What there is to say of a fault.
-fn fault_text(text: &Text<'_>, fault: EventFault) -> Made<String> {
+/// What is said of a fault.
+fn fault_found(text: &Text<'_>, fault: EventFault) -> Made<Diagnostic> {
     match fault {
-        EventFault::BadLine(number) => bad_line_text(text, number),
-        EventFault::TooMany => too_many_text(text),
+        EventFault::BadLine(number) => bad_line_found(text, number),
+        EventFault::TooMany => too_many_found(text),
         EventFault::OutOfMemory => Err(AllocError),
     }
 }
@@ -213,39 +360,40 @@ fn fault_text(text: &Text<'_>, fault: EventFault) -> Made<String> {
 pub struct EventsFinding {
     /// The fault for which the text is refused, if it is; that of a line has the line's number.
     pub fault: Option<EventFault>,
-    /// What there is to say of it; nothing if nothing was found.
-    pub text: String,
+    /// What is said of it; nothing if nothing was found.
+    pub found: Vec<Diagnostic>,
 }
 
-/// What there is to say of a refused text.
-fn refusal(alloc: Global, path: &str, bytes: &[u8], fault: EventFault) -> Made<EventsFinding>
+/// What is said of a refused text.
+fn refusal(alloc: Global, bytes: &[u8], fault: EventFault) -> Made<EventsFinding>
     ensures fault { IfOk result (λ finding. finding.fault ≡ Some fault) }
 {
-    let text = fault_text(&Text { alloc, path, bytes }, fault)?;
+    let mut found = Vec::new(alloc);
+    found.push(fault_found(&Text { alloc, bytes }, fault)?)?;
     Ok(EventsFinding {
         fault: Some(fault),
-        text,
+        found,
     })
 }
 
-/// What the bytes of an event text are refused for, and at which line. `path` is before each place.
+/// What the bytes of an event text are refused for, and at which line.
 ///
 /// The text is refused exactly if `execsim` refuses it, with that fault; that of BadLine is the number of the line. What is said of it
-/// begins with its place and the name of the fault, and shows that line with marks under a part of it and a reason; of too many events a
-/// line is shown, or none. Nothing is said of a text that is accepted.
+/// has its place and the name of the fault, and shows that line with marks under a part of it; of too many events a line is shown, or
+/// none. Nothing is said of a text that is accepted.
 ///
 /// # Errors
 ///
 /// If memory is refused, by the reader too.
-pub fn check_events(alloc: Global, path: &str, bytes: &[u8]) -> Result<EventsFinding, AllocError>
+pub fn check_events(alloc: Global, bytes: &[u8]) -> Result<EventsFinding, AllocError>
     ensures fault { IfOk result (λ finding. finding.fault ≡ fault_of (script_of bytes.now)) }
 {
     match read_events(alloc, bytes) {
         Ok(_) => Ok(EventsFinding {
             fault: None,
-            text: String::new(alloc),
+            found: Vec::new(alloc),
         }),
         Err(EventFault::OutOfMemory) => Err(AllocError),
-        Err(fault) => refusal(alloc, path, bytes, fault),
+        Err(fault) => refusal(alloc, bytes, fault),
     }
 }

@@ -1,41 +1,22 @@
 //! A machine file that has a tree, and what there is to say of a line of its code.
 
 use crate::bodies::{array_of, line_at};
+use crate::diagnostic::{Bearer, Diagnostic, Edit, FileSpan, Severity};
 use crate::escaped::shown_name;
 use crate::made::Made;
 use crate::members::name_of;
-use crate::show::{Advice, push_marked};
-use crate::written::{FilePlace, Written};
-use escape::shown_text;
+use crate::show::{Advice, Fix, Span, width_of};
+use crate::written::{Written, encoded};
 use std::alloc::{AllocError, Global};
 use taskscript::{Array, LinePlace, items_at};
 use toml::Table;
 
-/// A machine file that has a tree: its path, where its parts are written, and the tree.
+/// A machine file that has a tree: where its parts are written, and the tree.
 #[derive(Drop)]
-pub struct File<'p, 'a> {
+pub struct File<'a> {
     pub alloc: Global,
-    pub path: &'p str,
     pub written: Written<'a>,
     pub table: Table,
-}
-
-/// The path of a file, a place in it if that is known, the place in words, and a name.
-pub fn first_line(
-    alloc: Global,
-    path: &str,
-    place: Option<FilePlace>,
-    words: &str,
-    name: &str,
-) -> Made<String> {
-    let path = shown_text(alloc, path)?;
-    match place {
-        None => format!(in alloc; "{path}: {words}{name}\n"),
-        Some(place) => {
-            let FilePlace { line, column } = place;
-            format!(in alloc; "{path}:{line}:{column}: {words}{name}\n")
-        }
-    }
 }
 
 /// What an array's items are.
@@ -58,30 +39,68 @@ pub fn name_at(table: &Table, array: Array, item: usize) -> &str {
 }
 
 /// A line of a body, by what has the body and its name, and the line's number from 1.
-fn line_words(alloc: Global, table: &Table, place: LinePlace) -> Made<String> {
-    let array = array_of(place.owner);
-    let (word, number) = (item_word(array), place.line.saturating_add(1));
-    let name = shown_name(alloc, name_at(table, array, place.item))?;
-    format!(in alloc; "in {word} \"{name}\", line {number} of its code: ")
+fn line_words(alloc: Global, array: Array, name: &str, line: usize) -> Made<String> {
+    let (word, number) = (item_word(array), line.saturating_add(1));
+    let name = shown_name(alloc, name)?;
+    format!(in alloc; "in {word} \"{name}\", line {number} of its code")
 }
 
-/// What there is to say of a line of a body: its place with a name, and the line with marks under a part of it and a reason.
+/// The part of the file that some characters of a line of a body are, if the file shows it.
+pub fn span_in(written: &Written<'_>, place: LinePlace, span: Span) -> Option<FileSpan> {
+    let start = written.place_of_code(place, span.start)?;
+    let end = written.place_of_code(place, span.start.saturating_add(span.width))?;
+    Some(FileSpan { start, end })
+}
+
+/// What puts a text in place of some characters of a line of a body, if the line has them, the file shows it, and its string can hold the text.
+fn edit_of(
+    alloc: Global,
+    written: &Written<'_>,
+    place: LinePlace,
+    line: &str,
+    fix: &Fix,
+) -> Made<Option<Edit>> {
+    if fix.span.start.saturating_add(fix.span.width) > width_of(line) {
+        return Ok(None);
+    }
+    let (Some(span), Some(string)) = (span_in(written, place, fix.span), written.string_at(place))
+    else {
+        return Ok(None);
+    };
+    match encoded(alloc, string, fix.text.as_str())? {
+        None => Ok(None),
+        Some(text) => Ok(Some(Edit { span, text })),
+    }
+}
+
+/// What is said of a line of a body: where it is in the file, its place with a name, and the line with marks under a part of it.
 ///
 /// # Errors
 ///
 /// If memory is refused.
-pub fn line_text(
+pub fn line_found(
     alloc: Global,
-    path: &str,
     written: &Written<'_>,
     table: &Table,
     place: LinePlace,
-    name: &str,
-    advice: &Advice,
-) -> Result<String, AllocError> {
-    let words = line_words(alloc, table, place)?;
-    let at = written.place_of_code(place, advice.span.start);
-    let mut text = first_line(alloc, path, at, words.as_str(), name)?;
-    push_marked(alloc, &mut text, line_at(table, place), advice)?;
-    Ok(text)
+    grade: (Severity, &'static str),
+    advice: Advice,
+) -> Result<Diagnostic, AllocError> {
+    let Advice { span, reason, fix } = advice;
+    let (severity, rule) = grade;
+    let (array, owner, line) = (array_of(place.owner), place.owner, line_at(table, place));
+    let name = name_at(table, array, place.item);
+    let mut found = Diagnostic::new(alloc, severity, rule, reason);
+    found.at = match span_in(written, place, span) {
+        None => None,
+        Some(at) => Some(FileSpan::between(at.start, at.end)),
+    };
+    found.whose = line_words(alloc, array, name, place.line)?;
+    let name = String::from_str(alloc, name)?;
+    found.bearer = Some(Bearer { owner, name });
+    if let Some(fix) = fix {
+        found.fix = edit_of(alloc, written, place, line, &fix)?;
+        found.meant = Some(fix.text);
+    }
+    found.showing(alloc, line, span)
 }

@@ -60,6 +60,19 @@ const END: &str = "RemTask 0, or nothing: the end of the code ends the task";
 
 const NEW_TASK: &str = "a [[task]] table with start = false, and AddTask NUMBER";
 
+/// How two values are compared.
+const COMPARE: &str = "d = Sub x y and then JumpZ d LABEL or JumpNZ d LABEL";
+
+/// What has the place of a call of one's own code.
+const NO_CALLS: &str = "Jump LABEL: there are no subroutines";
+
+/// How a task lets another run.
+const YIELD: &str =
+    "me = FindTask 0 and then SetTaskPri me 0, which lets tasks of that priority run";
+
+/// How a number is divided.
+const COUNT_DOWN: &str = "a loop of Sub";
+
 /// What has the place of a semaphore that more than one task may have.
 const NOT_SHARED: &str = "ObtainSemaphore s, since semaphores are not shared here";
 
@@ -67,7 +80,7 @@ const NOT_SHARED: &str = "ObtainSemaphore s, since semaphores are not shared her
 const READ_TIME: &str = "SetIO r 10 0 0 and then DoIO r; the time is in IOSecs r and IOMicros r";
 
 /// Names of Exec and of other systems, each with what is written in their place.
-const NAMES: [(&str, &str); 56] = [
+const NAMES: [(&str, &str); 111] = [
     ("InitSemaphore", "s = NewSem"),
     (
         "AddSemaphore",
@@ -145,6 +158,64 @@ const NAMES: [(&str, &str); 56] = [
     ("WaitTOF", "Wait for a signal of a server of VERTB"),
     ("OldOpenLibrary", "b = OpenLibrary \"NAME\" 0"),
     ("nop", "x = Set x"),
+    (
+        "Mul",
+        "x = Add y y for twice y, and a loop for other products",
+    ),
+    ("Div", COUNT_DOWN),
+    ("Mod", COUNT_DOWN),
+    ("Shl", "x = Add y y for each place"),
+    ("Lsl", "x = Add y y for each place"),
+    ("Not", "x = Sub -1 y"),
+    ("Neg", "x = Sub 0 y"),
+    ("Xor", "o = Or x y, a = And x y and then x = Sub o a"),
+    ("Eor", "o = Or x y, a = And x y and then x = Sub o a"),
+    ("Inc", "x = Add x 1"),
+    ("Dec", "x = Sub x 1"),
+    ("Move", "x = Set VALUE"),
+    ("moveq", "x = Set VALUE"),
+    ("clr", "x = Set 0"),
+    ("addq", "x = Add x VALUE"),
+    ("subq", "x = Sub x VALUE"),
+    ("cmp", COMPARE),
+    ("tst", "JumpZ x LABEL or JumpNZ x LABEL"),
+    ("bra", "Jump LABEL"),
+    ("jmp", "Jump LABEL"),
+    ("break", "Jump LABEL"),
+    ("continue", "Jump LABEL"),
+    ("beq", "JumpZ x LABEL"),
+    ("bne", "JumpNZ x LABEL"),
+    ("dbra", "x = Sub x 1 and then JumpNZ x LABEL"),
+    ("JumpIf", "JumpNZ x LABEL"),
+    ("JumpEQ", COMPARE),
+    ("JumpNE", COMPARE),
+    ("JumpLT", COMPARE),
+    ("JumpGT", COMPARE),
+    ("else", "Jump LABEL before a label"),
+    ("WaitSignal", "Wait MASK"),
+    ("SendSignal", "Signal TASK MASK"),
+    ("def", NO_CALLS),
+    ("function", NO_CALLS),
+    ("call", NO_CALLS),
+    ("jsr", NO_CALLS),
+    ("bsr", NO_CALLS),
+    ("gosub", NO_CALLS),
+    ("pass", "nothing: a body may be empty"),
+    ("import", "nothing: all words are known"),
+    ("include", "nothing: all words are known"),
+    ("yield", YIELD),
+    ("Switch", YIELD),
+    ("Reschedule", YIELD),
+    ("WaitMsg", "WaitPort p and then m = GetMsg p"),
+    ("ReceiveMsg", "WaitPort p and then m = GetMsg p"),
+    ("SendMsg", "PutMsg p m"),
+    ("Next", "x = Succ x"),
+    ("Prev", "x = Pred x"),
+    ("Previous", "x = Pred x"),
+    ("rts", END),
+    ("end", END),
+    ("stop", END),
+    ("halt", END),
 ];
 
 const NO_RESOURCES: &str = "there are no resources";
@@ -237,14 +308,42 @@ const ABSENT: [(&str, &str); 46] = [
     ("ReadEClock", "there is no E clock"),
 ];
 
+/// The names of types, and what else is before the name of a variable that other languages declare.
+const TYPES: [&str; 31] = [
+    "struct", "int", "long", "short", "char", "void", "float", "double", "unsigned", "signed",
+    "const", "static", "register", "volatile", "auto", "bool", "ULONG", "LONG", "UWORD", "WORD",
+    "UBYTE", "BYTE", "APTR", "BOOL", "STRPTR", "uint32_t", "int32_t", "size_t", "var", "let",
+    "dim",
+];
+
+/// Whether a part is the name of a type, or another one that is before the name of a variable which is declared.
+pub(crate) fn is_type(part: &str) -> bool {
+    let name = part.trim_end_matches('*');
+    TYPES.iter().any(|row| name == *row) || name == "LET" || name == "DIM" || name == "Let"
+}
+
 /// The second part of the row of a name, in whatever case.
 fn row_of(rows: &[(&'static str, &'static str)], name: &str) -> Option<&'static str> {
     Some(rows.iter().find(|row| name.eq_ignore_ascii_case(row.0))?.1)
 }
 
+/// A name without what is after its dot in an assembler, and without what is before its last dot elsewhere.
+fn undotted(name: &str) -> &str {
+    match name.rsplit_once(".") {
+        Some((before, after)) if after.len() == 1 => before,
+        Some((_, after)) => after,
+        None => name,
+    }
+}
+
+/// What has the place of a name of Exec or of another system, as text.
+pub(crate) fn place_of(name: &str) -> Option<&'static str> {
+    row_of(&NAMES, undotted(name))
+}
+
 /// What is said of a name of Exec or of another system that is no word: how that begins, and what has its place or why nothing has.
 pub fn instead_of(name: &str) -> Option<(&'static str, &'static str)> {
-    match row_of(&NAMES, name) {
+    match place_of(name) {
         Some(text) => Some(("unknown word; write ", text)),
         None => Some(("not one of the calls here: ", row_of(&ABSENT, name)?)),
     }

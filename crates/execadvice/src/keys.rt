@@ -1,7 +1,8 @@
 //! The keys of the tables of a machine file, what each may hold, in words, and what is likely meant by another one.
 
+use crate::escaped::shown_name;
 use crate::made::Made;
-use crate::near::{nearest, proposing};
+use crate::near::nearest;
 use std::alloc::Global;
 use taskscript::{Array, Key, TablePlace};
 use toml::Table;
@@ -69,7 +70,11 @@ pub fn unknown_key(alloc: Global, of: TablePlace, table: &Table) -> Made<&str> {
 }
 
 /// Names that other systems have for keys, each with the keys that may be meant.
-const OTHER_KEYS: [(&str, &str); 16] = [
+const OTHER_KEYS: [(&str, &str); 20] = [
+    ("libraries", "library"),
+    ("lib", "library"),
+    ("libs", "library"),
+    ("interrupts", "server"),
     ("tasks", "task"),
     ("process", "task"),
     ("thread", "task"),
@@ -100,13 +105,22 @@ fn key_meant(name: &str, keys: &[&str]) -> Option<&'static str> {
 
 /// Why a key is none of a table, with the keys that the table may have.
 pub fn unknown_key_reason(alloc: Global, of: TablePlace, key: &str) -> Made<String> {
+    if of != TablePlace::Top && key_texts(alloc, TablePlace::Top)?.contains(&key) {
+        let reason = "this key belongs to the top of the file, above all tables";
+        return String::from_str(alloc, reason);
+    }
+    let (name, list) = (
+        shown_name(alloc, key)?,
+        key_texts(alloc, of)?.join(alloc, ", ")?,
+    );
+    format!(in alloc; "unknown key {name} in this table; its keys are {list}")
+}
+
+/// The key of a table that is likely meant by another one, if there is one.
+pub(crate) fn key_near(alloc: Global, of: TablePlace, key: &str) -> Made<Option<&'static str>> {
     let keys = key_texts(alloc, of)?;
-    let near = match key_meant(key, &keys) {
-        Some(meant) => Some(meant),
-        None => nearest(alloc, key, &keys)?,
-    };
-    let fault = proposing(alloc, "unknown key in this table", near, "")?;
-    let its = if near.is_some() { " Its" } else { "; its" };
-    let list = keys.join(alloc, ", ")?;
-    format!(in alloc; "{fault}{its} keys are {list}")
+    match key_meant(key, &keys) {
+        Some(meant) => Ok(Some(meant)),
+        None => nearest(alloc, key, &keys),
+    }
 }

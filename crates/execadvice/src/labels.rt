@@ -1,7 +1,8 @@
 //! Labels that are twice in a body, and jumps to labels that it lacks.
 
 use crate::made::Made;
-use crate::near::proposing_nearest;
+use crate::near::nearest;
+use crate::proposal::{fix_of_line, fix_of_part};
 use crate::said::{Said, label_of, said_by};
 use crate::show::{Advice, Span, width_of};
 use std::alloc::Global;
@@ -47,28 +48,38 @@ fn repeated(alloc: Global, labels: &[Label<'_>]) -> Made<Option<Advice>> {
             let reason = format!(in alloc;
                 "this label is already defined, in line {number} of the code"
             )?;
-            let span = label.span();
-            return Ok(Some(Advice { span, reason }));
+            let (span, fix) = (label.span(), None);
+            return Ok(Some(Advice { span, reason, fix }));
         }
     }
     Ok(None)
 }
 
-/// Why a body lacks the label of that name, to which a line jumps.
-fn astray_reason(alloc: Global, labels: &[Label<'_>], said: &Said<'_>, name: &str) -> Made<String> {
-    let first = said.arguments.get(0).copied().unwrap_or("");
+/// Why a body lacks the label of that name, to which a line jumps in the part of that number, and what is likely meant.
+fn astray_advice(
+    alloc: Global,
+    labels: &[Label<'_>],
+    said: &Said<'_>,
+    line: &str,
+    part: usize,
+) -> Made<Advice> {
+    let (first, name) = match said.arguments.as_slice() {
+        [first, name] => (*first, *name),
+        [name] => ("", *name),
+        _ => ("", ""),
+    };
     if label_named(labels, first).is_some() {
         let word = said.word.text();
-        return format!(in alloc; "the label is last; did you mean {word} {name} {first}?");
+        let meant = format!(in alloc; "{word} {name} {first}")?;
+        let fix = fix_of_line(alloc, line, part, meant.as_str())?;
+        let reason = String::from_str(alloc, "the label is last")?;
+        return Ok(Advice::of_field(line, part, reason, fix));
     }
     let names: Vec<&str> = labels.iter().map(|label| label.name).collect(alloc)?;
-    proposing_nearest(
-        alloc,
-        "the body has no label of this name",
-        name,
-        &names,
-        "",
-    )
+    let near = nearest(alloc, name, &names)?;
+    let fix = fix_of_part(alloc, line, part, near)?;
+    let reason = String::from_str(alloc, "the body has no label of this name")?;
+    Ok(Advice::of_field(line, part, reason, fix))
 }
 
 /// What is wrong with a line if it jumps to a label that is none of these.
@@ -78,8 +89,7 @@ fn astray(alloc: Global, labels: &[Label<'_>], line: &str) -> Made<Option<Advice
     };
     match said.jump() {
         Some((part, name)) if label_named(labels, name).is_none() => {
-            let reason = astray_reason(alloc, labels, &said, name)?;
-            Ok(Some(Advice::of_field(line, part, reason)))
+            Ok(Some(astray_advice(alloc, labels, &said, line, part)?))
         }
         _ => Ok(None),
     }

@@ -1,7 +1,6 @@
 //! The nearest of some texts, for proposals.
 
-use crate::made::Made;
-use std::alloc::Global;
+use std::alloc::{AllocError, Global};
 use strsim::osa_distance;
 
 /// The length in bytes of the longest text for which a proposal is looked for.
@@ -14,7 +13,15 @@ pub fn are_digits(text: &str) -> bool {
 
 /// The one of some texts that was likely meant: it differs in at most a third of its letters, and no other in fewer. Upper and lower case are
 /// the same, and two letters that changed places are one.
-pub fn nearest<'a>(alloc: Global, text: &str, among: &[&'a str]) -> Made<Option<&'a str>> {
+///
+/// # Errors
+///
+/// If memory is refused.
+pub fn nearest<'a>(
+    alloc: Global,
+    text: &str,
+    among: &[&'a str],
+) -> Result<Option<&'a str>, AllocError> {
     if text.len() > LONGEST {
         return Ok(None);
     }
@@ -36,23 +43,4 @@ pub fn nearest<'a>(alloc: Global, text: &str, among: &[&'a str]) -> Made<Option<
         }
     }
     Ok(found)
-}
-
-/// A sentence, and after it the question that proposes a text, if there is one, with that quote before and after the text.
-pub fn proposing(alloc: Global, sentence: &str, near: Option<&str>, quote: &str) -> Made<String> {
-    match near {
-        None => String::from_str(alloc, sentence),
-        Some(text) => format!(in alloc; "{sentence}; did you mean {quote}{text}{quote}?"),
-    }
-}
-
-/// A sentence, and after it the question that proposes the nearest of some texts, if one is near.
-pub fn proposing_nearest(
-    alloc: Global,
-    sentence: &str,
-    text: &str,
-    among: &[&str],
-    quote: &str,
-) -> Made<String> {
-    proposing(alloc, sentence, nearest(alloc, text, among)?, quote)
 }

@@ -8,7 +8,8 @@ use std::alloc::Global;
 
 /// What a part is that no line has, if it is one: a comment, or one with a comma or a semicolon at its end.
 fn reason_of(part: &str) -> Option<&'static str> {
-    if part.starts_with("#") || part.starts_with(";") || part.starts_with("//") {
+    let marks = ["#", ";", "//", "/*"];
+    if marks.iter().any(|mark| part.starts_with(*mark)) {
         Some("no comments inside a line of code; put it after the closing quote")
     } else if part.ends_with(",") {
         Some("put one space in place of the comma")
@@ -50,11 +51,12 @@ fn parts_advice(alloc: Global, line: &str, parts: &[&str]) -> Made<Option<Advice
 /// What is to be done about the hidden character of a line that has this number, from 0.
 pub fn hidden_advice(alloc: Global, line: &str, start: usize) -> Made<Advice> {
     let reason = match line.chars().nth(start).unwrap_or('\t') {
-        '\t' => format!(in alloc; "put one space in place of the tab")?,
+        '\t' => String::from_str(alloc, "put one space in place of the tab")?,
+        '\n' => String::from_str(alloc, "each line of code is a string of its own")?,
         c => hidden_reason(alloc, c)?,
     };
-    let span = Span { start, width: 1 };
-    Ok(Advice { span, reason })
+    let (span, fix) = (Span { start, width: 1 }, None);
+    Ok(Advice { span, reason, fix })
 }
 
 /// What is wrong with a line, which has these parts, before its words are looked at, and where: the first tab or other character that is not seen;

@@ -2,7 +2,8 @@
 
 use crate::escaped::shown_name;
 use crate::file::{File, item_word, name_at};
-use crate::keys::{unknown_key, unknown_key_reason, wanted_of};
+use crate::held::value_held;
+use crate::keys::{key_near, unknown_key, unknown_key_reason, wanted_of};
 use crate::made::Made;
 use crate::members::position_named;
 use crate::regions::unfit_region;
@@ -20,6 +21,29 @@ pub struct Wrong<'a> {
     /// The part of the file that is marked: the key that is unknown, the value that is wrong, or the head of the table that lacks a key. None if
     /// the file does not show it.
     pub part: Option<Part<'a>>,
+    /// What is likely meant in place of the part, if that is known.
+    pub fix: Option<String>,
+}
+
+/// Whether a text is the head of a table, as `[task]`, that has the name of an array.
+fn is_single_head(text: &str, array: Array) -> bool {
+    match text.strip_prefix("[") {
+        None => false,
+        Some(rest) => rest.trim_end_matches(']').trim() == array.key(),
+    }
+}
+
+/// A key as it is written, with a name in place of its own: the brackets of a table's head stay.
+fn renamed(alloc: Global, part: Option<Part<'_>>, name: Option<&str>) -> Made<Option<String>> {
+    let (Some(part), Some(name)) = (part, name) else {
+        return Ok(None);
+    };
+    let text = part.text;
+    Ok(Some(if text.starts_with("[[") {
+        format!(in alloc; "[[{name}]]")?
+    } else {
+        String::from_str(alloc, name)?
+    }))
 }
 
 /// What is at a place.
@@ -59,17 +83,18 @@ fn marked_line(own: &Table, key: Key, fault: FileFault) -> Option<usize> {
 
 /// Why a value of a key is not one that the key may have. `wanted` is what it may have.
 fn bad_value_reason(alloc: Global, own: &Table, key: Key, wanted: &str) -> Made<String> {
-    let Some(value) = member(own, key.text()) else {
-        return format!(in alloc; "expected {wanted}");
+    let name = key.text();
+    let Some(value) = member(own, name) else {
+        return format!(in alloc; "{name}: expected {wanted}");
     };
     match line_without_string(own) {
         Some(line) if key == Key::Code => {
             let number = line.saturating_add(1);
-            format!(in alloc; "expected {wanted}, but line {number} is not a string")
+            format!(in alloc; "{name}: expected {wanted}, but line {number} is not a string")
         }
         _ => {
             let held = held_text(alloc, value)?;
-            format!(in alloc; "expected {wanted}, found {held}")
+            format!(in alloc; "{name}: expected {wanted}, found {held}")
         }
     }
 }
@@ -82,7 +107,7 @@ fn named_arrays(array: Array) -> &'static [Array] {
     }
 }
 
-impl<'a> File<'_, 'a> {
+impl<'a> File<'a> {
     /// An item of an array, by its number from 1 and its name if it has one.
     fn item_words(&self, array: Array, item: usize) -> Made<String> {
         let (word, number) = (item_word(array), item.saturating_add(1));
@@ -97,10 +122,10 @@ impl<'a> File<'_, 'a> {
     fn key_words(&self, of: TablePlace, key: &str) -> Made<String> {
         let key = shown_name(self.alloc, key)?;
         match of {
-            TablePlace::Top => format!(in self.alloc; "in the top table, key {key}: "),
+            TablePlace::Top => format!(in self.alloc; "in the top table, key {key}"),
             TablePlace::Item(array, item) => {
                 let named = self.item_words(array, item)?;
-                format!(in self.alloc; "{named}, key {key}: ")
+                format!(in self.alloc; "{named}, key {key}")
             }
         }
     }
@@ -143,6 +168,7 @@ impl<'a> File<'_, 'a> {
             words: self.key_words(of, key)?,
             reason: unknown_key_reason(self.alloc, of, key)?,
             part,
+            fix: renamed(self.alloc, part, key_near(self.alloc, of, key)?)?,
         })
     }
 
@@ -180,7 +206,8 @@ impl<'a> File<'_, 'a> {
         let (own, wanted) = (self.table_at(of), wanted_of(of, key));
         match fault {
             FileFault::MissingKey => {
-                format!(in self.alloc; "the key is missing; expected {wanted}")
+                let key = key.text();
+                format!(in self.alloc; "the key {key} is missing; expected {wanted}")
             }
             FileFault::NameTwice => self.twice_reason(of),
             FileFault::TooMany => {
@@ -204,10 +231,16 @@ impl<'a> File<'_, 'a> {
 
     /// What is wrong with a key of a table.
     fn wrong_key(&self, of: TablePlace, key: Key, fault: FileFault) -> Made<Wrong<'a>> {
+        let part = self.key_part(of, key, fault)?;
+        let fix = match (fault, part) {
+            (FileFault::BadValue, Some(part)) => value_held(self.alloc, of, key, part.text)?,
+            _ => None,
+        };
         Ok(Wrong {
             words: self.key_words(of, key.text())?,
             reason: self.key_reason(of, key, fault)?,
-            part: self.key_part(of, key, fault)?,
+            part,
+            fix,
         })
     }
 
@@ -240,25 +273,32 @@ impl<'a> File<'_, 'a> {
     /// What is wrong with an array as a whole.
     fn wrong_array(&self, array: Array, fault: FileFault) -> Made<Wrong<'a>> {
         let (reason, part) = self.array_reason(array, fault)?;
+        let fix = match part {
+            Some(part) if is_single_head(part.text, array) => {
+                Some(format!(in self.alloc; "[{}]", part.text)?)
+            }
+            _ => None,
+        };
         Ok(Wrong {
             words: self.key_words(TablePlace::Top, array.key())?,
             reason,
             part,
+            fix,
         })
     }
 
     /// What is wrong with an item of an array, which is no table.
     fn wrong_item(&self, array: Array, item: usize) -> Made<Wrong<'a>> {
-        let named = self.item_words(array, item)?;
         Ok(Wrong {
-            words: format!(in self.alloc; "{named}: ")?,
+            words: self.item_words(array, item)?,
             reason: String::from_str(self.alloc, "expected a table")?,
             part: self.written.head(array, item),
+            fix: None,
         })
     }
 
     /// What is wrong at a place of the tree.
-    pub fn wrong_at(&self, place: TreePlace, fault: FileFault) -> Made<Wrong<'a>> {
+    pub(crate) fn wrong_at(&self, place: TreePlace, fault: FileFault) -> Made<Wrong<'a>> {
         match place {
             TreePlace::UnknownKey(of) => self.wrong_table(of),
             TreePlace::Key(of, key) => self.wrong_key(of, key, fault),

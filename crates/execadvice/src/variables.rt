@@ -1,4 +1,6 @@
 //! The variables of the lines of a file: private ones of each body, and shared ones.
+ghost use Rattle.std.specs.Prelude.{◌≡◌, is_some};
+ghost use Rattle.taskscript.specs.Parsing.{variable_of};
 
 use crate::bodies::{Spoken, bodies_in};
 use crate::made::Made;
@@ -9,7 +11,9 @@ use taskscript::{PRIVATE_LIMIT, SHARED_LIMIT, variable_of};
 use toml::Table;
 
 /// Whether a field is a variable, private or shared.
-pub fn is_variable(field: &str) -> bool {
+pub fn is_variable(field: &str) -> bool
+    ensures { result ≡ is_some (variable_of field.now) }
+{
     variable_of(field).is_some()
 }
 

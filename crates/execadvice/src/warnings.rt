@@ -4,10 +4,14 @@ use crate::bodies::{Body, Spoken, bodies_in};
 use crate::labels::labels_of;
 use crate::made::Made;
 use crate::members::{member_of, name_of};
-use crate::near::{nearest, proposing};
-use crate::show::{Advice, Span, field_span};
+use crate::near::nearest;
+use crate::proposal::fix_of_part;
+use crate::show::{Advice, Fix, Span};
+use crate::unfit::add_unfit;
+use crate::unreached::add_unreached;
+use crate::unread::add_unread;
 use crate::variables::{Variables, is_shared, is_variable};
-use script::{PortWord, TaskWord, Word};
+use script::{LibraryWord, PortWord, TaskWord, Word};
 use std::alloc::Global;
 use std::collections::HashSet;
 use taskscript::{LinePlace, Owner, items_at, quoted_in};
@@ -20,20 +24,31 @@ const MOST_PAIRS: usize = 12_000;
 #[derive(Drop)]
 pub struct Warning {
     pub place: LinePlace,
+    /// The name of the warning.
+    pub rule: &'static str,
     pub advice: Advice,
 }
 
 /// The warnings so far.
 #[derive(Drop)]
-struct Warnings {
-    alloc: Global,
+pub(crate) struct Warnings {
+    pub(crate) alloc: Global,
     list: Vec<Warning>,
 }
 
 impl Warnings {
-    fn push(&mut self, place: LinePlace, span: Span, reason: String) -> Made<()> {
-        let advice = Advice { span, reason };
-        self.list.push(Warning { place, advice })?;
+    /// Adds a warning of that name at a line.
+    pub(crate) fn push(
+        &mut self,
+        place: LinePlace,
+        rule: &'static str,
+        advice: Advice,
+    ) -> Made<()> {
+        self.list.push(Warning {
+            place,
+            rule,
+            advice,
+        })?;
         Ok(())
     }
 }
@@ -69,7 +84,8 @@ fn add_unset_at<'a>(out: &mut Warnings, one: &Spoken<'a>, set: &mut Variables<'a
         if is_variable(name) && !set.has(name) {
             set.add(name)?;
             let reason = format!(in out.alloc; "{name} is read and never set, so it is 0")?;
-            out.push(one.place, field_span(one.line, *part), reason)?;
+            let advice = Advice::of_field(one.line, *part, reason, None);
+            out.push(one.place, "unset", advice)?;
         }
     }
     Ok(())
@@ -107,8 +123,9 @@ fn add_unused(out: &mut Warnings, body: &Body<'_>) -> Made<()> {
         if !jumps.contains(label.name) {
             let line = label.line;
             let place = LinePlace { line, ..body.place };
-            let reason = String::from_str(out.alloc, "nothing jumps to this label")?;
-            out.push(place, label.span(), reason)?;
+            let reason = "nothing jumps to this label";
+            let advice = Advice::new(out.alloc, label.span(), reason)?;
+            out.push(place, "unused-label", advice)?;
         }
     }
     Ok(())
@@ -126,8 +143,8 @@ fn add_never_run(out: &mut Warnings, tasks: &[Value]) -> Made<()> {
         if start_of(task) == Some(false) {
             let (owner, line) = (Owner::Task, 0);
             let span = Span { start: 0, width: 1 };
-            let reason = String::from_str(out.alloc, sentence)?;
-            out.push(LinePlace { owner, item, line }, span, reason)?;
+            let advice = Advice::new(out.alloc, span, sentence)?;
+            out.push(LinePlace { owner, item, line }, "never-added", advice)?;
         }
     }
     Ok(())
@@ -138,7 +155,20 @@ fn add_never_run(out: &mut Warnings, tasks: &[Value]) -> Made<()> {
 struct Quoted<'a> {
     name: &'a str,
     place: LinePlace,
-    span: Span,
+    line: &'a str,
+    /// The number of its part of the line.
+    part: usize,
+}
+
+impl Quoted<'_> {
+    /// What puts another name in its place, if there is one.
+    fn fix(self, alloc: Global, near: Option<&str>) -> Made<Option<Fix>> {
+        let Some(near) = near else {
+            return Ok(None);
+        };
+        let name = format!(in alloc; "\"{near}\"")?;
+        fix_of_part(alloc, self.line, self.part, Some(name.as_str()))
+    }
 }
 
 /// The names between double quotes that are the argument of that number of a word.
@@ -156,7 +186,8 @@ fn quoted_at<'a>(
                 found.push(Quoted {
                     name: field.trim_matches('"'),
                     place: one.place,
-                    span: field_span(one.line, one.said.place_of(number)),
+                    line: one.line,
+                    part: one.said.place_of(number),
                 })?;
             }
         }
@@ -196,11 +227,13 @@ impl<'a> Names<'a> {
     }
 }
 
-/// Adds a warning for each line that asks for a name which is none of these, with the nearest of them, until too many pairs were compared.
+/// Adds a warning of a name for each line that asks for a name which is none of these, with the nearest of them, until too many pairs were
+/// compared.
 fn add_unknown(
     out: &mut Warnings,
     asked: &[Quoted<'_>],
     names: &[&str],
+    rule: &'static str,
     sentence: &str,
 ) -> Made<()> {
     let names = Names::new(out.alloc, names)?;
@@ -208,8 +241,10 @@ fn add_unknown(
     for one in asked {
         if !names.set.contains(one.name) {
             let near = names.nearest(out.alloc, one.name, &mut pairs)?;
-            let reason = proposing(out.alloc, sentence, near, "\"")?;
-            out.push(one.place, one.span, reason)?;
+            let fix = one.fix(out.alloc, near)?;
+            let reason = String::from_str(out.alloc, sentence)?;
+            let advice = Advice::of_field(one.line, one.part, reason, fix);
+            out.push(one.place, rule, advice)?;
         }
     }
     Ok(())
@@ -220,14 +255,25 @@ fn add_unknown_ports(out: &mut Warnings, bodies: &[Body<'_>]) -> Made<()> {
     let given = quoted_at(out.alloc, bodies, Word::Ports(PortWord::AddPort), 1)?;
     let names: Vec<&str> = given.iter().map(|one| one.name).collect(out.alloc)?;
     let asked = quoted_at(out.alloc, bodies, Word::Ports(PortWord::FindPort), 0)?;
-    add_unknown(out, &asked, &names, "no line adds a port of this name")
+    let sentence = "no line adds a port of this name";
+    add_unknown(out, &asked, &names, "unknown-port", sentence)
 }
 
 /// Adds a warning for each name that FindTask asks for, and no task has.
 fn add_unknown_tasks(out: &mut Warnings, bodies: &[Body<'_>], tasks: &[Value]) -> Made<()> {
     let names: Vec<&str> = tasks.iter().map(name_of).collect(out.alloc)?;
     let asked = quoted_at(out.alloc, bodies, Word::Tasks(TaskWord::FindTask), 0)?;
-    add_unknown(out, &asked, &names, "the file has no task of this name")
+    let sentence = "the file has no task of this name";
+    add_unknown(out, &asked, &names, "unknown-task", sentence)
+}
+
+/// Adds a warning for each name that OpenLibrary asks for, and no library has.
+fn add_unknown_libraries(out: &mut Warnings, bodies: &[Body<'_>], libraries: &[Value]) -> Made<()> {
+    let names: Vec<&str> = libraries.iter().map(name_of).collect(out.alloc)?;
+    let word = Word::Libraries(LibraryWord::OpenLibrary);
+    let asked = quoted_at(out.alloc, bodies, word, 0)?;
+    let sentence = "the file has no library of this name";
+    add_unknown(out, &asked, &names, "unknown-library", sentence)
 }
 
 /// Whether a line of some bodies has AddTask.
@@ -238,32 +284,40 @@ fn add_tasks(bodies: &[Body<'_>]) -> bool {
         .any(|body| body.spoken.iter().any(|one| one.said.word == word))
 }
 
-/// Adds the warnings of a file with these bodies and tasks.
-fn add_all(out: &mut Warnings, bodies: &[Body<'_>], tasks: &[Value]) -> Made<()> {
+/// Adds the warnings of a file with these bodies.
+fn add_all(out: &mut Warnings, bodies: &[Body<'_>], table: &Table) -> Made<()> {
+    let tasks = items_at(table, "task");
     add_unset(out, bodies)?;
+    add_unread(out, bodies)?;
     for body in bodies {
         add_unused(out, body)?;
+        add_unreached(out, body)?;
     }
     if !add_tasks(bodies) {
         add_never_run(out, tasks)?;
     }
     add_unknown_ports(out, bodies)?;
-    add_unknown_tasks(out, bodies, tasks)
+    add_unknown_tasks(out, bodies, tasks)?;
+    add_unknown_libraries(out, bodies, items_at(table, "library"))?;
+    add_unfit(out, bodies, items_at(table, "region"))
 }
 
 /// What is worth a warning in a file that is accepted, each by the line, the part of it, and why; in this order:
 ///
 /// - variables that are read and never set, in the same body or, if they are shared, in any: the part of the first line that reads
 ///   each;
-/// - labels that no line of their task jumps to;
+/// - variables that are set and never read, likewise: the first line that sets each;
+/// - labels that no line of their task jumps to, and lines that follow a jump or the end of the task, and are no labels;
 /// - tasks that never run: they are not added at the start, and no line has AddTask;
-/// - names that FindPort asks for, and no AddPort gives, and names that FindTask asks for, and no task has.
-pub fn warnings_of(alloc: Global, table: &Table) -> Made<Vec<Warning>> {
+/// - names that FindPort asks for, and no AddPort gives, names that FindTask asks for, and no task has, and names that OpenLibrary asks for, and
+///   no library has;
+/// - memory that no region has: of these attributes, or so much of it.
+pub(crate) fn warnings_of(alloc: Global, table: &Table) -> Made<Vec<Warning>> {
     let bodies = bodies_in(alloc, table)?;
     let mut out = Warnings {
         alloc,
         list: Vec::new(alloc),
     };
-    add_all(&mut out, &bodies, items_at(table, "task"))?;
+    add_all(&mut out, &bodies, table)?;
     Ok(out.list)
 }

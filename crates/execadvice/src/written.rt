@@ -8,7 +8,7 @@ use taskscript::{Array, LinePlace, TablePlace};
 use toml_parser::{Key, dotted_key};
 
 /// A character of a file.
-#[derive(Clone, Copy)]
+#[derive(Clone, Copy, PartialEq, Eq)]
 pub struct FilePlace {
     /// Its line, from 1.
     pub line: usize,
@@ -164,6 +164,14 @@ impl<'a> Written<'a> {
         Some(part.place.after(before_character(part.text, character)))
     }
 
+    /// A line of code as it is written, with its quotes.
+    pub(crate) fn string_at(&self, place: LinePlace) -> Option<&'a str> {
+        Some(
+            self.line(array_of(place.owner), place.item, place.line)?
+                .text,
+        )
+    }
+
     /// The line of the file of that number, from 1.
     pub fn file_line(&self, number: usize) -> &'a str {
         self.text
@@ -231,4 +239,24 @@ fn before_character(string: &str, character: usize) -> &str {
         rest = after_character(unfolded(rest, is_basic), is_basic);
     }
     until(string, unfolded(rest, is_basic))
+}
+
+/// A text as it is written within a string that is written so; none if the string cannot hold it.
+pub(crate) fn encoded(alloc: Global, string: &str, text: &str) -> Made<Option<String>> {
+    if !string.starts_with("\"") {
+        let holds = !text.contains("'") && !text.contains("\n");
+        return Ok(if holds {
+            Some(String::from_str(alloc, text)?)
+        } else {
+            None
+        });
+    }
+    let mut out = String::new(alloc);
+    for c in text.chars() {
+        if c == '"' || c == '\\' {
+            out.push('\\')?;
+        }
+        out.push(c)?;
+    }
+    Ok(Some(out))
 }

@@ -55,6 +55,14 @@ report_with names see stretch f window alerts entries = record {
   entries = map told entries;
 }
 
+-- the table of what is seen of the ways of a part, and how many of them end in an alert
+abbrev pub table_in : See → Frame → Window → List (Entry (List Event))
+table_in see f window = table_of (seen_of see f.file) [] (ways_in f window)
+
+abbrev pub alerts_in : Frame → Window → ℕ
+alerts_in f window = number_where (is_alerted f.file) (ways_in f window)
+
+-- the report of the ways of a part
 abbrev pub report_in : Paths → See → Option Stretch → Frame → Window → ReportData
 report_in names see stretch f window =
-    report_with names see stretch f window (number_where (is_alerted f.file) (ways_in f window)) (table_of (seen_of see f.file) [] (ways_in f window))
+    report_with names see stretch f window (alerts_in f window) (table_in see f window)

@@ -1,5 +1,6 @@
 //! The command line: options and two paths, or `--sum` and the paths of reports.
-ghost use Rattle.std.specs.Prelude.{◌≤◌, IfOk};
+ghost use Rattle.std.specs.Prelude.{◌≡◌, ◌≤◌, IfErr, IfOk, IfSome};
+ghost use Rattle.execexplore.specs.Asking.{IsFromOne, IsInRange, IsOfOption, IsOfWords};
 
 use crate::failure::Failure;
 use crate::options::{Options, extras_in, outcome_number};
@@ -52,7 +53,7 @@ fn command<'a>(alloc: Global) -> Result<Command<'a>, AllocError> {
         .about("Runs every way in which interrupts can come in a run, and says what each shows")
         .override_usage("execexplore [OPTIONS] MACHINE EVENTS\n       execexplore --sum REPORT..")
         .after_help(
-            "Without --of, the kinds are tick and the sources that servers of MACHINE serve.\n\nExample: `execexplore --extra 2 lost.toml lost.events` runs the events of\nlost.events with at most two more ticks, anywhere among them.\n`execexplore --extra 2 --events 3 lost.toml lost.events >third.events` keeps the\nevents of the first way of outcome 3, and `execsim lost.toml third.events`\nprints the trace of that run.\n\nexecexplore --version, with nothing else, prints the version.",
+            "Without --of, the kinds are tick and the sources that servers of MACHINE serve.\nA search keeps at most 160000000 bytes of outcomes. If there are more, the\nreport is of a part of the ways, and the status is 2.\n\nExample: `execexplore --extra 2 lost.toml lost.events` runs the events of\nlost.events with at most two more ticks, anywhere among them.\n`execexplore --extra 2 --events 3 lost.toml lost.events >third.events` keeps the\nevents of the first way of outcome 3, and `execsim lost.toml third.events`\nprints the trace of that run.\n\nexecexplore --version, with nothing else, prints the version.",
         )
         .no_binary_name(true)
         .arg(option(
@@ -108,6 +109,11 @@ pub enum Refusal<'a> {
 }
 
 impl From<AllocError> for Refusal<'_> {
+    ghost use Rattle.execexplore.specs.declared.command_line.Refusal.TheVariants.{Command};
+    ghost use Rattle.execexplore.specs.declared.failure.Failure.TheVariants.{NoMemory};
+
+    ghost from_gives = { λ _ refusal. refusal ≡ Command NoMemory };
+
     fn from(_error: AllocError) -> Self {
         Refusal::Command(Failure::NoMemory)
     }
@@ -120,6 +126,10 @@ impl From<Error> for Refusal<'_> {
 }
 
 impl<'a> From<Failure<'a>> for Refusal<'a> {
+    ghost use Rattle.execexplore.specs.declared.command_line.Refusal.TheVariants.{Command};
+
+    ghost from_gives = { λ failure refusal. refusal ≡ Command failure };
+
     fn from(failure: Failure<'a>) -> Self {
         Refusal::Command(failure)
     }
@@ -127,7 +137,8 @@ impl<'a> From<Failure<'a>> for Refusal<'a> {
 
 /// The number of extras that is asked for.
 fn extra_given<'a>(matches: &ArgMatches<'a>) -> Result<usize, Failure<'a>>
-    ensures { IfOk result (λ extra. extra ≤ 8) }
+    ensures few { IfOk result (λ extra. extra ≤ 8) }
+    ensures failure { IfErr result IsOfOption }
 {
     let Some(word) = matches.get_str("extra") else {
         return Ok(1);
@@ -139,7 +150,9 @@ fn extra_given<'a>(matches: &ArgMatches<'a>) -> Result<usize, Failure<'a>>
 }
 
 /// What is to be seen.
-fn see_given<'a>(matches: &ArgMatches<'a>) -> Result<See, Failure<'a>> {
+fn see_given<'a>(matches: &ArgMatches<'a>) -> Result<See, Failure<'a>>
+    ensures { IfErr result IsOfOption }
+{
     let Some(word) = matches.get_str("see") else {
         return Ok(See::Prints);
     };
@@ -150,7 +163,9 @@ fn see_given<'a>(matches: &ArgMatches<'a>) -> Result<See, Failure<'a>> {
 }
 
 /// The part that is asked for, if one is.
-fn part_given<'a>(matches: &ArgMatches<'a>) -> Result<Option<Stretch>, Failure<'a>> {
+fn part_given<'a>(matches: &ArgMatches<'a>) -> Result<Option<Stretch>, Failure<'a>>
+    ensures { IfErr result IsOfOption }
+{
     let Some(word) = matches.get_str("part") else {
         return Ok(None);
     };
@@ -163,7 +178,10 @@ fn part_given<'a>(matches: &ArgMatches<'a>) -> Result<Option<Stretch>, Failure<'
 }
 
 /// The outcome of which the events are asked for, if one is.
-fn events_given<'a>(matches: &ArgMatches<'a>) -> Result<Option<u64>, Failure<'a>> {
+fn events_given<'a>(matches: &ArgMatches<'a>) -> Result<Option<u64>, Failure<'a>>
+    ensures number { IfOk result IsFromOne }
+    ensures failure { IfErr result IsOfOption }
+{
     let Some(word) = matches.get_str("events") else {
         return Ok(None);
     };
@@ -174,7 +192,10 @@ fn events_given<'a>(matches: &ArgMatches<'a>) -> Result<Option<u64>, Failure<'a>
 }
 
 /// What the options ask for.
-fn options_in<'a>(matches: &ArgMatches<'a>) -> Result<Options<'a>, Failure<'a>> {
+fn options_in<'a>(matches: &ArgMatches<'a>) -> Result<Options<'a>, Failure<'a>>
+    ensures number { IfOk result (λ options. IsFromOne options.events) }
+    ensures failure { IfErr result IsOfOption }
+{
     let extra = extra_given(matches)?;
     let see = see_given(matches)?;
     let part = part_given(matches)?;
@@ -244,6 +265,56 @@ fn error_shown(alloc: Global, words: &[&str], error: Error) -> Result<Error, All
     }
 }
 
+/// The sum that is asked for, of the reports at some paths.
+fn sum_given<'a>(matches: &ArgMatches<'a>, paths: Vec<&'a str>) -> Result<Asked<'a>, Refusal<'a>>
+    ensures range { IfOk result IsInRange }
+    ensures refusal { IfErr result IsOfWords }
+{
+    if has_options(matches) {
+        return Err(Refusal::Command(Failure::Option(
+            "--sum takes the paths of reports and no other option: the reports have the options",
+        )));
+    }
+    Ok(Asked::Sum(paths))
+}
+
+/// The search that is asked for, over the texts at two paths.
+#[tactic(auto, using(crate::proofs::AskLemmas::of_option))]
+fn search_given<'a>(matches: &ArgMatches<'a>, paths: &[&'a str]) -> Result<Asked<'a>, Refusal<'a>>
+    ensures range { IfOk result IsInRange }
+    ensures refusal { IfErr result IsOfWords }
+{
+    if paths.len() != 2 {
+        return Err(Refusal::Command(Failure::Option(
+            "two paths are wanted, MACHINE and EVENTS; see execexplore --help",
+        )));
+    }
+    match options_in(matches) {
+        Err(failure) => Err(Refusal::Command(failure)),
+        Ok(options) => {
+            let paths = Paths {
+                machine: paths[0],
+                events: paths[1],
+            };
+            Ok(Asked::Search(paths, options))
+        }
+    }
+}
+
+/// What the matches of a command line ask for.
+#[tactic(auto, using(crate::proofs::AskLemmas::by_memory))]
+fn asked_of<'a>(alloc: Global, matches: &ArgMatches<'a>) -> Result<Asked<'a>, Refusal<'a>>
+    ensures range { IfOk result IsInRange }
+    ensures refusal { IfErr result IsOfWords }
+{
+    let paths = paths_given(alloc, matches)?;
+    if matches.get_flag("sum") {
+        sum_given(matches, paths)
+    } else {
+        search_given(matches, &paths)
+    }
+}
+
 /// What the words of a command line ask for.
 ///
 /// # Errors
@@ -251,33 +322,15 @@ fn error_shown(alloc: Global, words: &[&str], error: Error) -> Result<Error, All
 /// What `clap` answers, and a value that an option does not take.
 ///
 /// Source: project rule.
-pub fn asked_by<'a>(alloc: Global, words: &'a [&'a str]) -> Result<Asked<'a>, Refusal<'a>> {
-    let matches = match command(alloc)?.try_get_matches_from(words) {
-        Ok(matches) => matches,
-        Err(error) => return Err(Refusal::Words(error_shown(alloc, words, error)?)),
-    };
-    let paths = paths_given(alloc, &matches)?;
-    if matches.get_flag("sum") {
-        if has_options(&matches) {
-            return Err(Refusal::Command(Failure::Option(
-                "--sum takes the paths of reports and no other option: the reports have the options",
-            )));
-        }
-        return Ok(Asked::Sum(paths));
+#[tactic(auto, using(crate::proofs::AskLemmas::by_memory))]
+pub fn asked_by<'a>(alloc: Global, words: &'a [&'a str]) -> Result<Asked<'a>, Refusal<'a>>
+    ensures range { IfOk result IsInRange }
+    ensures refusal { IfErr result IsOfWords }
+{
+    match command(alloc)?.try_get_matches_from(words) {
+        Ok(matches) => asked_of(alloc, &matches),
+        Err(error) => Err(Refusal::Words(error_shown(alloc, words, error)?)),
     }
-    if paths.len() != 2 {
-        return Err(Refusal::Command(Failure::Option(
-            "two paths are wanted, MACHINE and EVENTS; see execexplore --help",
-        )));
-    }
-    let options = options_in(&matches)?;
-    Ok(Asked::Search(
-        Paths {
-            machine: paths[0],
-            events: paths[1],
-        },
-        options,
-    ))
 }
 
 /// The error of a command line whose words are no text.

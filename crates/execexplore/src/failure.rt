@@ -1,6 +1,8 @@
 //! Why there is no answer, what the command says of it, and the status that it ends with.
-ghost use Rattle.std.specs.Prelude.{◌≤◌};
+ghost use Rattle.std.specs.Prelude.{◌≡◌, ◌≤◌, ◌⊎◌};
+ghost use Rattle.execexplore.specs.Failing.{of_machine, of_script, of_text, status_of};
 
+use crate::stretch::Stretch;
 use escape::Shown;
 use execrun::{CannotRead, TextFault, Unread};
 use std::alloc::{AllocError, AllocFailed};
@@ -8,7 +10,7 @@ use std::fmt;
 use std::io::Write;
 use taskscript::{EventFault, FileFault};
 use wayreport::{REPORT_LIMIT, ReportFault, SumFault, VERSION};
-use ways::SearchFault;
+use ways::{MOST_BYTES, SearchFault};
 
 /// Why there is no answer. A path is that of the text that is meant.
 #[derive(Drop)]
@@ -29,6 +31,10 @@ pub enum Failure<'a> {
     TooManyWays(Option<u64>, u64),
     /// There are more than 65,536 outcomes.
     TooManyOutcomes,
+    /// The outcomes take more bytes than are kept: how many ways were tried before.
+    TooMuch(u64),
+    /// What was written is of this part alone, since the outcomes of what was asked for take more bytes than are kept.
+    IsPart(Stretch),
     /// There are ways with more than 1,000,000 ticks: the number of ticks.
     TooManyTicks(u64),
     /// The outcome of this number is wanted, and there are fewer.
@@ -40,30 +46,65 @@ pub enum Failure<'a> {
 }
 
 impl From<AllocError> for Failure<'_> {
+    ghost use Rattle.execexplore.specs.declared.failure.Failure.TheVariants.{NoMemory};
+
+    ghost from_gives = { λ _ failure. failure ≡ NoMemory };
+
     fn from(_error: AllocError) -> Self {
         Failure::NoMemory
     }
 }
 
 impl<T: Drop> From<AllocFailed<T>> for Failure<'_> {
+    ghost use Rattle.execexplore.specs.declared.failure.Failure.TheVariants.{NoMemory};
+
+    ghost from_gives = { λ _ failure. failure ≡ NoMemory };
+
     fn from(_error: AllocFailed<T>) -> Self {
         Failure::NoMemory
     }
 }
 
 impl From<SearchFault> for Failure<'_> {
+    ghost use Rattle.execexplore.specs.Answering.{of_search};
+
+    ghost from_gives = { λ fault failure. failure ≡ of_search fault };
+
     fn from(fault: SearchFault) -> Self {
         match fault {
             SearchFault::OutOfMemory => Failure::NoMemory,
             SearchFault::TooManyOutcomes => Failure::TooManyOutcomes,
+            SearchFault::TooMuch(ways) => Failure::TooMuch(ways),
             SearchFault::TooManyTicks => Failure::TooManyTicks(1_000_001),
         }
     }
 }
 
 impl<'a> Failure<'a> {
+    /// Why a machine file is not had.
+    pub(crate) fn of_machine(fault: FileFault) -> Failure<'a>
+        ensures { result ≡ of_machine fault }
+    {
+        match fault {
+            FileFault::OutOfMemory => Failure::NoMemory,
+            fault => Failure::Machine(fault),
+        }
+    }
+
+    /// Why an event text is not had.
+    pub(crate) fn of_script(fault: EventFault) -> Failure<'a>
+        ensures { result ≡ of_script fault }
+    {
+        match fault {
+            EventFault::OutOfMemory => Failure::NoMemory,
+            fault => Failure::Events(fault),
+        }
+    }
+
     /// Why the text at a path is not at hand.
-    pub(crate) fn of_text(path: &'a str, fault: TextFault) -> Failure<'a> {
+    pub(crate) fn of_text(path: &'a str, fault: TextFault) -> Failure<'a>
+        ensures { result ≡ of_text path.entry fault }
+    {
         match fault {
             TextFault::NoMemory => Failure::NoMemory,
             TextFault::CannotRead(why) => Failure::CannotRead(path, why),
@@ -76,7 +117,9 @@ impl Failure<'_> {
     ///
     /// Source: project rule.
     pub fn status(&self) -> u8
-        ensures { result ≤ 4 }
+        ensures is { result ≡ status_of self.now }
+        ensures within { result ≤ 4 }
+        ensures refuses { (result ≡ 1) ⊎ (result ≡ 2) ⊎ (result ≡ 4) }
     {
         match self {
             Failure::Machine(_) | Failure::Events(_) => 1,
@@ -154,6 +197,16 @@ fn show_event_fault<W: fmt::Write>(fault: EventFault, f: &mut fmt::Formatter<W>)
     }
 }
 
+/// Writes which part a report is of that was to be of more ways.
+fn show_part<W: fmt::Write>(part: Stretch, f: &mut fmt::Formatter<W>) -> fmt::Result {
+    let number = part.number;
+    let of = part.of;
+    write!(
+        f,
+        "the outcomes take more than {MOST_BYTES} bytes, so this is of --part {number}/{of} alone; make the other parts of {of} too, or ask for fewer extras, or for --see prints or end"
+    )
+}
+
 /// What the command says after its name.
 impl fmt::Display for Failure<'_> {
     fn fmt<W: fmt::Write>(&self, f: &mut fmt::Formatter<W>) -> fmt::Result {
@@ -175,6 +228,11 @@ impl fmt::Display for Failure<'_> {
             Failure::TooManyOutcomes => f.write_str(
                 "there are more than 65536 outcomes; ask for fewer extras, for --part, or for --see prints or end",
             ),
+            Failure::TooMuch(_) => write!(
+                f,
+                "the outcomes take more than {MOST_BYTES} bytes; ask for fewer extras, for --part, or for --see prints or end"
+            ),
+            Failure::IsPart(part) => show_part(*part, f),
             Failure::TooManyTicks(ticks) => write!(
                 f,
                 "there are ways with {ticks} ticks, and at most 1000000 are run; ask for fewer extras, or shorten the events"
@@ -193,7 +251,9 @@ impl fmt::Display for Failure<'_> {
 ///
 /// Source: project rule.
 pub fn report<E: Write>(failure: &Failure<'_>, err: &mut E) -> u8
-    ensures { result ≤ 4 }
+    ensures is { result ≡ status_of failure.now }
+    ensures within { result ≤ 4 }
+    ensures refuses { (result ≡ 1) ⊎ (result ≡ 2) ⊎ (result ≡ 4) }
 {
     let _ = writeln!(err, "execexplore: {failure}");
     failure.status()

@@ -2,8 +2,10 @@
 #![tactic(auto)]
 
 mod arguments;
+mod bounds;
 mod command_line;
 mod failure;
+mod fitting;
 mod frame;
 mod options;
 mod progress;

@@ -1,9 +1,11 @@
 //! What the options of a command line ask for.
-ghost use Rattle.std.specs.Prelude.{◌≡◌, ◌≤◌, ◌++◌, IfOk, IfSome, OnOk, flat_map, string_bytes};
+ghost use Rattle.std.specs.Prelude.{◌≡◌, ◌≤◌, ◌++◌, IfOk, IfSome, OnOk, Some, flat_map, string_bytes};
+ghost use Rattle.std.specs.List.{list_any};
+ghost use Rattle.execexplore.specs.Kinds.{is_exter, is_ports, is_served, kinds_served, request_if};
 ghost use Rattle.execexplore.specs.Reporting.{kind_text, kinds_text, marked_kind};
 
 use crate::stretch::Stretch;
-use script::{Event, MachineFile, Source};
+use script::{Event, MachineFile, ServerRecord, Source};
 use std::alloc::{AllocError, Global};
 use wayrun::See;
 
@@ -28,11 +30,31 @@ pub struct Options<'a> {
     pub progress: bool,
 }
 
+impl<'a> Options<'a> {
+    /// The same options for a part of the ways.
+    pub(crate) fn of_part(&self, part: Stretch) -> Options<'a>
+        ensures see { result.see ≡ self.now.see }
+        ensures part { result.part ≡ Some part }
+        ensures events { result.events ≡ self.now.events }
+    {
+        Options {
+            extra: self.extra,
+            of: self.of,
+            see: self.see,
+            part: Some(part),
+            events: self.events,
+            progress: self.progress,
+        }
+    }
+}
+
 /// The number of outcomes that a word gives, from 1.
-pub fn outcome_number(word: &str) -> Option<u64> {
+pub fn outcome_number(word: &str) -> Option<u64>
+    ensures { IfSome result (λ number. 1 ≤ number) }
+{
     match word.parse::<u64>() {
-        Ok(0) | Err(_) => None,
-        Ok(number) => Some(number),
+        Ok(number) if number >= 1 => Some(number),
+        _ => None,
     }
 }
 
@@ -70,8 +92,26 @@ pub fn kind_text(kind: Event) -> &'static str
     }
 }
 
+/// Some kinds, if their text is a list.
+fn kinds_if_listed(
+    alloc: Global,
+    kinds: Vec<Event>,
+    list: &str,
+) -> Result<Option<Vec<Event>>, AllocError>
+    ensures { IfOk result (λ found. IfSome found (λ kinds. kinds_text kinds.items ≡ list.now)) }
+{
+    let text = kinds_text(alloc, &kinds)?;
+    if text.as_str().as_bytes() == list.as_bytes() {
+        Ok(Some(kinds))
+    } else {
+        Ok(None)
+    }
+}
+
 /// The kinds that a list names, or none if it names something else, or one twice.
-pub fn kinds_listed(alloc: Global, list: &str) -> Result<Option<Vec<Event>>, AllocError> {
+pub fn kinds_listed(alloc: Global, list: &str) -> Result<Option<Vec<Event>>, AllocError>
+    ensures { IfOk result (λ found. IfSome found (λ kinds. kinds_text kinds.items ≡ list.now)) }
+{
     let mut kinds = Vec::new(alloc);
     for word in list.split(',') {
         let Some(kind) = kind_named(word) else {
@@ -82,24 +122,75 @@ pub fn kinds_listed(alloc: Global, list: &str) -> Result<Option<Vec<Event>>, All
         }
         kinds.push(kind)?;
     }
-    Ok(Some(kinds))
+    kinds_if_listed(alloc, kinds, list)
 }
 
-/// Whether a server of the file serves a source.
-fn is_served(file: &MachineFile, source: Source) -> bool {
-    file.servers().iter().any(|server| server.source == source)
+/// Whether a source is PORTS.
+fn is_ports(source: Source) -> bool
+    ensures { result ≡ is_ports source }
+{
+    match source {
+        Source::Ports => true,
+        Source::Vertb | Source::Exter => false,
+    }
+}
+
+/// Whether a source is EXTER.
+fn is_exter(source: Source) -> bool
+    ensures { result ≡ is_exter source }
+{
+    match source {
+        Source::Exter => true,
+        Source::Ports | Source::Vertb => false,
+    }
+}
+
+/// Whether one of some servers serves PORTS.
+fn has_ports(servers: &[ServerRecord]) -> bool
+    ensures { result ≡ list_any (λ s. is_ports s.source) servers.now }
+{
+    servers.iter().any(|server| is_ports(server.source))
+}
+
+/// Whether one of some servers serves EXTER.
+fn has_exter(servers: &[ServerRecord]) -> bool
+    ensures { result ≡ list_any (λ s. is_exter s.source) servers.now }
+{
+    servers.iter().any(|server| is_exter(server.source))
+}
+
+/// Whether a server of the file serves PORTS.
+fn serves_ports(file: &MachineFile) -> bool
+    ensures { result ≡ is_served is_ports file.now.servers }
+{
+    has_ports(file.servers())
+}
+
+/// Whether a server of the file serves EXTER.
+fn serves_exter(file: &MachineFile) -> bool
+    ensures { result ≡ is_served is_exter file.now.servers }
+{
+    has_exter(file.servers())
+}
+
+/// Adds a request by a source, if it is served.
+fn push_request(kinds: &mut Vec<Event>, is_served: bool, source: Source) -> Result<(), AllocError>
+    ensures { OnOk result (kinds.new.items ≡ kinds.old.items ++ request_if is_served source) }
+{
+    if is_served {
+        kinds.push(Event::Irq(source))?;
+    }
+    Ok(())
 }
 
 /// The kinds of a machine file: ticks, and each source that a server serves and an event may request.
-pub fn kinds_served(alloc: Global, file: &MachineFile) -> Result<Vec<Event>, AllocError> {
+pub fn kinds_served(alloc: Global, file: &MachineFile) -> Result<Vec<Event>, AllocError>
+    ensures { IfOk result (λ kinds. kinds.items ≡ kinds_served file.now.servers) }
+{
     let mut kinds = Vec::new(alloc);
     kinds.push(Event::Tick(1))?;
-    if is_served(file, Source::Ports) {
-        kinds.push(Event::Irq(Source::Ports))?;
-    }
-    if is_served(file, Source::Exter) {
-        kinds.push(Event::Irq(Source::Exter))?;
-    }
+    push_request(&mut kinds, serves_ports(file), Source::Ports)?;
+    push_request(&mut kinds, serves_exter(file), Source::Exter)?;
     Ok(kinds)
 }
 

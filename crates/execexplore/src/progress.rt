@@ -3,7 +3,7 @@ use std::alloc::{AllocError, Global};
 use std::io::Write;
 use std::rt::Clock;
 use std::time::{Duration, Instant};
-use ways::Watcher;
+use ways::{MOST_BYTES, Watcher};
 
 /// Reports, at most once a second, the ways tried of the total, the outcomes found, and the time that the rest may take.
 #[derive(Drop)]
@@ -15,6 +15,8 @@ pub struct Progress<'a, R, E> {
     total: u64,
     /// When the search began, and when it last reported; none if it does not report.
     times: Option<(Instant, Instant)>,
+    /// Whether nothing was reported yet.
+    is_first: bool,
 }
 
 impl<'a, R: Clock, E: Write> Progress<'a, R, E> {
@@ -42,6 +44,7 @@ impl<'a, R: Clock, E: Write> Progress<'a, R, E> {
             err,
             total,
             times,
+            is_first: true,
         }
     }
 }
@@ -91,6 +94,22 @@ fn report_line(
     format!(in alloc; "execexplore: {tried} of {total} ways, {found}, about {left} left\n")
 }
 
+/// What is reported once, before all else: how many bytes of outcomes are kept.
+fn bound_line(alloc: Global) -> Result<String, AllocError> {
+    format!(in alloc;
+        "execexplore: at most {MOST_BYTES} bytes of outcomes are kept; if there are more, the report is of a part of the ways\n"
+    )
+}
+
+impl<R: Clock, E: Write> Progress<'_, R, E> {
+    /// Writes a line, if memory for it was not refused. A write that fails changes nothing.
+    fn write_line(&mut self, line: Result<String, AllocError>) {
+        if let Ok(line) = line {
+            let _ = self.err.write_all(line.as_bytes());
+        }
+    }
+}
+
 impl<R: Clock, E: Write> Watcher for Progress<'_, R, E> {
     fn report(&mut self, tried: u64, outcomes: usize) {
         let Some((begun, last)) = self.times else {
@@ -108,8 +127,10 @@ impl<R: Clock, E: Write> Watcher for Progress<'_, R, E> {
         self.times = Some((begun, now));
         let total = self.total;
         let left = seconds_left(all.as_secs(), tried, total);
-        if let Ok(line) = report_line(self.alloc, tried, total, outcomes, left) {
-            let _ = self.err.write_all(line.as_bytes());
+        if self.is_first {
+            self.is_first = false;
+            self.write_line(bound_line(self.alloc));
         }
+        self.write_line(report_line(self.alloc, tried, total, outcomes, left));
     }
 }

@@ -1,18 +1,23 @@
 //! The search that a command line asks for, from two texts to the text of its report.
-ghost use Rattle.std.specs.Prelude.{◌≡◌, IfOk, None, option_map, string_bytes};
-ghost use Rattle.ways.specs.Entries.{entries_of};
+ghost use Rattle.std.specs.Prelude.{◌≡◌, ◌⊎◌, ◌≤◌, IfErr, IfOk, None, length, option_map, string_bytes};
+ghost use Rattle.taskscript.specs.{Events.script_of, File.file_of};
+ghost use Rattle.ways.specs.{Entries.entries_of, Ways.actions};
 ghost use Rattle.wayreport.specs.Reports.{report_view, text_of};
-ghost use Rattle.execexplore.specs.Reporting.{limits_text, names_text, part_in, report_in, report_with, title_text};
+ghost use Rattle.execrun.specs.Texts.{IsTextAt};
+ghost use Rattle.execexplore.specs.{Failing.IsOfMachine, Failing.IsOfScript, Failing.IsUnread, Framing.FailsTexts, Framing.FramesTexts, Framing.IsFrameOf, Framing.IsOfFrame, Framing.IsOfSizes, Framing.IsOneOf};
+ghost use Rattle.execexplore.specs.Answering.{IsOfSearch, is_mixed, left_in, skip_in};
+ghost use Rattle.execexplore.specs.Reporting.{alerts_in, limits_text, names_text, part_in, report_in, report_with, table_in, title_text};
 
+use crate::bounds::{MOST_WAYS, check_ticks, kinds_for, number_of};
 use crate::failure::Failure;
-use crate::frame::{Frame, MOST_ACTIONS, MOST_WAYS, check_ticks, kinds_for, number_of};
+use crate::frame::Frame;
 use crate::options::{Options, kinds_text};
 use crate::stretch::{Stretch, stretch_window};
 use escape::Shown;
 use execrun::{Texts, read_text};
 use script::{Event, Events, MachineFile};
 use std::alloc::{AllocError, Global};
-use taskscript::{EventFault, FileFault, read_events, read_machine};
+use taskscript::{read_events, read_machine};
 use wayreport::{Part, Report, digest, found_of, lines_of, report_text};
 use wayrun::search;
 use ways::{Outcome, Sizes, Watcher, Window, actions_of};
@@ -43,20 +48,60 @@ impl<'a> Paths<'a> {
 }
 
 /// The machine file of a text.
-fn file_of<'a>(alloc: Global, bytes: &[u8]) -> Result<MachineFile, Failure<'a>> {
+#[tactic(auto, using(crate::proofs::FailLemmas::of_machine_fault))]
+fn file_of<'a>(alloc: Global, bytes: &[u8]) -> Result<MachineFile, Failure<'a>>
+    ensures file { IfOk result (λ file. file_of bytes.now ≡ Ok file) }
+    ensures failure { IfErr result (IsOfMachine bytes.now) }
+{
     match read_machine(alloc, bytes) {
         Ok(file) => Ok(file),
-        Err(FileFault::OutOfMemory) => Err(Failure::NoMemory),
-        Err(fault) => Err(Failure::Machine(fault)),
+        Err(fault) => Err(Failure::of_machine(fault)),
     }
 }
 
 /// The events of a text.
-fn events_of<'a>(alloc: Global, bytes: &[u8]) -> Result<Events, Failure<'a>> {
+#[tactic(auto, using(crate::proofs::FailLemmas::of_script_fault))]
+fn events_of<'a>(alloc: Global, bytes: &[u8]) -> Result<Events, Failure<'a>>
+    ensures events { IfOk result (λ events. script_of bytes.now ≡ Ok events) }
+    ensures failure { IfErr result (IsOfScript bytes.now) }
+{
     match read_events(alloc, bytes) {
         Ok(events) => Ok(events),
-        Err(EventFault::OutOfMemory) => Err(Failure::NoMemory),
-        Err(fault) => Err(Failure::Events(fault)),
+        Err(fault) => Err(Failure::of_script(fault)),
+    }
+}
+
+/// The actions of an accepted event text.
+#[tactic(auto, using(crate::proofs::FailLemmas::few_actions))]
+fn actions_in<'a>(alloc: Global, script: &Events) -> Result<Vec<Event>, Failure<'a>>
+    ensures actions { IfOk result (λ found. found.items ≡ actions script.now) }
+    ensures few { IfOk result (λ found. length found.items ≤ 2100000) }
+    ensures failure { IfErr result (λ failure. failure ≡ Failure.NoMemory) }
+{
+    match actions_of(alloc, script.list()) {
+        Ok(found) => Ok(found),
+        Err(_) => Err(Failure::NoMemory),
+    }
+}
+
+/// How many ways there are, by how many actions and kinds there are.
+fn sizes_of<'a>(
+    alloc: Global,
+    kinds: usize,
+    extra: usize,
+    actions: usize,
+) -> Result<Sizes, Failure<'a>>
+    requires most { extra ≤ 8 }
+    requires places { actions ≤ 2100000 }
+    ensures kinds { IfOk result (λ sizes. sizes.kinds ≡ kinds) }
+    ensures most { IfOk result (λ sizes. sizes.most ≡ extra) }
+    ensures places { IfOk result (λ sizes. sizes.places ≡ actions) }
+    ensures failure { IfErr result IsOfSizes }
+{
+    match Sizes::new(alloc, kinds, extra, actions) {
+        Ok(Some(sizes)) => Ok(sizes),
+        Ok(None) => Err(Failure::TooManyWays(None, MOST_WAYS)),
+        Err(_) => Err(Failure::NoMemory),
     }
 }
 
@@ -67,23 +112,22 @@ fn events_of<'a>(alloc: Global, bytes: &[u8]) -> Result<Events, Failure<'a>> {
 /// If memory is refused, a text is, the options have a value that they do not take, or there are too many ways.
 ///
 /// Source: project rule.
+#[tactic(auto, using(crate::proofs::FailLemmas::by_machine, crate::proofs::FailLemmas::by_script, crate::proofs::FailLemmas::by_kinds, crate::proofs::FailLemmas::by_ticks, crate::proofs::FailLemmas::by_sizes, crate::proofs::FailLemmas::by_ways, crate::proofs::FailLemmas::by_memory))]
 pub fn frame_in<'a>(
     alloc: Global,
     machine: &[u8],
     events: &[u8],
     options: &Options<'a>,
-) -> Result<Frame, Failure<'a>> {
+) -> Result<Frame, Failure<'a>>
+    ensures frame { IfOk result (IsFrameOf machine.now events.now options.now) }
+    ensures failure { IfErr result (IsOfFrame machine.now events.now options.now.of) }
+{
     let file = file_of(alloc, machine)?;
     let script = events_of(alloc, events)?;
-    let actions = actions_of(alloc, script.list())?;
+    let actions = actions_in(alloc, &script)?;
     let kinds = kinds_for(alloc, options.of, &file)?;
     check_ticks(&actions, &kinds, options.extra)?;
-    if actions.len() > MOST_ACTIONS {
-        return Err(Failure::Events(EventFault::TooMany));
-    }
-    let Some(sizes) = Sizes::new(alloc, kinds.len(), options.extra, actions.len())? else {
-        return Err(Failure::TooManyWays(None, MOST_WAYS));
-    };
+    let sizes = sizes_of(alloc, kinds.len(), options.extra, actions.len())?;
     let ways = number_of(&sizes, actions.len())?;
     let machine = digest(alloc, machine)?;
     let events = digest(alloc, events)?;
@@ -99,7 +143,11 @@ pub fn frame_in<'a>(
 }
 
 /// The bytes of the text at a path.
-fn text_at<'a, T: Texts>(texts: &T, alloc: Global, path: &'a str) -> Result<Vec<u8>, Failure<'a>> {
+#[tactic(auto, using(crate::proofs::FailLemmas::unread_text))]
+fn text_at<'a, T: Texts>(texts: &T, alloc: Global, path: &'a str) -> Result<Vec<u8>, Failure<'a>>
+    ensures bytes { IfOk result (λ bytes. IsTextAt (T.text_at texts.now) path.now bytes.items) }
+    ensures failure { IfErr result (IsUnread (λ other. other ≡ path.entry)) }
+{
     match read_text(texts, alloc, path) {
         Ok(bytes) => Ok(bytes),
         Err(fault) => Err(Failure::of_text(path, fault)),
@@ -107,19 +155,34 @@ fn text_at<'a, T: Texts>(texts: &T, alloc: Global, path: &'a str) -> Result<Vec<
 }
 
 /// What is searched, by the texts at both paths and the options. Nothing is judged before both are read.
+///
+/// # Errors
+///
+/// If memory is refused or a text cannot be read, and as those of `frame_in`.
+///
+/// Source: project rule.
+#[tactic(auto, using(crate::proofs::FailLemmas::unread_machine, crate::proofs::FailLemmas::unread_events))]
 pub fn frame_of<'a, T: Texts>(
     texts: &T,
     alloc: Global,
     paths: Paths<'a>,
     options: &Options<'a>,
-) -> Result<Frame, Failure<'a>> {
+) -> Result<Frame, Failure<'a>>
+    ensures frame { IfOk result (FramesTexts (T.text_at texts.now) paths.entry options.now) }
+    ensures failure { IfErr result (λ why. IsUnread (IsOneOf paths.entry) why ⊎ FailsTexts (T.text_at texts.now) paths.entry options.now.of why) }
+{
     let machine = text_at(texts, alloc, paths.machine)?;
     let events = text_at(texts, alloc, paths.events)?;
     frame_in(alloc, &machine, &events, options)
 }
 
 /// The ways that are searched.
-pub fn window_of(frame: &Frame, options: &Options<'_>) -> Window {
+///
+/// Source: project rule.
+pub fn window_of(frame: &Frame, options: &Options<'_>) -> Window
+    ensures skip { result.skip ≡ skip_in frame.now options.now.part }
+    ensures left { result.left ≡ left_in frame.now options.now.part }
+{
     match options.part {
         None => Window {
             skip: 0,
@@ -245,11 +308,21 @@ fn events_wanted<'a>(
     alloc: Global,
     outcomes: &[Outcome],
     number: u64,
-) -> Result<Vec<u8>, Failure<'a>> {
-    match events_text(alloc, outcomes, number)? {
-        None => Err(Failure::NoOutcome(number, outcomes.len())),
-        Some(text) => Ok(text.into_bytes()),
+) -> Result<Vec<u8>, Failure<'a>>
+    ensures { IfErr result IsOfSearch }
+{
+    match events_text(alloc, outcomes, number) {
+        Err(_) => Err(Failure::NoMemory),
+        Ok(None) => Err(Failure::NoOutcome(number, outcomes.len())),
+        Ok(Some(text)) => Ok(text.into_bytes()),
     }
+}
+
+/// Whether there are several outcomes, or an alert.
+fn is_mixed(outcomes: &[Outcome], alerts: u64) -> bool
+    ensures { result ≡ is_mixed (length outcomes.now) alerts }
+{
+    outcomes.len() > 1 || alerts > 0
 }
 
 /// Makes a search of some ways, and answers what is printed: the text of the report, or the events that are asked for.
@@ -259,6 +332,7 @@ fn events_wanted<'a>(
 /// As those of `search`; `NoOutcome` if there are fewer outcomes.
 ///
 /// Source: project rule.
+#[tactic(auto, using(crate::proofs::SearchLemmas::by_fault, crate::proofs::SearchLemmas::by_memory))]
 pub fn searched<'a, P: Watcher + Drop>(
     alloc: Global,
     names: Paths<'a>,
@@ -267,8 +341,10 @@ pub fn searched<'a, P: Watcher + Drop>(
     window: Window,
     watcher: P,
 ) -> Result<Answer, Failure<'a>>
-    ensures { IfOk result (λ answer. options.now.events ≡ None
+    ensures text { IfOk result (λ answer. options.now.events ≡ None
         → answer.text.items ≡ text_of (report_in names.entry options.now.see options.now.part frame.now window)) }
+    ensures mixed { IfOk result (λ answer. answer.is_mixed ≡ is_mixed (length (table_in options.now.see frame.now window)) (alerts_in frame.now window)) }
+    ensures failure { IfErr result IsOfSearch }
 {
     let found = search(
         alloc,
@@ -286,8 +362,9 @@ pub fn searched<'a, P: Watcher + Drop>(
         None => reported(alloc, names, options, frame, window, &outcomes, alerts)?,
         Some(number) => events_wanted(alloc, &outcomes, number)?,
     };
+    let mixed = is_mixed(&outcomes, alerts);
     Ok(Answer {
         text,
-        is_mixed: outcomes.len() > 1 || alerts > 0,
+        is_mixed: mixed,
     })
 }

@@ -37,14 +37,14 @@ column_put k start width text rest room is le blank put =
     ∙ sym (append_assoc (replicate {A = ℕ} (width - length text) 32) text rest)
 
 -- a number after a colon at the right of a column
-pub colon_put : (k colon start : ℕ) (text rest mid room : List ℕ) → k ≡ 5 - length text → k ≤ colon → IsBlank colon room
+pub colon_put : (k colon start : ℕ) (text rest mid room : List ℕ) → k ≡ 4 - length text → k ≤ colon → IsBlank colon room
     → drop colon room ≡ 58 ∷ drop start mid → drop start mid ≡ text ++ rest
-    → drop (colon - k) room ≡ replicate {A = ℕ} (5 - length text) 32 ++ 58 ∷ text ++ rest
+    → drop (colon - k) room ≡ replicate {A = ℕ} (4 - length text) 32 ++ 58 ∷ text ++ rest
 colon_put k colon start text rest mid room is le blank first then =
     blank_end k colon room le blank
     ∙ ap (λ (l : List ℕ). replicate {A = ℕ} k 32 ++ l) (first ∙ ap (λ (l : List ℕ). 58 ∷ l) then)
     ∙ ap (λ (n : ℕ). replicate {A = ℕ} n 32 ++ (58 ∷ (text ++ rest))) is
-    ∙ sym (append_assoc (replicate {A = ℕ} (5 - length text) 32) (58 ∷ text) rest)
+    ∙ sym (append_assoc (replicate {A = ℕ} (4 - length text) 32) (58 ∷ text) rest)
 
 -- the digits of a number
 pub digits_fit : (n : ℕ) → n < 2 ^ 64 → length (decimal n) ≤ 20
@@ -90,7 +90,7 @@ end_cut : (n : ℕ) (source : List ℕ) → drop (gap_of source - (gap_of source
 end_cut n [] = let none : 0 - (0 - n) ≡ 0 = omega arith in ap (λ (k : ℕ). drop {A = ℕ} k (10 ∷ [])) none
 end_cut n (c ∷ source) = cut_parts 43 n (codes "  ") (c ∷ source) (10 ∷ [])
 
-row_parts : (t l s x y z : List ℕ) → t ++ ((l ++ s) ++ (x ++ (y ++ z))) ≡ ((((t ++ l) ++ s) ++ x) ++ y) ++ z
+pub row_parts : (t l s x y z : List ℕ) → t ++ ((l ++ s) ++ (x ++ (y ++ z))) ≡ ((((t ++ l) ++ s) ++ x) ++ y) ++ z
 row_parts t l s x y z =
     sym (append_assoc t (l ++ s) (x ++ (y ++ z)))
     ∙ ap (λ (f : List ℕ). f ++ (x ++ (y ++ z))) (sym (append_assoc t l s))

@@ -4,4 +4,5 @@ pub mod UnitRuns
 pub mod Columns
 pub mod Feeds
 pub mod Laying
+pub mod Reading
 pub mod Sheets

@@ -1,4 +1,5 @@
 pub mod Books
 pub mod Log
+pub mod Reading
 pub mod Rows
 pub mod Runs

@@ -12,11 +12,11 @@ padded width text = replicate (width - length text) 32 ++ text
 abbrev pub digit : ℕ → ℕ
 digit n = 48 + n % 10
 
--- microseconds as milliseconds with three places
+-- a space, and microseconds as milliseconds with three places at the right of a column of 8
 abbrev pub millis : ℕ → List ℕ
-millis micros = padded 5 (decimal (micros / 1000)) ++ 46 ∷ digit (micros / 100) ∷ digit (micros / 10) ∷ digit micros ∷ []
+millis micros = 32 ∷ padded 4 (decimal (micros / 1000)) ++ 46 ∷ digit (micros / 100) ∷ digit (micros / 10) ∷ digit micros ∷ []
 
--- a number and a time, in microseconds
+-- a number at the right of a column of 5, a space, and a time, in microseconds; what is wider than its column is whole
 abbrev pub columns : ℕ → ℕ → List ℕ
 columns number clock = padded 5 (decimal number) ++ millis clock
 
@@ -29,10 +29,10 @@ abbrev pub stem : ℕ → List ℕ
 stem zero = replicate 4 32
 stem (suc n) = padded 4 (decimal (suc n))
 
--- the column of a line, or an empty one
+-- a space, and the number of a line after a colon at the right of a column of 5; or an empty column
 abbrev pub line_column : Option ℕ → List ℕ
 line_column None = replicate 6 32
-line_column (Some line) = replicate (5 - length (decimal line)) 32 ++ 58 ∷ decimal line
+line_column (Some line) = 32 ∷ replicate (4 - length (decimal line)) 32 ++ 58 ∷ decimal line
 
 -- what is before the text of a row
 abbrev pub front : Option ℕ → Moment → List ℕ

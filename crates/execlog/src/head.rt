@@ -53,7 +53,7 @@ impl Head {
     {
         let mut room = [b' '; ROOM];
         let from_time = put_millis(&mut room, END, clock);
-        let start = put_column(&mut room, from_time, number);
+        let start = put_column(&mut room, from_time, 5, number);
         let tens = number / 10;
         Head {
             number,

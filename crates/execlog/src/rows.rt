@@ -49,17 +49,18 @@ fn put_digits(room: &mut [u8], end: usize, n: u64) -> usize
     write_digits(n, room, end)
 }
 
-/// Puts a number at the right of a column that ends at a place in room that is blank up to there, and answers where the column begins.
-pub(crate) fn put_column(room: &mut [u8], end: usize, n: u64) -> usize
+/// Puts a number at the right of a column of a width that ends at a place in room that is blank up to there, and answers where the column begins.
+pub(crate) fn put_column(room: &mut [u8], end: usize, width: usize, n: u64) -> usize
     requires within { (25 ≤ end) × (end ≤ length room.old) }
+    requires narrow { width ≤ 5 }
     requires blank { IsBlank end room.old }
     ensures few { end ≤ result + 25 }
-    ensures put { drop result room.new ≡ padded 5 (decimal n) ++ drop end room.old }
+    ensures put { drop result room.new ≡ padded width (decimal n) ++ drop end room.old }
     ensures blank { IsBlank result room.new }
     ensures room { length room.new ≡ length room.old }
 {
     let start = put_digits(room, end, n);
-    start - 5usize.saturating_sub(end - start)
+    start - width.saturating_sub(end - start)
 }
 
 /// The last digit of a number.
@@ -85,22 +86,50 @@ fn put_places(room: &mut [u8], end: usize, micros: u64) -> usize
     put_byte(room, first, b'.')
 }
 
-/// Puts microseconds as milliseconds.
-pub(crate) fn put_millis(room: &mut [u8], end: usize, micros: u64) -> usize
+/// Puts microseconds as milliseconds at the right of a column.
+fn put_time(room: &mut [u8], end: usize, micros: u64) -> usize
     requires within { (29 ≤ end) × (end ≤ length room.old) }
     requires blank { IsBlank end room.old }
     ensures few { end ≤ result + 29 }
-    ensures put { drop result room.new ≡ millis micros ++ drop end room.old }
+    ensures put { drop result room.new ≡ padded 4 (decimal (micros / 1000))
+        ++ 46 ∷ digit (micros / 100) ∷ digit (micros / 10) ∷ digit micros ∷ drop end room.old }
     ensures blank { IsBlank result room.new }
     ensures room { length room.new ≡ length room.old }
 {
     // With no tick yet no digit is calculated.
     if micros == 0 {
         let point = put_places(room, end, 0);
-        return put_column(room, point, 0);
+        return put_column(room, point, 4, 0);
     }
     let point = put_places(room, end, micros);
-    put_column(room, point, micros / 1000)
+    put_column(room, point, 4, micros / 1000)
+}
+
+/// Puts a space, and microseconds as milliseconds.
+pub(crate) fn put_millis(room: &mut [u8], end: usize, micros: u64) -> usize
+    requires within { (30 ≤ end) × (end ≤ length room.old) }
+    requires blank { IsBlank end room.old }
+    ensures few { end ≤ result + 30 }
+    ensures put { drop result room.new ≡ millis micros ++ drop end room.old }
+    ensures blank { IsBlank result room.new }
+    ensures room { length room.new ≡ length room.old }
+{
+    let time = put_time(room, end, micros);
+    put_byte(room, time, b' ')
+}
+
+/// Puts the number of a line after a colon at the right of a column.
+fn put_number(room: &mut [u8], end: usize, line: u64) -> usize
+    requires within { (26 ≤ end) × (end ≤ length room.old) }
+    requires blank { IsBlank end room.old }
+    ensures few { end ≤ result + 25 }
+    ensures put { drop result room.new ≡ replicate (4 - length (decimal line)) 32 ++ 58 ∷ decimal line ++ drop end room.old }
+    ensures blank { IsBlank result room.new }
+    ensures room { length room.new ≡ length room.old }
+{
+    let start = put_digits(room, end, line);
+    let colon = put_byte(room, start, b':');
+    colon - 4usize.saturating_sub(end - start)
 }
 
 /// Puts the column of a line that is known.
@@ -108,13 +137,12 @@ fn put_known_line(room: &mut [u8], end: usize, line: u64) -> usize
     requires within { (26 ≤ end) × (end ≤ length room.old) }
     requires blank { IsBlank end room.old }
     ensures few { end ≤ result + 26 }
-    ensures put { drop result room.new ≡ replicate (5 - length (decimal line)) 32 ++ 58 ∷ decimal line ++ drop end room.old }
+    ensures put { drop result room.new ≡ 32 ∷ replicate (4 - length (decimal line)) 32 ++ 58 ∷ decimal line ++ drop end room.old }
     ensures blank { IsBlank result room.new }
     ensures room { length room.new ≡ length room.old }
 {
-    let start = put_digits(room, end, line);
-    let colon = put_byte(room, start, b':');
-    colon - 5usize.saturating_sub(end - start)
+    let number = put_number(room, end, line);
+    put_byte(room, number, b' ')
 }
 
 /// Puts the column of a line.

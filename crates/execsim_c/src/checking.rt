@@ -1,5 +1,7 @@
 //! What is found in two texts and in their run.
-ghost use Rattle.std.specs.Prelude.{◌≡◌, ◌≢◌, ◌≤◌, ◌↔◌, IfOk, false, true};
+ghost use Rattle.std.specs.Prelude.{◌≡◌, ◌≢◌, ◌≤◌, ◌↔◌, IfOk, IsSome, false, true};
+ghost use Rattle.execadvice.specs.Findings.{fault_of};
+ghost use Rattle.runadvice.specs.Ends.{ends_by_alert};
 ghost use Rattle.taskscript.specs.{File.file_of, Events.script_of};
 ghost use Rattle.execsim_c.specs.Checking.{Judges};
 
@@ -7,7 +9,7 @@ use crate::names::{EVENTS, MACHINE};
 use crate::put::hand_over;
 use crate::refusal::no_memory;
 use crate::status::{ALERTED, EVENTS_REFUSED, MACHINE_REFUSED, RAN};
-use execadvice::{check_events, check_machine};
+use execadvice::{Diagnostic, Look, are_grave, check_events, check_machine, rendered};
 use runadvice::check_run;
 use std::alloc::{AllocError, Global};
 
@@ -36,18 +38,61 @@ fn status_of_findings(is_machine_refused: bool, is_script_refused: bool, warns: 
     }
 }
 
+/// Writes what was found in a text behind what is there already, and answers whether there is more than notes.
+fn add_found(
+    alloc: Global,
+    name: &str,
+    found: &[Diagnostic],
+    text: &mut String,
+) -> Result<bool, AllocError> {
+    text.push_str(rendered(alloc, name, found, Look::PLAIN)?.as_str())?;
+    Ok(are_grave(found))
+}
+
+/// Writes what is found in a machine file, and answers whether it is refused, and whether there is more than notes.
+fn add_machine(alloc: Global, machine: &[u8], text: &mut String) -> Result<(bool, bool), AllocError>
+    ensures { IfOk result (λ judged. (judged.0 ≡ true) ↔ IsSome (fault_of (file_of machine.now))) }
+{
+    let finding = check_machine(alloc, machine)?;
+    let is_refused = finding.fault.is_some();
+    let is_grave = add_found(alloc, MACHINE, &finding.found, text)?;
+    Ok((is_refused, is_grave))
+}
+
+/// Writes what is found in an event text, and answers whether it is refused.
+fn add_events(alloc: Global, events: &[u8], text: &mut String) -> Result<bool, AllocError>
+    ensures { IfOk result (λ is_refused. (is_refused ≡ true) ↔ IsSome (fault_of (script_of events.now))) }
+{
+    let finding = check_events(alloc, events)?;
+    let is_refused = finding.fault.is_some();
+    add_found(alloc, EVENTS, &finding.found, text)?;
+    Ok(is_refused)
+}
+
+/// Writes what is found in the run of two texts, and answers whether an alert ended it or there is more than notes.
+fn add_run(
+    alloc: Global,
+    machine: &[u8],
+    events: &[u8],
+    text: &mut String,
+) -> Result<bool, AllocError>
+    ensures { IfOk result (λ warns. ends_by_alert (file_of machine.now) (script_of events.now) ≡ true → warns ≡ true) }
+{
+    let report = check_run(alloc, machine, events)?;
+    let is_alerted = report.is_alerted;
+    let is_grave = add_found(alloc, MACHINE, &report.found, text)?;
+    Ok(is_alerted || is_grave)
+}
+
 /// What is found in two texts and in their run, as `execcheck` finds it.
 fn found_in(alloc: Global, machine: &[u8], events: &[u8]) -> Result<Found, AllocError>
     ensures { IfOk result (λ found. Judges (file_of machine.now) (script_of events.now) found.status) }
 {
-    let of_machine = check_machine(alloc, MACHINE, machine)?;
-    let of_events = check_events(alloc, EVENTS, events)?;
-    let of_run = check_run(alloc, MACHINE, machine, events)?;
-    let warns = of_run.is_alerted || of_run.warns || !of_machine.text.is_empty();
-    let status = status_of_findings(of_machine.fault.is_some(), of_events.fault.is_some(), warns);
-    let mut text = of_machine.text;
-    text.push_str(of_events.text.as_str())?;
-    text.push_str(of_run.text.as_str())?;
+    let mut text = String::new(alloc);
+    let (is_machine_refused, is_grave) = add_machine(alloc, machine, &mut text)?;
+    let is_script_refused = add_events(alloc, events, &mut text)?;
+    let warns = add_run(alloc, machine, events, &mut text)? || is_grave;
+    let status = status_of_findings(is_machine_refused, is_script_refused, warns);
     Ok(Found { text, status })
 }
 

@@ -104,9 +104,10 @@ fn refuse_search(failure: &Failure<'_>, out: &mut [u8], length: &mut u64) -> u32
         Failure::NoMemory | Failure::CannotRead(_, _) | Failure::WriteFailed => no_memory(
             out, length,
         ),
-        Failure::TooManyWays(_, _) | Failure::TooManyOutcomes | Failure::TooManyTicks(_) => {
-            refuse_with(&Unanswered(failure), TOO_MANY, out, length)
-        }
+        Failure::TooManyWays(_, _)
+        | Failure::TooManyOutcomes
+        | Failure::TooMuch(_)
+        | Failure::TooManyTicks(_) => { refuse_with(&Unanswered(failure), TOO_MANY, out, length) }
         _ => refuse_with(&Unanswered(failure), NOT_THERE, out, length),
     }
 }
@@ -128,7 +129,7 @@ fn hand_over_answer(found: Result<Answer, Failure<'_>>, out: &mut [u8], length: 
 /// 0 if there is one outcome and no alert, and 3 if there are more or an alert. 5 if the report is longer than `out`, which is left alone then; `length`
 /// says how long. Otherwise `out` begins with the words of the fault, as far as there is room, and they are `length` bytes: 1 if the machine
 /// file is refused, 2 if the event text is, 4 if memory was refused, 7 if a number is out of range, and 8 if there are more ways than the limit,
-/// or more outcomes or ticks than a search takes.
+/// or more outcomes, bytes of outcomes or ticks than a search takes.
 ///
 /// Source: project rule.
 #[unsafe(no_mangle)]

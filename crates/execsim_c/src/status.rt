@@ -30,7 +30,7 @@ pub(crate) const NO_MACHINE: u32 = 6;
 /// The status if there is no such task, step or outcome, or no block at the address, or if a number is out of range.
 pub(crate) const NOT_THERE: u32 = 7;
 
-/// The status if a search has more ways, outcomes or ticks than it takes.
+/// The status if a search has more ways, outcomes, bytes of outcomes or ticks than it takes.
 pub(crate) const TOO_MANY: u32 = 8;
 
 /// The status of a run that came to its end.

@@ -1,12 +1,12 @@
 //! The book of a machine file: its bodies with the line and the text of each command.
 
-use crate::lines::{CodeLines, Shown};
+use execadvice::Written;
 use execlog::{Body, Book, Place};
 use script::{Command, Name, PlainWord, Word};
 use std::alloc::{AllocError, Global};
 use std::str::from_utf8;
-use taskscript::{BodyListing, Listed, items_at, line_in, lines_of};
-use toml::{Table, Value};
+use taskscript::{Array, BodyListing, LinePlace, Listed, Owner};
+use toml_parser::{ParseError, quoted, starts_string};
 
 /// Whether a word prints nothing.
 fn is_silent(word: Word) -> bool {
@@ -17,77 +17,65 @@ fn is_silent(word: Word) -> bool {
     }
 }
 
-/// The strings of the body of a table.
-fn strings_of(owners: &[Value], item: usize) -> &[Value] {
-    match owners.get(item) {
-        None => &[],
-        Some(owner) => lines_of(owner),
+/// The text of a string, as the file has it with its quotes: escapes are read, and what is left out of it is not there. Empty for what is no string.
+fn text_of(alloc: Global, string: &str) -> Result<String, AllocError> {
+    if !starts_string(string) {
+        return Ok(String::new(alloc));
+    }
+    match quoted(alloc, string) {
+        Ok((text, _)) => Ok(text),
+        Err(ParseError::OutOfMemory) => Err(AllocError),
+        Err(_) => Ok(String::new(alloc)),
     }
 }
 
-/// The string at a place; empty if there is none.
-fn string_at(strings: &[Value], place: usize) -> &str {
-    match strings.get(place) {
-        None => "",
-        Some(item) => line_in(item),
+/// The bodies of one kind, as the file has them.
+#[derive(Clone, Copy)]
+struct Owners<'w, 'a> {
+    written: &'w Written<'a>,
+    owner: Owner,
+    array: Array,
+}
+
+impl Owners<'_, '_> {
+    /// The line in which the command of a string begins.
+    fn line_of(self, item: usize, string: usize) -> Option<u32> {
+        let place = LinePlace {
+            owner: self.owner,
+            item,
+            line: string,
+        };
+        u32::try_from(self.written.place_of_code(place, 0)?.line).ok()
     }
-}
 
-/// The text of a command without the spaces around it.
-fn source_of(alloc: Global, line: &str) -> Result<String, AllocError> {
-    let mut source = String::new(alloc);
-    source.push_str(line.trim())?;
-    Ok(source)
-}
+    /// The text of the command of a string.
+    fn source_of(self, alloc: Global, item: usize, string: usize) -> Result<String, AllocError> {
+        match self.written.line(self.array, item, string) {
+            None => Ok(String::new(alloc)),
+            Some(part) => text_of(alloc, part.text),
+        }
+    }
 
-/// An array of a machine file whose tables have bodies.
-#[derive(Drop)]
-struct Owners<'a> {
-    items: &'a [Value],
-    lines: CodeLines,
-}
-
-/// The array of that name.
-fn owners_of<'a>(
-    alloc: Global,
-    text: &str,
-    table: &'a Table,
-    name: &str,
-) -> Result<Owners<'a>, AllocError> {
-    Ok(Owners {
-        items: items_at(table, name),
-        lines: CodeLines::new(alloc, text, name)?,
-    })
-}
-
-impl Owners<'_> {
-    /// A command of the body of a table, which is in the string of that number.
+    /// A command of a body, which is in the string of that number.
     fn place_of(
-        &self,
+        self,
         alloc: Global,
         item: usize,
         string: usize,
         command: &Command,
     ) -> Result<Place, AllocError> {
-        let strings = strings_of(self.items, item);
-        let shown = Shown {
-            table: item,
-            tables: self.items.len(),
-            strings: strings.len(),
-        };
-        let source = source_of(alloc, string_at(strings, string))?;
         Place::new(
             alloc,
-            self.lines.line_of(shown, string),
-            source,
+            self.line_of(item, string),
+            self.source_of(alloc, item, string)?,
             is_silent(command.word),
             *command,
         )
     }
 
-    /// The body of a table.
+    /// The body of that number.
     fn body_of(
-        &self,
+        self,
         alloc: Global,
         item: usize,
         name: Name,
@@ -106,10 +94,15 @@ impl Owners<'_> {
 /// Adds the software interrupts.
 fn push_softints(
     alloc: Global,
-    owners: &Owners<'_>,
+    written: &Written<'_>,
     listed: &Listed,
     bodies: &mut Vec<Body>,
 ) -> Result<(), AllocError> {
+    let owners = Owners {
+        written,
+        owner: Owner::Softint,
+        array: Array::Softint,
+    };
     for (i, one) in listed.machine.softints().iter().enumerate() {
         if let Some(listing) = listed.listing.softints().get(i) {
             bodies.push(owners.body_of(alloc, i, one.name, &one.code, listing)?)?;
@@ -121,10 +114,15 @@ fn push_softints(
 /// Adds the servers.
 fn push_servers(
     alloc: Global,
-    owners: &Owners<'_>,
+    written: &Written<'_>,
     listed: &Listed,
     bodies: &mut Vec<Body>,
 ) -> Result<(), AllocError> {
+    let owners = Owners {
+        written,
+        owner: Owner::Server,
+        array: Array::Server,
+    };
     for (i, one) in listed.machine.servers().iter().enumerate() {
         if let Some(listing) = listed.listing.servers().get(i) {
             bodies.push(owners.body_of(alloc, i, one.name, &one.code, listing)?)?;
@@ -136,10 +134,15 @@ fn push_servers(
 /// Adds the tasks.
 fn push_tasks(
     alloc: Global,
-    owners: &Owners<'_>,
+    written: &Written<'_>,
     listed: &Listed,
     bodies: &mut Vec<Body>,
 ) -> Result<(), AllocError> {
+    let owners = Owners {
+        written,
+        owner: Owner::Task,
+        array: Array::Task,
+    };
     for (i, one) in listed.machine.tasks().iter().enumerate() {
         if let Some(listing) = listed.listing.tasks().get(i) {
             bodies.push(owners.body_of(alloc, i, one.name, &one.code, listing)?)?;
@@ -148,7 +151,7 @@ fn push_tasks(
     Ok(())
 }
 
-/// The book of a machine file that was accepted, by its bytes and its listing.
+/// The book of a machine file that was accepted, by its bytes and its listing: each command is where `execcheck` places it.
 ///
 /// # Errors
 ///
@@ -156,17 +159,11 @@ fn push_tasks(
 ///
 /// Source: project rule.
 pub fn book_of(alloc: Global, bytes: &[u8], listed: &Listed) -> Result<Book, AllocError> {
+    let written = Written::new(alloc, from_utf8(bytes).unwrap_or(""))?;
     let mut tasks = Vec::new(alloc);
     let mut interrupts = Vec::new(alloc);
-    let Ok(table) = toml::table_from_slice(alloc, bytes) else {
-        return Err(AllocError);
-    };
-    let text = from_utf8(bytes).unwrap_or("");
-    let softints = owners_of(alloc, text, &table, "softint")?;
-    push_softints(alloc, &softints, listed, &mut interrupts)?;
-    let servers = owners_of(alloc, text, &table, "server")?;
-    push_servers(alloc, &servers, listed, &mut interrupts)?;
-    let owners = owners_of(alloc, text, &table, "task")?;
-    push_tasks(alloc, &owners, listed, &mut tasks)?;
+    push_softints(alloc, &written, listed, &mut interrupts)?;
+    push_servers(alloc, &written, listed, &mut interrupts)?;
+    push_tasks(alloc, &written, listed, &mut tasks)?;
     Ok(Book::new(tasks, interrupts))
 }

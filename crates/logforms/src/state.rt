@@ -7,12 +7,20 @@ mod objects;
 mod tasks;
 
 use crate::page::Page;
+use crate::public_ports::PublicPorts;
 use crate::run::Run;
 use crate::values::push_number;
 use escape::shown_text;
 use execlist::space::ListSpace;
 use execsim::Machine;
 use std::alloc::{AllocError, Global};
+
+/// What is known of a machine beside what it shows.
+#[derive(Clone, Copy)]
+struct Known<'a> {
+    run: &'a Run,
+    public: &'a PublicPorts,
+}
 
 /// Adds the title of a page.
 fn push_title(page: &mut Page, path: &str, number: u64, last: u64) {
@@ -25,7 +33,7 @@ fn push_title(page: &mut Page, path: &str, number: u64, last: u64) {
 }
 
 /// The page of what a machine of a run shows after the step of a number, of which the last one has the number `last`. `path` names the machine file
-/// in the title.
+/// in the title, and `public` has heard the run so far.
 ///
 /// # Errors
 ///
@@ -37,6 +45,7 @@ pub fn page_of<S: ListSpace>(
     run: &Run,
     path: &str,
     machine: &Machine<S>,
+    public: &PublicPorts,
     number: u64,
     last: u64,
 ) -> Result<String, AllocError> {
@@ -45,6 +54,6 @@ pub fn page_of<S: ListSpace>(
     push_title(&mut page, path.as_str(), number, last);
     machine::push_machine(&mut page, machine, run);
     tasks::push_tasks(&mut page, machine, run);
-    memory::push_memory(&mut page, machine, run);
+    memory::push_memory(&mut page, machine, &Known { run, public });
     page.finish()
 }

@@ -1,11 +1,14 @@
 //! What the options choose of a run, or why the run does not have it.
 
+ghost use Rattle.std.specs.Prelude.{◌≡◌, ◌<◌, ◌≤◌, IfErr, IfOk, OnErr, OnOk, is_some, unwrap_or};
+ghost use Rattle.logger.specs.{Choosing.Chooses, Choosing.IsPast, Choosing.IsWithin, Failing.IsAbsent};
+
 use crate::command_line::Paths;
 use crate::failure::Failure;
 use crate::options::Options;
 use escape::Shown;
 use execlog::{Body, Book, Filter, Who};
-use logforms::{Run, last_number};
+use logforms::Run;
 use std::alloc::{AllocError, Global};
 
 /// A part of a run.
@@ -29,22 +32,41 @@ pub fn number_within<'a>(
     option: &str,
     number: u64,
     last: u64,
-) -> Result<u64, Failure<'a>> {
+) -> Result<u64, Failure<'a>>
+    ensures number { IfOk result (λ n. n ≡ number) }
+    ensures within { OnOk result (number ≤ last) }
+    ensures past { OnErr result (last < number) }
+    ensures failure { IfErr result IsAbsent }
+{
     if number <= last {
         return Ok(number);
     }
-    let sentence = format!(in alloc;
+    Err(absent(format!(in alloc;
         "{option} {number}: the run ends with step {last}; give a number from 0 to {last}, or add events"
-    )?;
-    Err(Failure::Absent(sentence))
+    )))
 }
 
-/// Why the first step is after the last one.
-fn order_fault<'a>(alloc: Global, from: u64, to: u64) -> Result<Failure<'a>, AllocError> {
-    let sentence = format!(in alloc;
+/// The failure of what the run does not have, by the sentence that says what it has, if there is memory for that.
+fn absent<'a>(sentence: Result<String, AllocError>) -> Failure<'a>
+    ensures { IsAbsent result }
+{
+    match sentence {
+        Ok(sentence) => Failure::Absent(sentence),
+        Err(_) => Failure::NoMemory,
+    }
+}
+
+/// Refuses a first step that is after the last one.
+fn check_order<'a>(alloc: Global, from: u64, to: u64) -> Result<(), Failure<'a>>
+    ensures order { OnOk result (from ≤ to) }
+    ensures failure { IfErr result IsAbsent }
+{
+    if from <= to {
+        return Ok(());
+    }
+    Err(absent(format!(in alloc;
         "--from {from} is after --to {to}; give a --from that is not greater than --to"
-    )?;
-    Ok(Failure::Absent(sentence))
+    )))
 }
 
 /// The nearest line below `line` with a command, and the nearest above it.
@@ -87,9 +109,7 @@ fn has_line(bodies: &[Body], line: u64) -> bool {
 fn no_command(alloc: Global, book: &Book, path: &str, line: u64) -> Result<String, AllocError> {
     let path = Shown(path);
     match neighbours(book, line) {
-        (None, None) => format!(in alloc;
-            "--at {line}: it is not known in which lines of {path} its commands are; write each as a string of its own line below a header [[task]], [[server]] or [[softint]]"
-        ),
+        (None, None) => format!(in alloc; "--at {line}: {path} has no command"),
         (Some(below), None) => format!(in alloc;
             "--at {line}: line {line} of {path} has no command; the last line that has one is {below}"
         ),
@@ -108,12 +128,16 @@ fn line_asked<'a>(
     book: &Book,
     path: &str,
     at: Option<u64>,
-) -> Result<Option<u32>, Failure<'a>> {
+) -> Result<Option<u32>, Failure<'a>>
+    ensures line { IfOk result (λ line. line ≡ at) }
+    ensures failure { IfErr result IsAbsent }
+{
     let Some(line) = at else { return Ok(None) };
-    if has_line(&book.tasks, line) || has_line(&book.interrupts, line) {
-        return Ok(u32::try_from(line).ok());
+    let has_one = has_line(&book.tasks, line) || has_line(&book.interrupts, line);
+    match u32::try_from(line) {
+        Ok(small) if has_one => Ok(Some(small)),
+        _ => Err(absent(no_command(alloc, book, path, line))),
     }
-    Err(Failure::Absent(no_command(alloc, book, path, line)?))
 }
 
 /// Adds the names of some bodies.
@@ -164,11 +188,14 @@ fn who_asked<'a>(
     book: &Book,
     path: &str,
     task: Option<&str>,
-) -> Result<Option<Who>, Failure<'a>> {
+) -> Result<Option<Who>, Failure<'a>>
+    ensures who { IfOk result (λ who. is_some who ≡ is_some task.entry) }
+    ensures failure { IfErr result IsAbsent }
+{
     let Some(name) = task else { return Ok(None) };
     match named(book, name) {
         Some(who) => Ok(Some(who)),
-        None => Err(Failure::Absent(no_name(alloc, book, path, name)?)),
+        None => Err(absent(no_name(alloc, book, path, name))),
     }
 }
 
@@ -185,14 +212,19 @@ pub fn number_or<'a>(
     number: Option<u64>,
     last: u64,
     other: u64,
-) -> Result<u64, Failure<'a>> {
+) -> Result<u64, Failure<'a>>
+    ensures number { IfOk result (λ n. n ≡ unwrap_or number other) }
+    ensures within { OnOk result (IsWithin number last) }
+    ensures past { OnErr result (IsPast number last) }
+    ensures failure { IfErr result IsAbsent }
+{
     match number {
         None => Ok(other),
         Some(number) => number_within(alloc, option, number, last),
     }
 }
 
-/// What the options choose of a run.
+/// What the options choose of a run, of which the last step has the number `end`.
 ///
 /// # Errors
 ///
@@ -202,21 +234,20 @@ pub fn number_or<'a>(
 pub fn chosen<'a>(
     alloc: Global,
     run: &Run,
+    end: u64,
     paths: Paths<'a>,
     options: &Options<'a>,
-) -> Result<Choice, Failure<'a>> {
-    let end = last_number(run.events.list());
+) -> Result<Choice, Failure<'a>>
+    ensures choice { IfOk result (Chooses options.now end) }
+    ensures failure { IfErr result IsAbsent }
+{
     let from = number_or(alloc, "--from", options.from, end, 0)?;
     let last = number_or(alloc, "--to", options.to, end, end)?;
-    if from > last {
-        return Err(order_fault(alloc, from, last)?);
-    }
+    check_order(alloc, from, last)?;
+    let at = line_asked(alloc, &run.book, paths.machine, options.at)?;
+    let by = who_asked(alloc, &run.book, paths.machine, options.task)?;
     Ok(Choice {
-        filter: Filter {
-            from,
-            at: line_asked(alloc, &run.book, paths.machine, options.at)?,
-            by: who_asked(alloc, &run.book, paths.machine, options.task)?,
-        },
+        filter: Filter { from, at, by },
         last,
     })
 }

@@ -1,5 +1,8 @@
 //! The command line: options and two paths.
 
+ghost use Rattle.std.specs.Prelude.{◌≡◌, IfErr, IfOk, OnOk};
+ghost use Rattle.logger.specs.Asking.{GoesWith, IsOfOption, IsOfWords, picks, selects};
+
 use crate::failure::Failure;
 use crate::options::{Options, View, number_in};
 use clap::error::ErrorKind;
@@ -26,6 +29,11 @@ pub enum Refusal<'a> {
 }
 
 impl From<AllocError> for Refusal<'_> {
+    ghost use Rattle.logger.specs.declared.command_line.Refusal.TheVariants.{Command};
+    ghost use Rattle.logger.specs.declared.failure.Failure.TheVariants.{NoMemory};
+
+    ghost from_gives = { λ _ refusal. refusal ≡ Command NoMemory };
+
     fn from(_error: AllocError) -> Self {
         Refusal::Command(Failure::NoMemory)
     }
@@ -38,6 +46,10 @@ impl From<Error> for Refusal<'_> {
 }
 
 impl<'a> From<Failure<'a>> for Refusal<'a> {
+    ghost use Rattle.logger.specs.declared.command_line.Refusal.TheVariants.{Command};
+
+    ghost from_gives = { λ failure refusal. refusal ≡ Command failure };
+
     fn from(failure: Failure<'a>) -> Self {
         Refusal::Command(failure)
     }
@@ -141,7 +153,9 @@ fn number_given<'a>(
     matches: &ArgMatches<'a>,
     name: &str,
     sentence: &'static str,
-) -> Result<Option<u64>, Failure<'a>> {
+) -> Result<Option<u64>, Failure<'a>>
+    ensures { IfErr result IsOfOption }
+{
     match matches.get_str(name) {
         None => Ok(None),
         Some(word) => match number_in(word) {
@@ -160,7 +174,9 @@ fn forms_given(matches: &ArgMatches<'_>, state: Option<u64>) -> u32 {
 }
 
 /// What is asked for: the form.
-fn view_given<'a>(matches: &ArgMatches<'a>) -> Result<View, Failure<'a>> {
+fn view_given<'a>(matches: &ArgMatches<'a>) -> Result<View, Failure<'a>>
+    ensures { IfErr result IsOfOption }
+{
     let state = number_given(
         matches,
         "state",
@@ -185,10 +201,27 @@ fn view_given<'a>(matches: &ArgMatches<'a>) -> Result<View, Failure<'a>> {
     }
 }
 
+/// Whether the first or the last step is named.
+fn selects(options: &Options<'_>) -> bool
+    ensures { result ≡ selects options.now }
+{
+    options.from.is_some() || options.to.is_some()
+}
+
+/// Whether only what is at a line or what one does is shown, or also the words that print nothing.
+fn picks(options: &Options<'_>) -> bool
+    ensures { result ≡ picks options.now }
+{
+    options.at.is_some() || options.task.is_some() || options.plain_words
+}
+
 /// Refuses options that a form does not take.
-fn check_options<'a>(options: &Options<'a>) -> Result<(), Failure<'a>> {
-    let selects = options.from.is_some() || options.to.is_some();
-    let picks = options.at.is_some() || options.task.is_some() || options.plain_words;
+fn check_options<'a>(options: &Options<'a>) -> Result<(), Failure<'a>>
+    ensures allowed { OnOk result (GoesWith options.now.view options.now) }
+    ensures failure { IfErr result IsOfOption }
+{
+    let selects = selects(options);
+    let picks = picks(options);
     match options.view {
         View::Rows | View::Json => Ok(()),
         View::State(_) => {
@@ -213,7 +246,10 @@ fn check_options<'a>(options: &Options<'a>) -> Result<(), Failure<'a>> {
 }
 
 /// What the options ask for.
-fn options_in<'a>(matches: &ArgMatches<'a>) -> Result<Options<'a>, Failure<'a>> {
+fn options_in<'a>(matches: &ArgMatches<'a>) -> Result<Options<'a>, Failure<'a>>
+    ensures allowed { IfOk result (λ options. GoesWith options.view options) }
+    ensures failure { IfErr result IsOfOption }
+{
     let options = Options {
         view: view_given(matches)?,
         plain_words: matches.get_flag("plain-words"),
@@ -273,6 +309,24 @@ fn error_shown(alloc: Global, words: &[&str], error: Error) -> Result<Error, All
     }
 }
 
+/// What the matches of a command line ask for.
+#[tactic(auto, using(crate::proofs::FailLemmas::of_option))]
+fn asked_of<'a>(matches: &ArgMatches<'a>) -> Result<(Paths<'a>, Options<'a>), Refusal<'a>>
+    ensures allowed { IfOk result (λ asked. GoesWith asked.1.view asked.1) }
+    ensures refusal { IfErr result IsOfWords }
+{
+    let (Some(machine), Some(events)) = (matches.get_str("MACHINE"), matches.get_str("EVENTS"))
+    else {
+        return Err(Refusal::Command(Failure::Option(
+            "two paths are wanted, MACHINE and EVENTS; see execlog --help",
+        )));
+    };
+    match options_in(matches) {
+        Ok(options) => Ok((Paths { machine, events }, options)),
+        Err(failure) => Err(Refusal::Command(failure)),
+    }
+}
+
 /// What the words of a command line ask for.
 ///
 /// # Errors
@@ -280,22 +334,18 @@ fn error_shown(alloc: Global, words: &[&str], error: Error) -> Result<Error, All
 /// What `clap` answers, and a value that an option does not take.
 ///
 /// Source: project rule.
+#[tactic(auto, using(crate::proofs::FailLemmas::words_by_memory))]
 pub fn asked_by<'a>(
     alloc: Global,
     words: &'a [&'a str],
-) -> Result<(Paths<'a>, Options<'a>), Refusal<'a>> {
-    let matches = match command(alloc)?.try_get_matches_from(words) {
-        Ok(matches) => matches,
-        Err(error) => return Err(Refusal::Words(error_shown(alloc, words, error)?)),
-    };
-    let (Some(machine), Some(events)) = (matches.get_str("MACHINE"), matches.get_str("EVENTS"))
-    else {
-        return Err(Refusal::Command(Failure::Option(
-            "two paths are wanted, MACHINE and EVENTS; see execlog --help",
-        )));
-    };
-    let options = options_in(&matches)?;
-    Ok((Paths { machine, events }, options))
+) -> Result<(Paths<'a>, Options<'a>), Refusal<'a>>
+    ensures allowed { IfOk result (λ asked. GoesWith asked.1.view asked.1) }
+    ensures refusal { IfErr result IsOfWords }
+{
+    match command(alloc)?.try_get_matches_from(words) {
+        Ok(matches) => asked_of(&matches),
+        Err(error) => Err(Refusal::Words(error_shown(alloc, words, error)?)),
+    }
 }
 
 /// The error of a command line whose words are no text.

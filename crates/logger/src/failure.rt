@@ -1,5 +1,6 @@
 //! Why the command does not show what is asked for, what it says of it, and the status that it ends with.
-ghost use Rattle.std.specs.Prelude.{◌≤◌};
+ghost use Rattle.std.specs.Prelude.{◌≡◌, ◌≤◌, ◌⊎◌};
+ghost use Rattle.logger.specs.Failing.{of_machine, of_picture, of_script, of_text, status_of};
 
 use execlog::LogFault;
 use execpicture::PictureFault;
@@ -40,18 +41,30 @@ pub enum Failure<'a> {
 }
 
 impl From<AllocError> for Failure<'_> {
+    ghost use Rattle.logger.specs.declared.failure.Failure.TheVariants.{NoMemory};
+
+    ghost from_gives = { λ _ failure. failure ≡ NoMemory };
+
     fn from(_error: AllocError) -> Self {
         Failure::NoMemory
     }
 }
 
 impl<T: Drop> From<AllocFailed<T>> for Failure<'_> {
+    ghost use Rattle.logger.specs.declared.failure.Failure.TheVariants.{NoMemory};
+
+    ghost from_gives = { λ _ failure. failure ≡ NoMemory };
+
     fn from(_error: AllocFailed<T>) -> Self {
         Failure::NoMemory
     }
 }
 
 impl From<LogFault> for Failure<'_> {
+    ghost use Rattle.logger.specs.Failing.{of_log};
+
+    ghost from_gives = { λ fault failure. failure ≡ of_log fault };
+
     fn from(fault: LogFault) -> Self {
         match fault {
             LogFault::Memory => Failure::NoMemory,
@@ -60,37 +73,42 @@ impl From<LogFault> for Failure<'_> {
     }
 }
 
-impl From<PictureFault> for Failure<'_> {
-    fn from(fault: PictureFault) -> Self {
+impl<'a> Failure<'a> {
+    /// Why a machine file gives no run.
+    pub(crate) fn of_machine(fault: FileFault) -> Failure<'a>
+        ensures { result ≡ of_machine fault }
+    {
+        match fault {
+            FileFault::OutOfMemory => Failure::NoMemory,
+            other => Failure::Machine(other),
+        }
+    }
+
+    /// Why an event text gives no run.
+    pub(crate) fn of_script(fault: EventFault) -> Failure<'a>
+        ensures { result ≡ of_script fault }
+    {
+        match fault {
+            EventFault::OutOfMemory => Failure::NoMemory,
+            other => Failure::Events(other),
+        }
+    }
+
+    /// Why a picture is not drawn.
+    pub(crate) fn of_picture(fault: PictureFault) -> Failure<'a>
+        ensures { result ≡ of_picture fault }
+    {
         match fault {
             PictureFault::Memory => Failure::NoMemory,
             PictureFault::Write => Failure::WriteFailed,
             other => Failure::Picture(other),
         }
     }
-}
 
-impl From<FileFault> for Failure<'_> {
-    fn from(fault: FileFault) -> Self {
-        match fault {
-            FileFault::OutOfMemory => Failure::NoMemory,
-            other => Failure::Machine(other),
-        }
-    }
-}
-
-impl From<EventFault> for Failure<'_> {
-    fn from(fault: EventFault) -> Self {
-        match fault {
-            EventFault::OutOfMemory => Failure::NoMemory,
-            other => Failure::Events(other),
-        }
-    }
-}
-
-impl<'a> Failure<'a> {
     /// Why the text at a path is not at hand.
-    pub(crate) fn of_text(path: &'a str, fault: TextFault) -> Failure<'a> {
+    pub(crate) fn of_text(path: &'a str, fault: TextFault) -> Failure<'a>
+        ensures { result ≡ of_text path.entry fault }
+    {
         match fault {
             TextFault::NoMemory => Failure::NoMemory,
             TextFault::CannotRead(why) => Failure::CannotRead(path, why),
@@ -103,7 +121,9 @@ impl Failure<'_> {
     ///
     /// Source: project rule.
     pub fn status(&self) -> u8
-        ensures { result ≤ 4 }
+        ensures is { result ≡ status_of self.now }
+        ensures within { result ≤ 4 }
+        ensures refuses { (result ≡ 1) ⊎ (result ≡ 2) ⊎ (result ≡ 4) }
     {
         match self {
             Failure::Machine(_) | Failure::Events(_) => TEXT_REFUSED,
@@ -143,7 +163,9 @@ impl fmt::Display for Failure<'_> {
 ///
 /// Source: project rule.
 pub fn report<E: Write>(failure: &Failure<'_>, err: &mut E) -> u8
-    ensures { result ≤ 4 }
+    ensures is { result ≡ status_of failure.now }
+    ensures within { result ≤ 4 }
+    ensures refuses { (result ≡ 1) ⊎ (result ≡ 2) ⊎ (result ≡ 4) }
 {
     let _ = writeln!(err, "execlog: {failure}");
     failure.status()

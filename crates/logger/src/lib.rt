@@ -4,6 +4,7 @@
 
 mod choice;
 mod command_line;
+mod ending;
 mod failure;
 mod options;
 mod pictures;

@@ -1,13 +1,16 @@
 //! Pictures of a part of a run, drawn by `execpicture`.
 
+ghost use Rattle.std.specs.Prelude.{IfErr, OnOk};
+ghost use Rattle.logger.specs.{Choosing.IsWithin, Failing.IsAbsent, Failing.IsOfPicture};
+
 use crate::choice::number_or;
 use crate::command_line::Paths;
 use crate::failure::Failure;
 use crate::options::{Options, View};
 use escape::shown_text;
-use execpicture::{Stretch, write_chrome, write_svg};
+use execpicture::{PictureFault, Stretch, write_chrome, write_svg};
 use exectrace::WriteSink;
-use logforms::{Run, last_number};
+use logforms::Run;
 use std::alloc::Global;
 use std::io::Write;
 
@@ -24,16 +27,36 @@ fn file_name(path: &str) -> &str {
 /// # Errors
 ///
 /// `Absent` if the run has no step of a number.
-fn stretch_of<'a>(alloc: Global, run: &Run, options: &Options<'a>) -> Result<Stretch, Failure<'a>> {
-    let last = last_number(run.events.list());
-    Ok(Stretch {
-        from: number_or(alloc, "--from", options.from, last, 0)?,
-        to: number_or(alloc, "--to", options.to, last, last)?,
-    })
+fn stretch_of<'a>(alloc: Global, end: u64, options: &Options<'a>) -> Result<Stretch, Failure<'a>>
+    ensures from { OnOk result (IsWithin options.now.from end) }
+    ensures to { OnOk result (IsWithin options.now.to end) }
+    ensures failure { IfErr result IsAbsent }
+{
+    let from = number_or(alloc, "--from", options.from, end, 0)?;
+    let to = number_or(alloc, "--to", options.to, end, end)?;
+    Ok(Stretch { from, to })
+}
+
+/// Draws a part of a run as an SVG document, or in the Trace Event Format.
+fn draw<W: Write>(
+    alloc: Global,
+    run: &Run,
+    title: &str,
+    is_svg: bool,
+    part: Stretch,
+    out: &mut W,
+) -> Result<bool, PictureFault> {
+    let mut sink = WriteSink::new(&mut *out);
+    if is_svg {
+        write_svg(alloc, &run.listed, &run.events, title, part, &mut sink)
+    } else {
+        write_chrome(alloc, &run.listed, &run.events, title, part, &mut sink)
+    }
 }
 
 /// Writes a picture of the part of a run that the options choose, with the name of the machine file as its title: an SVG document for the view
-/// `Svg`, and one in the Trace Event Format for any other. Answers whether an alert has stopped the machine by the end of the part.
+/// `Svg`, and one in the Trace Event Format for any other. `end` is the number of the last step of the run. Answers whether an alert has stopped the
+/// machine by the end of the part.
 ///
 /// # Errors
 ///
@@ -41,20 +64,30 @@ fn stretch_of<'a>(alloc: Global, run: &Run, options: &Options<'a>) -> Result<Str
 /// writer does not take all.
 ///
 /// Source: project rule.
+#[tactic(auto, using(crate::proofs::FailLemmas::picture_by_part, crate::proofs::FailLemmas::picture_by_fault, crate::proofs::FailLemmas::picture_by_memory))]
 pub fn write_picture<'a, W: Write>(
     alloc: Global,
     run: &Run,
+    end: u64,
     paths: Paths<'a>,
     options: &Options<'a>,
     out: &mut W,
-) -> Result<bool, Failure<'a>> {
-    let part = stretch_of(alloc, run, options)?;
-    let shown = shown_text(alloc, file_name(paths.machine))?;
-    let title = shown.as_str();
-    let mut sink = WriteSink::new(&mut *out);
-    if options.view == View::Svg {
-        Ok(write_svg(alloc, &run.listed, &run.events, title, part, &mut sink)?)
-    } else {
-        Ok(write_chrome(alloc, &run.listed, &run.events, title, part, &mut sink)?)
+) -> Result<bool, Failure<'a>>
+    ensures from { OnOk result (IsWithin options.now.from end) }
+    ensures to { OnOk result (IsWithin options.now.to end) }
+    ensures failure { IfErr result IsOfPicture }
+{
+    let part = stretch_of(alloc, end, options)?;
+    let title = shown_text(alloc, file_name(paths.machine))?;
+    match draw(
+        alloc,
+        run,
+        title.as_str(),
+        options.view == View::Svg,
+        part,
+        out,
+    ) {
+        Ok(is_stopped) => Ok(is_stopped),
+        Err(fault) => Err(Failure::of_picture(fault)),
     }
 }

@@ -1,11 +1,13 @@
 //! The command over any words and writers, and on the arguments of its process.
-ghost use Rattle.std.specs.Prelude.{◌≡◌, ◌≤◌, IfOk, false, sum_by};
+ghost use Rattle.std.specs.Prelude.{◌≡◌, ◌≤◌, ◌⊎◌, IfErr, IfOk, OnOk, false, sum_by};
 ghost use Rattle.script.specs.Events.{event_ticks};
 ghost use Rattle.execsim.specs.Time.{HasTimeFor};
 ghost use Rattle.execlog.specs.Log.{turns};
+ghost use Rattle.logger.specs.{Asking.IsOfWords, Failing.IsNoText, Failing.status_of, Reading.RefusesSome, Reading.RunsSome};
 
 use crate::choice::{Choice, chosen, number_within};
 use crate::command_line::{Paths, Refusal, asked_by, not_text_error};
+use crate::ending::check_first;
 use crate::failure::{Failure, report};
 use crate::options::{Options, View};
 use crate::pictures::write_picture;
@@ -43,12 +45,13 @@ const HEAD: &[u8] = b" step       ms  line  trace                               
 
 /// The status of a run.
 fn status_of(is_stopped: bool) -> u8
-    ensures { result ≤ 4 }
+    ensures { (result ≡ 0) ⊎ (result ≡ 3) }
 {
     if is_stopped { ALERTED } else { DONE }
 }
 
 /// Runs a machine that was not started yet over events, and writes its log in a form.
+#[tactic(auto, using(crate::proofs::FailLemmas::log_no_text))]
 fn write_log_of<'a, F: Form, W: Write>(
     alloc: Global,
     machine: &mut Machine<LinkSpace>,
@@ -60,7 +63,8 @@ fn write_log_of<'a, F: Form, W: Write>(
     requires left { HasTimeFor 1000000 machine.old.seen }
     requires few { sum_by turns events.now ≤ 4000000 }
     requires time { sum_by event_ticks events.now ≤ 1000000 }
-    ensures { IfOk result (λ status. status ≤ 4) }
+    ensures status { IfOk result (λ status. (status ≡ 0) ⊎ (status ≡ 3)) }
+    ensures failure { IfErr result IsNoText }
 {
     let mut sink = WriteSink::new(&mut *out);
     run_events(alloc, machine, events, form, &mut sink)?;
@@ -77,7 +81,8 @@ fn write_form<'a, F: Form, W: Write>(
 ) -> Result<u8, Failure<'a>>
     requires few { sum_by turns events.now ≤ 4000000 }
     requires time { sum_by event_ticks events.now ≤ 1000000 }
-    ensures { IfOk result (λ status. status ≤ 4) }
+    ensures status { IfOk result (λ status. (status ≡ 0) ⊎ (status ≡ 3)) }
+    ensures failure { IfErr result IsNoText }
 {
     match Machine::boot(alloc, &run.listed.machine) {
         Err(_) => Err(Failure::NoMemory),
@@ -95,6 +100,7 @@ fn written_of<'r>(run: &'r Run, options: &Options<'_>) -> Written<'r> {
 }
 
 /// Writes the log of a part of a run as rows.
+#[tactic(auto, using(crate::proofs::FailLemmas::writing_no_text))]
 fn write_rows<'a, W: Write>(
     alloc: Global,
     run: &Run,
@@ -105,7 +111,8 @@ fn write_rows<'a, W: Write>(
 ) -> Result<u8, Failure<'a>>
     requires few { sum_by turns events.now ≤ 4000000 }
     requires time { sum_by event_ticks events.now ≤ 1000000 }
-    ensures { IfOk result (λ status. status ≤ 4) }
+    ensures status { IfOk result (λ status. (status ≡ 0) ⊎ (status ≡ 3)) }
+    ensures failure { IfErr result IsNoText }
 {
     write_text(HEAD, out)?;
     if options.plain_words {
@@ -124,6 +131,7 @@ fn write_rows<'a, W: Write>(
 }
 
 /// Writes the log of a part of a run as JSON.
+#[tactic(auto, using(crate::proofs::FailLemmas::memory_no_text))]
 fn write_json<'a, W: Write>(
     alloc: Global,
     run: &Run,
@@ -134,7 +142,8 @@ fn write_json<'a, W: Write>(
 ) -> Result<u8, Failure<'a>>
     requires few { sum_by turns events.now ≤ 4000000 }
     requires time { sum_by event_ticks events.now ≤ 1000000 }
-    ensures { IfOk result (λ status. status ≤ 4) }
+    ensures status { IfOk result (λ status. (status ≡ 0) ⊎ (status ≡ 3)) }
+    ensures failure { IfErr result IsNoText }
 {
     let ends = ends_of(alloc, run.events.list())?;
     let form = Json {
@@ -146,17 +155,19 @@ fn write_json<'a, W: Write>(
     write_form(alloc, run, events, &form, out)
 }
 
-/// Writes all that the machine shows after a step.
+/// Writes all that the machine shows after a step of a run, of which the last one has the number `last`.
+#[tactic(auto, using(crate::proofs::FailLemmas::absent_no_text, crate::proofs::FailLemmas::memory_no_text, crate::proofs::FailLemmas::writing_no_text))]
 fn write_state<'a, W: Write>(
     alloc: Global,
     run: &Run,
+    last: u64,
     paths: Paths<'a>,
     number: u64,
     out: &mut W,
 ) -> Result<u8, Failure<'a>>
-    ensures { IfOk result (λ status. status ≤ 4) }
+    ensures status { IfOk result (λ status. (status ≡ 0) ⊎ (status ≡ 3)) }
+    ensures failure { IfErr result IsNoText }
 {
-    let last = last_number(run.events.list());
     let number = number_within(alloc, "--state", number, last)?;
     let events = events_up_to(alloc, run.events.list(), number)?;
     let (page, is_stopped) = state_page(alloc, run, paths.machine, &events, number, last)?;
@@ -164,17 +175,20 @@ fn write_state<'a, W: Write>(
     Ok(status_of(is_stopped))
 }
 
-/// Writes the log of a part of a run.
+/// Writes the log of a part of a run, of which the last step has the number `end`.
+#[tactic(auto, using(crate::proofs::FailLemmas::absent_no_text, crate::proofs::FailLemmas::memory_no_text))]
 fn write_part<'a, W: Write>(
     alloc: Global,
     run: &Run,
+    end: u64,
     paths: Paths<'a>,
     options: &Options<'a>,
     out: &mut W,
 ) -> Result<u8, Failure<'a>>
-    ensures { IfOk result (λ status. status ≤ 4) }
+    ensures status { IfOk result (λ status. (status ≡ 0) ⊎ (status ≡ 3)) }
+    ensures failure { IfErr result IsNoText }
 {
-    let choice = chosen(alloc, run, paths, options)?;
+    let choice = chosen(alloc, run, end, paths, options)?;
     let events = events_up_to(alloc, run.events.list(), choice.last)?;
     if options.view == View::Json {
         write_json(alloc, run, &events, choice, options, out)
@@ -192,6 +206,7 @@ fn write_part<'a, W: Write>(
 /// if the writer does not take all.
 ///
 /// Source: project rule.
+#[tactic(auto, using(crate::proofs::FailLemmas::picture_no_text, crate::proofs::FailLemmas::writing_no_text))]
 pub fn write_run<'a, W: Write>(
     alloc: Global,
     run: &Run,
@@ -199,18 +214,39 @@ pub fn write_run<'a, W: Write>(
     options: &Options<'a>,
     out: &mut W,
 ) -> Result<u8, Failure<'a>>
-    ensures { IfOk result (λ status. status ≤ 4) }
+    ensures status { IfOk result (λ status. (status ≡ 0) ⊎ (status ≡ 3)) }
+    ensures failure { IfErr result IsNoText }
 {
+    let end = last_number(run.events.list());
     let status = match options.view {
-        View::State(number) => write_state(alloc, run, paths, number, out)?,
-        View::Svg | View::Chrome => status_of(write_picture(alloc, run, paths, options, out)?),
-        _ => write_part(alloc, run, paths, options, out)?,
+        View::State(number) => write_state(alloc, run, end, paths, number, out)?,
+        View::Svg | View::Chrome => status_of(write_picture(alloc, run, end, paths, options, out)?),
+        _ => write_part(alloc, run, end, paths, options, out)?,
     };
     write_text(&[], out)?;
     Ok(status)
 }
 
+/// Writes what is asked for of a run, unless the first step of it is after the alert that ended the run.
+#[tactic(auto, using(crate::proofs::FailLemmas::absent_no_text))]
+fn write_of_run<'a, W: Write>(
+    alloc: Global,
+    run: &Run,
+    paths: Paths<'a>,
+    options: &Options<'a>,
+    out: &mut W,
+) -> Result<u8, Failure<'a>>
+    ensures status { IfOk result (λ status. (status ≡ 0) ⊎ (status ≡ 3)) }
+    ensures failure { IfErr result IsNoText }
+{
+    match check_first(alloc, run, options) {
+        Ok(()) => write_run(alloc, run, paths, options, out),
+        Err(failure) => Err(failure),
+    }
+}
+
 /// Reads the texts and writes what is asked for.
+#[tactic(auto, using(crate::proofs::FailLemmas::runs_some, crate::proofs::FailLemmas::refused_texts, crate::proofs::FailLemmas::not_refused))]
 fn write_asked<'a, T: Texts, W: Write>(
     texts: &T,
     alloc: Global,
@@ -218,10 +254,15 @@ fn write_asked<'a, T: Texts, W: Write>(
     options: &Options<'a>,
     out: &mut W,
 ) -> Result<u8, Failure<'a>>
-    ensures { IfOk result (λ status. status ≤ 4) }
+    ensures status { IfOk result (λ status. (status ≡ 0) ⊎ (status ≡ 3)) }
+    ensures runs { OnOk result (RunsSome (T.text_at texts.now)) }
+    ensures refused { IfErr result (λ why. status_of why ≡ 1 → RefusesSome (T.text_at texts.now)) }
+    ensures untouched { IfErr result (λ why. status_of why ≡ 1 → out.new ≡ out.old) }
 {
-    let run = read_run(texts, alloc, paths)?;
-    write_run(alloc, &run, paths, options, out)
+    match read_run(texts, alloc, paths) {
+        Ok(run) => write_of_run(alloc, &run, paths, options, out),
+        Err(failure) => Err(failure),
+    }
 }
 
 /// Writes the help, and flushes it.
@@ -232,7 +273,8 @@ fn write_help<W: Write>(error: &clap::Error, out: &mut W) -> io::Result<()> {
 
 /// Answers a command line that asks for nothing: the help, or why it is refused.
 fn answer_without_work<W: Write, E: Write>(error: &clap::Error, out: &mut W, err: &mut E) -> u8
-    ensures { result ≤ 4 }
+    ensures status { (result ≡ 0) ⊎ (result ≡ 2) ⊎ (result ≡ 4) }
+    ensures silent { result ≡ 0 → err.new ≡ err.old }
 {
     if error.kind() == ErrorKind::OutOfMemory {
         return report(&Failure::NoMemory, err);
@@ -247,6 +289,35 @@ fn answer_without_work<W: Write, E: Write>(error: &clap::Error, out: &mut W, err
     }
 }
 
+/// Refuses a command line that asks for what no option takes, or because memory was refused.
+#[tactic(auto, using(crate::proofs::FailLemmas::words_end))]
+fn refuse<E: Write>(failure: &Failure<'_>, err: &mut E) -> u8
+    requires { IsOfWords (Refusal.Command failure.now) }
+    ensures { (result ≡ 2) ⊎ (result ≡ 4) }
+{
+    report(failure, err)
+}
+
+/// Does what is asked for, says on standard error why it was not done, if it was not, and answers the status.
+fn end_asked<T: Texts, W: Write, E: Write>(
+    texts: &T,
+    alloc: Global,
+    paths: Paths<'_>,
+    options: &Options<'_>,
+    out: &mut W,
+    err: &mut E,
+) -> u8
+    ensures status { result ≤ 4 }
+    ensures runs { (result ≡ 0) ⊎ (result ≡ 3) → RunsSome (T.text_at texts.now) }
+    ensures refused_text { result ≡ 1 → RefusesSome (T.text_at texts.now) × (out.new ≡ out.old) }
+    ensures silent { (result ≡ 0) ⊎ (result ≡ 3) → err.new ≡ err.old }
+{
+    match write_asked(texts, alloc, paths, options, out) {
+        Ok(status) => status,
+        Err(failure) => report(&failure, err),
+    }
+}
+
 /// Does what the words of a command line ask for, over any texts, and answers the status: 0 if all was shown and after the help, 1 if a text is
 /// refused, 2 if the command line is, 3 if an alert has stopped the machine, and 4 if memory, reading or writing failed.
 ///
@@ -258,16 +329,15 @@ pub fn run_on_texts<T: Texts, W: Write, E: Write>(
     out: &mut W,
     err: &mut E,
 ) -> u8
-    ensures { result ≤ 4 }
+    ensures status { result ≤ 4 }
+    ensures alerted { result ≡ 3 → RunsSome (T.text_at texts.now) }
+    ensures refused_text { result ≡ 1 → RefusesSome (T.text_at texts.now) × (out.new ≡ out.old) }
+    ensures silent { (result ≡ 0) ⊎ (result ≡ 3) → err.new ≡ err.old }
 {
-    let done = match asked_by(alloc, words) {
-        Err(Refusal::Words(error)) => return answer_without_work(&error, out, err),
-        Err(Refusal::Command(failure)) => Err(failure),
-        Ok((paths, options)) => write_asked(texts, alloc, paths, &options, out),
-    };
-    match done {
-        Ok(status) => status,
-        Err(failure) => report(&failure, err),
+    match asked_by(alloc, words) {
+        Err(Refusal::Words(error)) => answer_without_work(&error, out, err),
+        Err(Refusal::Command(failure)) => refuse(&failure, err),
+        Ok((paths, options)) => end_asked(texts, alloc, paths, &options, out, err),
     }
 }
 
@@ -277,7 +347,8 @@ fn run_buffered<R: Env + Files + AllocGlobal, W: Write + Drop, E: Write>(
     out: W,
     err: &mut E,
 ) -> io::Result<u8>
-    ensures { IfOk result (λ status. status ≤ 4) }
+    ensures status { IfOk result (λ status. status ≤ 4) }
+    ensures silent { IfOk result (λ status. (status ≡ 0) ⊎ (status ≡ 3) → err.new ≡ err.old) }
 {
     let alloc = rt.alloc();
     let arguments: Vec<String> = env::args(rt)?.skip(1).collect(alloc)?;
@@ -298,7 +369,8 @@ pub fn run_on_arguments<R: Env + Files + AllocGlobal, W: Write + Drop, E: Write>
     out: W,
     err: &mut E,
 ) -> u8
-    ensures { result ≤ 4 }
+    ensures status { result ≤ 4 }
+    ensures silent { (result ≡ 0) ⊎ (result ≡ 3) → err.new ≡ err.old }
 {
     match run_buffered(rt, out, err) {
         Ok(status) => status,

@@ -4,7 +4,7 @@ ghost use Rattle.std.specs.Prelude.{◌≡◌, ◌≤◌};
 use crate::command::{Command, command_called};
 use crate::version::print_version;
 use std::env::{Env, FillError};
-use std::io::{IsTerminal, Write};
+use std::io::{Input, IsTerminal, Write};
 use std::rt::{Clock, Files};
 
 /// The most bytes of the path by which the program is called, and one more: the system has no longer paths.
@@ -50,11 +50,11 @@ fn refuse_name<E: Write>(err: &mut E) -> u8
 /// Each command but `execsim`, whose command line is two paths, takes the word `--version` too.
 ///
 /// Source: project rule.
-pub fn run_as_called<R: Env + Files + Clock + AllocGlobal, W: Write + Drop, E: Write + IsTerminal>(
-    rt: &R,
-    mut out: W,
-    err: &mut E,
-) -> u8
+pub fn run_as_called<
+    R: Env + Files + Clock + Input + AllocGlobal,
+    W: Write + IsTerminal + Drop,
+    E: Write + IsTerminal,
+>(rt: &R, mut out: W, err: &mut E) -> u8
     ensures { result ≤ 4 }
 {
     let Some(command) = command_of(rt) else {

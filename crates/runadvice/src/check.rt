@@ -14,6 +14,7 @@ use crate::lap::lap_of;
 use crate::page::{Page, Spot};
 use crate::room::Room;
 use crate::running::Running;
+use execadvice::Diagnostic;
 use execlist::link::LinkSpace;
 use execsim::Machine;
 use script::{Events, MachineFile, Word};
@@ -35,13 +36,11 @@ pub struct Alert {
 /// What was found of a run.
 #[derive(Drop)]
 pub struct Report {
-    /// What there is to say of it; nothing if nothing was found.
-    pub text: String,
-    /// Whether there is more than notes.
-    pub warns: bool,
+    /// What is said of it, in the machine file; nothing if nothing was found.
+    pub found: Vec<Diagnostic>,
     /// Whether an alert ended it.
     pub is_alerted: bool,
-    /// That alert, if it did, of which the text says why.
+    /// That alert, if it did, of which one finding says why.
     pub alert: Option<Alert>,
 }
 
@@ -146,10 +145,9 @@ fn report_at_end(page: Page<'_>, listed: &Listed, run: &mut Run<'_>) -> Result<R
     if !run.course.is_whole {
         return Err(AllocError);
     }
-    let Page { text, warns, .. } = page;
+    let Page { found, .. } = page;
     Ok(Report {
-        text,
-        warns,
+        found,
         is_alerted,
         alert,
     })
@@ -170,26 +168,19 @@ fn no_report(alloc: Global) -> Report
     ensures alert { result.alert ≡ None }
 {
     Report {
-        text: String::new(alloc),
-        warns: false,
+        found: Vec::new(alloc),
         is_alerted: false,
         alert: None,
     }
 }
 
 /// What the run of a machine file and an event text comes to: the alert that ended it, each task that waits at its end, a deadlock, a task
-/// that runs without end, and events that end too early. Nothing is found if a text is refused. `path` is before each place, which is one
-/// of the machine file.
+/// that runs without end, and events that end too early. Nothing is found if a text is refused. Each place is one of the machine file.
 ///
 /// # Errors
 ///
 /// When memory is refused.
-pub fn check_run(
-    alloc: Global,
-    path: &str,
-    machine: &[u8],
-    events: &[u8],
-) -> Result<Report, AllocError>
+pub fn check_run(alloc: Global, machine: &[u8], events: &[u8]) -> Result<Report, AllocError>
     ensures alerted { IfOk result (λ report. report.is_alerted ≡ ends_by_alert (file_of machine.now) (script_of events.now)) }
     ensures alert { IfOk result (λ report. IfSome report.alert (EndsRunOf machine.now events.now)) }
 {
@@ -207,7 +198,7 @@ pub fn check_run(
         Err(_) => Err(AllocError),
         Ok(table) => {
             let text = from_utf8(machine).unwrap_or("");
-            let page = Page::new(alloc, path, text, &table, &listed)?;
+            let page = Page::new(alloc, text, &table, &listed)?;
             report_on(page, &listed, &events)
         }
     }

@@ -7,7 +7,7 @@ use std::alloc::AllocError;
 
 impl Scene<'_, '_> {
     /// The tasks of the circle that a task is in, from that task on; none if it is in no circle.
-    pub fn circle_of(&self, task: usize) -> Result<Option<Vec<usize>>, AllocError> {
+    pub(crate) fn circle_of(&self, task: usize) -> Result<Option<Vec<usize>>, AllocError> {
         let mut circle = Vec::new(self.alloc);
         let mut at = task;
         for _turn in 0..self.machine.view().tasks {
@@ -34,7 +34,7 @@ impl Scene<'_, '_> {
     }
 
     /// Adds that a task of a circle waits for the next one.
-    pub fn add_deadlock<'a>(
+    pub(crate) fn add_deadlock<'a>(
         &self,
         page: &mut Page<'a>,
         circle: &[usize],
@@ -42,15 +42,14 @@ impl Scene<'_, '_> {
     ) -> Result<(), AllocError> {
         let alloc = self.alloc;
         let names = self.names_of(circle)?;
-        let header = if circle.len() == 1 {
-            format!(in alloc; "warning: deadlock: task {names} waits for itself")?
-        } else {
-            format!(in alloc; "warning: deadlock: tasks {names} wait for each other")?
-        };
         let owner = self.name(owner_awaited(self.machine, waiter.turn.task).unwrap_or(0));
         let awaited = awaited_text(alloc, waiter.awaited)?;
-        let reason = format!(in alloc; "waits for {awaited}, which task \"{owner}\" owns")?;
-        let spot = waiter.turn.spot();
-        page.warn(spot, header.as_str(), reason.as_str())
+        let cause = format!(in alloc; "waits for {awaited}, which task \"{owner}\" owns")?;
+        let reason = if circle.len() == 1 {
+            format!(in alloc; "task {names} waits for itself: it {cause}")?
+        } else {
+            format!(in alloc; "tasks {names} wait for each other: this one {cause}")?
+        };
+        page.warn(waiter.turn.spot(), "deadlock", reason.as_str())
     }
 }

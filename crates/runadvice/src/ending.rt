@@ -4,10 +4,11 @@ use crate::argument::shown;
 use crate::course::Course;
 use crate::following::Run;
 use crate::handles::Asking;
-use crate::page::{Page, argument_text};
+use crate::page::{Page, Spot, argument_text};
 use crate::rules::Fault;
 use crate::value::variable_at;
 use crate::words::{Flaw, row_of};
+use execadvice::Severity;
 use script::Event;
 use std::alloc::{AllocError, Global};
 
@@ -59,8 +60,17 @@ impl Asking<'_, '_> {
     }
 }
 
+/// The command that has freed what is at fault, if it is a handle and one has.
+fn freed_by(run: &Run<'_>, refused: &Refused<'_>, fault: &Fault) -> Option<Spot> {
+    if refused.code != "HANDLE" {
+        return None;
+    }
+    let address = refused.value(fault.argument?);
+    Some(run.course.freed.get(&address)?.spot)
+}
+
 /// Adds what there is to say of a refused call.
-pub fn add_alert<'a>(
+pub(crate) fn add_alert<'a>(
     page: &mut Page<'a>,
     run: &Run<'_>,
     refused: &Refused<'_>,
@@ -78,7 +88,16 @@ pub fn add_alert<'a>(
     let reason = asking.sentence(page.line(spot), &fault)?;
     let time = when(alloc, &run.course)?;
     let (code, time) = (refused.code, time.as_str());
-    let header = format!(in alloc; "alert {code} {time}")?;
-    page.warns = true;
-    page.add(spot, fault.argument, header.as_str(), reason.as_str())
+    let grade = (Severity::Error, code);
+    let mut found = page.finding(spot, fault.argument, grade, reason.as_str())?;
+    found
+        .whose
+        .push_str(format!(in alloc; ": alert {code} {time}")?.as_str())?;
+    page.relate(
+        &mut found,
+        freed_by(run, refused, &fault),
+        "it was freed here",
+    )?;
+    page.found.push(found)?;
+    Ok(())
 }

@@ -1,10 +1,12 @@
-//! The text that is made of what was found: each finding with its place in the file, the line and marks.
+//! What was found of a run: each finding with its place in the file, its line and marks.
 ghost use Rattle.std.specs.Prelude.{◌≡◌, option_map};
 ghost use Rattle.taskscript.specs.declared.place.Owner.{Owner};
 ghost use Rattle.runadvice.specs.Alerts.{line_in, name_in};
 
-use escape::shown_text;
-use execadvice::{Advice, Span, Written, field_span, line_at, line_text, said_by};
+use execadvice::{
+    Advice, Bearer, Diagnostic, FileSpan, Related, Severity, Span, Written, field_span, line_at,
+    line_found, said_by, span_in, width_of,
+};
 use script::MachineFile;
 use std::alloc::{AllocError, Global};
 use taskscript::{Array, LinePlace, Listed, Listing, Owner};
@@ -61,19 +63,18 @@ impl Spot {
     }
 }
 
+/// How grave a finding is, and its rule.
+pub type Grade = (Severity, &'static str);
+
 /// What was found so far.
 #[derive(Drop)]
 pub struct Page<'a> {
     pub alloc: Global,
-    /// The path that is before each place.
-    path: &'a str,
     table: &'a Table,
     written: Written<'a>,
     pub listing: &'a Listing,
     file: &'a MachineFile,
-    pub text: String,
-    /// Whether there is more than notes.
-    pub warns: bool,
+    pub found: Vec<Diagnostic>,
 }
 
 /// The name of what has a body.
@@ -108,22 +109,19 @@ pub fn argument_text(alloc: Global, line: &str, number: usize) -> Result<String,
 
 impl<'a> Page<'a> {
     /// Nothing was found yet.
-    pub fn new(
+    pub(crate) fn new(
         alloc: Global,
-        path: &'a str,
         text: &'a str,
         table: &'a Table,
         listed: &'a Listed,
     ) -> Result<Page<'a>, AllocError> {
         Ok(Page {
             alloc,
-            path,
             table,
             written: Written::new(alloc, text)?,
             listing: &listed.listing,
             file: &listed.machine,
-            text: String::new(alloc),
-            warns: false,
+            found: Vec::new(alloc),
         })
     }
 
@@ -138,56 +136,95 @@ impl<'a> Page<'a> {
     }
 
     /// The line of a command.
-    pub fn line(&self, spot: Spot) -> &str {
+    pub(crate) fn line(&self, spot: Spot) -> &str {
         match self.line_place(spot) {
             None => "",
             Some(place) => line_at(self.table, place),
         }
     }
 
-    /// Adds what was found at a task whose code has no command.
-    fn add_to_empty(&mut self, task: usize, header: &str, reason: &str) -> Result<(), AllocError> {
-        let path = shown_text(self.alloc, self.path)?;
-        let name = name_of(self.file, Owner::Task, task).unwrap_or("");
-        let (line, column) = match self.written.head(Array::Task, task) {
-            None => (1, 1),
-            Some(head) => (head.place.line, head.place.column),
+    /// What is said of a task whose code has no command.
+    fn of_empty(&self, task: usize, grade: Grade, reason: &str) -> Result<Diagnostic, AllocError> {
+        let alloc = self.alloc;
+        let name = String::from_str(alloc, name_of(self.file, Owner::Task, task).unwrap_or(""))?;
+        let reason = String::from_str(alloc, reason)?;
+        let mut found = Diagnostic::new(alloc, grade.0, grade.1, reason);
+        found.at = match self.written.head(Array::Task, task) {
+            None => None,
+            Some(head) => Some(FileSpan::of_width(head.place, width_of(head.text))),
         };
-        let text = format!(in self.alloc;
-            "{path}:{line}:{column}: in task \"{name}\": {header}\n    {reason}\n"
-        )?;
-        self.text.push_str(text.as_str())
+        found.whose = format!(in alloc; "in task \"{}\"", name.as_str())?;
+        let owner = Owner::Task;
+        found.bearer = Some(Bearer { owner, name });
+        Ok(found)
     }
 
-    /// Adds what was found at an argument of a command, from 0, or at its word.
-    pub fn add(
-        &mut self,
+    /// What is said of an argument of a command, from 0, or of its word.
+    pub(crate) fn finding(
+        &self,
         spot: Spot,
         argument: Option<usize>,
-        header: &str,
+        grade: Grade,
         reason: &str,
-    ) -> Result<(), AllocError> {
-        let (alloc, path) = (self.alloc, self.path);
+    ) -> Result<Diagnostic, AllocError> {
+        let alloc = self.alloc;
         let Some(place) = self.line_place(spot) else {
-            return self.add_to_empty(spot.item, header, reason);
+            return self.of_empty(spot.item, grade, reason);
         };
         let span = span_of(alloc, line_at(self.table, place), argument)?;
         let advice = Advice::new(alloc, span, reason)?;
-        let text = line_text(
-            alloc,
-            path,
-            &self.written,
-            self.table,
-            place,
-            header,
-            &advice,
-        )?;
-        self.text.push_str(text.as_str())
+        line_found(alloc, &self.written, self.table, place, grade, advice)
+    }
+
+    /// The word of a command that has to do with what was found, if it has a line, with a sentence.
+    pub(crate) fn related(
+        &self,
+        spot: Spot,
+        sentence: &str,
+    ) -> Result<Option<Related>, AllocError> {
+        let Some(place) = self.line_place(spot) else {
+            return Ok(None);
+        };
+        let span = span_of(self.alloc, line_at(self.table, place), None)?;
+        match span_in(&self.written, place, span) {
+            None => Ok(None),
+            Some(span) => Ok(Some(Related {
+                span,
+                sentence: String::from_str(self.alloc, sentence)?,
+            })),
+        }
+    }
+
+    /// Adds to what was found that a command has to do with it, if it was one of a body.
+    pub(crate) fn relate(
+        &self,
+        found: &mut Diagnostic,
+        spot: Option<Spot>,
+        sentence: &str,
+    ) -> Result<(), AllocError> {
+        let Some(spot) = spot else {
+            return Ok(());
+        };
+        if let Some(related) = self.related(spot, sentence)? {
+            found.related.push(related)?;
+        }
+        Ok(())
+    }
+
+    /// Adds what is said of the word of a command.
+    pub(crate) fn add(&mut self, spot: Spot, grade: Grade, reason: &str) -> Result<(), AllocError> {
+        let found = self.finding(spot, None, grade, reason)?;
+        self.found.push(found)?;
+        Ok(())
     }
 
     /// Adds a warning at the word of a command.
-    pub fn warn(&mut self, spot: Spot, header: &str, reason: &str) -> Result<(), AllocError> {
-        self.warns = true;
-        self.add(spot, None, header, reason)
+    pub(crate) fn warn(
+        &mut self,
+        spot: Spot,
+        rule: &'static str,
+        reason: &str,
+    ) -> Result<(), AllocError> {
+        self.add(spot, (Severity::Warning, rule), reason)
     }
 }

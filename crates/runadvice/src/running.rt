@@ -51,18 +51,18 @@ fn effect_of(lap: &Lap) -> &'static str {
 }
 
 /// That the tasks of a lap run without end, or may.
-fn header_of(lap: &Lap, is_sure: bool) -> &'static str {
+fn claim_of(lap: &Lap, is_sure: bool) -> &'static str {
     match (lap.stretches.len() > 1, is_sure) {
-        (true, true) => "warning: the tasks run without end",
-        (true, false) => "warning: the tasks may run without end",
-        (false, true) => "warning: the task runs without end",
-        (false, false) => "warning: the task may run without end",
+        (true, true) => "the tasks run without end",
+        (true, false) => "the tasks may run without end",
+        (false, true) => "the task runs without end",
+        (false, false) => "the task may run without end",
     }
 }
 
 impl Scene<'_, '_> {
     /// What the machine shows of the task that runs, if one does.
-    pub fn running_at_end(&self) -> Result<Option<Running>, AllocError> {
+    pub(crate) fn running_at_end(&self) -> Result<Option<Running>, AllocError> {
         let Some(turn) = turn_of(self.machine) else {
             return Ok(None);
         };
@@ -155,11 +155,35 @@ impl Scene<'_, '_> {
         } else {
             format!(in alloc; "; only {changers} may change that")?
         };
+        let claim = claim_of(lap, sure.is_some());
         let reason = format!(in alloc;
-            "the last {steps} steps were all in {parts}{effect}{until}{ready}"
+            "{claim}: the last {steps} steps were all in {parts}{effect}{until}{ready}"
         )?;
-        let spot = running.turn.spot();
-        page.warn(spot, header_of(lap, sure.is_some()), reason.as_str())
+        page.warn(running.turn.spot(), "busy", reason.as_str())
+    }
+
+    /// The command that a task does next or did last, by its place, and which of them it is, in words.
+    fn next_text(&self, turn: Turn) -> Result<(usize, String), AllocError> {
+        let before = turn.place.saturating_sub(1);
+        let (place, end) = match self.course.command(turn) {
+            None => (
+                before,
+                " was its last command, and the task ends at its next step",
+            ),
+            Some(_) if self.course.past(turn).done > 0 => (turn.place, " comes next once more"),
+            Some(_) => (turn.place, " comes next"),
+        };
+        let text = match self.course.command(Turn { place, ..turn }) {
+            None => {
+                let text = "its code has no command, and it ends at its next step";
+                String::from_str(self.alloc, text)?
+            }
+            Some(command) => {
+                let word = command.word.text();
+                format!(in self.alloc; "{word}{end}")?
+            }
+        };
+        Ok((place, text))
     }
 
     /// Adds that the events end while a task runs, if no task has ended.
@@ -170,27 +194,20 @@ impl Scene<'_, '_> {
         let turn = running.turn;
         let steps = counted(self.alloc, self.course.moment(), "step")?;
         let ready = running.ready.as_str();
-        let (place, state) = if self.course.command(turn).is_none() && turn.place == 0 {
-            (0, "its code has no command, and it ends at its next step")
-        } else if self.course.command(turn).is_none() {
-            (
-                turn.place.saturating_sub(1),
-                "was its last command, and the task ends at its next step",
-            )
-        } else if self.course.past(turn).done > 0 {
-            (turn.place, "comes next once more")
-        } else {
-            (turn.place, "comes next")
-        };
+        let (place, state) = self.next_text(turn)?;
+        let state = state.as_str();
         let reason = format!(in self.alloc;
             "{state}, but the events end after {steps}, and no task has ended; ask for more{ready}"
         )?;
-        let header = "warning: the events end while the task runs";
-        page.warn(Spot::of_task(turn.task, place), header, reason.as_str())
+        page.warn(
+            Spot::of_task(turn.task, place),
+            "ends-early",
+            reason.as_str(),
+        )
     }
 
     /// Adds what there is to say of the task that runs, and of the steps that bring the machine back to what it shows, if some do.
-    pub fn add_running<'a>(
+    pub(crate) fn add_running<'a>(
         &self,
         page: &mut Page<'a>,
         running: &Running,

@@ -67,9 +67,9 @@ fn is_over(machine: &Linked, task: usize) -> bool {
 pub(crate) fn is_sending(word: Word) -> bool {
     matches!(
         word,
-        Word::Signals(SignalWord::Signal)
+        Word::Signals(SignalWord::Signal | SignalWord::SetSignal)
             | Word::Ports(PortWord::PutMsg | PortWord::ReplyMsg)
-            | Word::Requests(RequestWord::SendIO)
+            | Word::Requests(RequestWord::SendIO | RequestWord::AbortIO)
             | Word::Tasks(TaskWord::RemTask)
     )
 }
@@ -169,6 +169,13 @@ impl Sends {
         }
     }
 
+    /// Notes that a task has given itself signals.
+    fn set_own(&mut self, machine: &Linked, mask: u32, deed: Deed) {
+        if let Some(task) = deed.spot.and_then(|spot| spot.task()) {
+            self.come(machine, task, mask, deed);
+        }
+    }
+
     /// Notes that a message, or the reply of a request, was put into the port that has it.
     pub(crate) fn put(&mut self, machine: &Linked, message: u32, deed: Deed) {
         let Some(address) = machine.port_with(message) else {
@@ -203,6 +210,7 @@ impl Sends {
     pub(crate) fn note(&mut self, machine: &Linked, word: Word, values: (u32, u32), deed: Deed) {
         let (first, second) = values;
         match word {
+            Word::Signals(SignalWord::SetSignal) => self.set_own(machine, first & second, deed),
             Word::Signals(_) => {
                 self.come(machine, (first as usize).saturating_sub(1), second, deed);
             }

@@ -3,7 +3,8 @@ use crate::argument::{counted, grouped, port_at, request_at};
 use crate::page::Page;
 use crate::scene::{Linked, Scene};
 use crate::wait::{Awaited, Waiter, awaited_text, owner_awaited, wait_of};
-use crate::why::{Unread, unread_by, unread_ports};
+use crate::why::{Lost, Unread, unread_by, unread_ports};
+use execadvice::{Diagnostic, Severity};
 use msgport::action::PortAction;
 use std::alloc::{AllocError, Global};
 use taskq::TaskState;
@@ -22,18 +23,30 @@ enum Level {
     Noted,
 }
 
+/// The name of a wait that has no other.
+const WAITS: &str = "waits";
+
 /// What is said of a wait.
 #[derive(Drop)]
 struct Verdict {
     level: Level,
+    /// The name of the finding.
+    rule: &'static str,
     /// What would end it.
     end: String,
 }
 
 impl Verdict {
     fn new(alloc: Global, level: Level, end: &str) -> Result<Verdict, AllocError> {
-        let end = String::from_str(alloc, end)?;
-        Ok(Verdict { level, end })
+        Ok(Verdict::of(level, String::from_str(alloc, end)?))
+    }
+
+    fn of(level: Level, end: String) -> Verdict {
+        Verdict {
+            level,
+            rule: WAITS,
+            end,
+        }
     }
 }
 
@@ -61,8 +74,7 @@ fn of_idle(alloc: Global, wakers: &str) -> Result<Verdict, AllocError> {
         return Verdict::new(alloc, Level::Forever, end);
     }
     let end = format!(in alloc; "; no task is left that can run, so only {wakers} can end it")?;
-    let level = Level::Warned;
-    Ok(Verdict { level, end })
+    Ok(Verdict::of(Level::Warned, end))
 }
 
 /// Of a wait in a call that the task has done before, as one does that serves others.
@@ -75,13 +87,46 @@ fn of_server(alloc: Global, awaited: Awaited, wakers: &str) -> Result<Verdict, A
     Verdict::new(alloc, Level::Noted, end)
 }
 
-/// The words before the reason.
-fn header_of(level: Level) -> &'static str {
+/// How grave a wait is.
+fn severity_of(level: Level) -> Severity {
     match level {
-        Level::Forever => "warning: waits forever",
-        Level::Warned => "warning: still waiting when the events end",
-        Level::Noted => "note: waiting when the events end",
+        Level::Forever | Level::Warned => Severity::Warning,
+        Level::Noted => Severity::Note,
     }
+}
+
+/// The words before what is awaited. A wait that something may end goes on when the events end.
+fn verb_of(level: Level) -> &'static str {
+    match level {
+        Level::Forever => "waits for",
+        Level::Warned | Level::Noted => "still waits for",
+    }
+}
+
+/// The name of what was found of a wait: its own, or that its signal is lost.
+fn rule_of(lost: &Option<Lost>, rule: &'static str) -> &'static str {
+    if lost.is_some() { "lost-wakeup" } else { rule }
+}
+
+/// That the signal of a wait was lost, as a part of a sentence; nothing if it was not.
+fn words_of(lost: &Option<Lost>) -> &str {
+    match lost {
+        None => "",
+        Some(lost) => lost.text.as_str(),
+    }
+}
+
+/// Adds to what was found of a wait where its signal was sent, and where it was lost.
+fn relate_lost(
+    page: &Page<'_>,
+    found: &mut Diagnostic,
+    lost: &Option<Lost>,
+) -> Result<(), AllocError> {
+    let Some(lost) = lost else {
+        return Ok(());
+    };
+    page.relate(found, lost.sent, "the signal was sent here")?;
+    page.relate(found, lost.gone, "it was cleared or taken here")
 }
 
 impl Scene<'_, '_> {
@@ -105,17 +150,17 @@ impl Scene<'_, '_> {
             return Verdict::new(self.alloc, Level::Noted, ", which is free");
         };
         let name = self.name(owner);
-        let (level, end) = match self.machine.task(owner).map(|view| view.state) {
-            Some(TaskState::Removed) => (Level::Forever, " has ended"),
-            Some(TaskState::Waiting(_)) => (self.level(), " waits too"),
-            _ => (Level::Noted, "")
+        let (level, rule, end) = match self.machine.task(owner).map(|view| view.state) {
+            Some(TaskState::Removed) => (Level::Forever, "owner-gone", " has ended"),
+            Some(TaskState::Waiting(_)) => (self.level(), WAITS, " waits too"),
+            _ => (Level::Noted, WAITS, "")
         };
         let end = if end.is_empty() {
             format!(in self.alloc; ", which task \"{name}\" owns")?
         } else {
             format!(in self.alloc; ", whose owner, task \"{name}\",{end}")?
         };
-        Ok(Verdict { level, end })
+        Ok(Verdict { level, rule, end })
     }
 
     /// When a request is done that a task waits for, as the end of a sentence.
@@ -147,8 +192,7 @@ impl Scene<'_, '_> {
         }
         if let Awaited::Request(request) = waiter.awaited {
             let end = self.request_end(request)?;
-            let level = self.level();
-            return Ok(Verdict { level, end });
+            return Ok(Verdict::of(self.level(), end));
         }
         if is_idle {
             return of_idle(self.alloc, wakers);
@@ -169,14 +213,19 @@ impl Scene<'_, '_> {
             _ => self.of_signal(waiter, wakers)?,
         };
         let awaited = awaited_text(alloc, waiter.awaited)?;
-        let why = self.why_text(page, waiter, verdict.end.as_str())?;
-        let mute = mute_text(self.machine, waiter.awaited);
-        let reason = format!(in alloc; "waits for {awaited}{mute}{why}")?;
-        if verdict.level != Level::Noted {
-            page.warns = true;
-        }
-        let spot = waiter.turn.spot();
-        page.add(spot, None, header_of(verdict.level), reason.as_str())
+        let lost = self.lost_text(page, waiter)?;
+        let why = self.why_text(waiter, verdict.end.as_str())?;
+        let (verb, mute) = (
+            verb_of(verdict.level),
+            mute_text(self.machine, waiter.awaited),
+        );
+        let text = words_of(&lost);
+        let reason = format!(in alloc; "{verb} {awaited}{mute}{text}{why}")?;
+        let grade = (severity_of(verdict.level), rule_of(&lost, verdict.rule));
+        let mut found = page.finding(waiter.turn.spot(), None, grade, reason.as_str())?;
+        relate_lost(page, &mut found, &lost)?;
+        page.found.push(found)?;
+        Ok(())
     }
 
     /// Adds what there is to say of a task that waits: that it is in a circle, that its port has a message, or else what would end its wait.
@@ -197,7 +246,7 @@ impl Scene<'_, '_> {
     }
 
     /// Adds what there is to say of each task that waits, and of what was sent to tasks that had ended.
-    pub fn add_waits<'a>(&self, page: &mut Page<'a>) -> Result<(), AllocError> {
+    pub(crate) fn add_waits<'a>(&self, page: &mut Page<'a>) -> Result<(), AllocError> {
         let wakers = if self.is_idle() {
             self.wakers_text()?
         } else {

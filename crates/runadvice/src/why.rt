@@ -3,11 +3,12 @@ use crate::argument::request_at;
 use crate::bodies::command_at;
 use crate::memory::blocks_of;
 use crate::origin::kind_of_owner;
-use crate::page::{Page, name_of};
+use crate::page::{Page, Spot, name_of};
 use crate::scene::{Linked, Scene};
 use crate::sends::{Came, Deed, mask_of};
 use crate::step::Turn;
 use crate::wait::{Awaited, Waiter};
+use execadvice::Severity;
 use execsim::ObjectView;
 use msgport::action::PortAction;
 use script::{PortWord, SignalWord, Word};
@@ -22,6 +23,16 @@ pub struct Unread {
     signal: u32,
     /// Its first message, or the reply of a request.
     message: u32,
+}
+
+/// That a signal came and was cleared.
+#[derive(Drop)]
+pub(crate) struct Lost {
+    /// As a part of a sentence.
+    pub(crate) text: String,
+    /// The command that sent it, and the one that cleared it; none if it was the timer.
+    pub(crate) sent: Option<Spot>,
+    pub(crate) gone: Option<Spot>,
 }
 
 /// The ports that signal their tasks and have messages.
@@ -162,8 +173,13 @@ impl Scene<'_, '_> {
         let reason = format!(in self.alloc;
             "waits for signal {signal} while its port {name} has {what} ${message:08X}{put}; take messages until GetMsg returns 0"
         )?;
-        let header = "warning: waits while its port has a message";
-        page.warn(turn.spot(), header, reason.as_str())
+        let grade = (Severity::Warning, "unread");
+        let mut found = page.finding(turn.spot(), None, grade, reason.as_str())?;
+        let put = self.course.sends.puts.get(&message).copied();
+        let spot = put.and_then(|deed| deed.spot);
+        page.relate(&mut found, spot, "it was put there here")?;
+        page.found.push(found)?;
+        Ok(())
     }
 
     /// Whether a signal that a command has cleared is missing where its task waits: the wait itself has not taken it, and where tasks still run no
@@ -191,10 +207,17 @@ impl Scene<'_, '_> {
         last
     }
 
-    /// That a signal for which a task waits came and was cleared, as a part of a sentence; nothing if none was.
-    fn lost_text(&self, page: &Page<'_>, turn: Turn, mask: u32) -> Result<String, AllocError> {
-        let Some((signal, came, gone)) = self.lost(turn, mask) else {
-            return Ok(String::new(self.alloc));
+    /// That a signal for which a task waits came and was cleared, as a part of a sentence, if one was, and by which commands.
+    pub(crate) fn lost_text(
+        &self,
+        page: &Page<'_>,
+        waiter: &Waiter,
+    ) -> Result<Option<Lost>, AllocError> {
+        let Awaited::Signals(mask) = waiter.awaited else {
+            return Ok(None);
+        };
+        let Some((signal, came, gone)) = self.lost(waiter.turn, mask) else {
+            return Ok(None);
         };
         let (who, moment) = (self.who_text(came.sent)?, came.sent.moment);
         let word = self.word_of(gone);
@@ -204,9 +227,14 @@ impl Scene<'_, '_> {
             _ => "took",
         };
         let (line, end) = (self.line_text(page, gone)?, gone.moment);
-        format!(in self.alloc;
+        let text = format!(in self.alloc;
             "; signal {signal} came at step {moment} from {who}; {name}{line} {verb} it at step {end}"
-        )
+        )?;
+        Ok(Some(Lost {
+            text,
+            sent: came.sent.spot,
+            gone: gone.spot,
+        }))
     }
 
     /// Of some signals of a task the one that came last.
@@ -261,31 +289,28 @@ impl Scene<'_, '_> {
         }
         if let Some((signal, deed, aim)) = self.astray(turn, mask) {
             let (sent, name) = (self.sent_text(signal, deed)?, self.name(aim));
+            if deed.spot.and_then(|spot| spot.task()) == Some(aim) {
+                return format!(in self.alloc; "{sent}, but to itself");
+            }
             return format!(in self.alloc; "{sent}, but to \"{name}\"");
         }
         Ok(String::new(self.alloc))
     }
 
-    /// What is known of the signals that have not ended a wait, and after it what would end it.
-    pub(crate) fn why_text(
-        &self,
-        page: &Page<'_>,
-        waiter: &Waiter,
-        end: &str,
-    ) -> Result<String, AllocError> {
+    /// Which other signal came, and after it what would end a wait.
+    pub(crate) fn why_text(&self, waiter: &Waiter, end: &str) -> Result<String, AllocError> {
         let received = received_text(self.alloc, waiter)?;
         let received = received.as_str();
         let Awaited::Signals(mask) = waiter.awaited else {
             return format!(in self.alloc; "{end}{received}");
         };
-        let lost = self.lost_text(page, waiter.turn, mask)?;
         let other = self.other_text(waiter.turn, mask, waiter.received)?;
         let received = if other.as_str().is_empty() {
             received
         } else {
             ""
         };
-        format!(in self.alloc; "{lost}{other}{end}{received}")
+        format!(in self.alloc; "{other}{end}{received}")
     }
 
     /// Adds that something was sent to a task that had ended.
@@ -295,18 +320,15 @@ impl Scene<'_, '_> {
         };
         let name = self.name(task);
         let ended = self.course.sends.ended.get(task).copied().unwrap_or(0);
-        let (header, who) = if self.is_signal(deed) {
-            ("warning: a signal to a task that has ended", "task")
+        let (what, who, effect) = if self.is_signal(deed) {
+            ("signal", "task", "nobody gets it")
         } else {
-            (
-                "warning: a message to a task that has ended",
-                "its port's task",
-            )
+            ("message", "its port's task", "no task is signalled for it")
         };
         let reason = format!(in self.alloc;
-            "{who} \"{name}\" ended at step {ended}, so nobody gets it; a real Exec writes into freed memory"
+            "this {what} comes late: {who} \"{name}\" ended at step {ended}, so {effect}; a real Exec writes into freed memory"
         )?;
-        page.warn(spot, header, reason.as_str())
+        page.warn(spot, "late", reason.as_str())
     }
 
     /// Adds what was sent to tasks that had ended.

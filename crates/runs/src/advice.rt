@@ -11,7 +11,7 @@
 //!
 //! The texts of a run are one after the other, with the line `-- events` between them.
 use crate::tally::Tally;
-use execadvice::{check_events, check_machine};
+use execadvice::{Diagnostic, Look, are_grave, check_events, check_machine, rendered};
 use runadvice::check_run;
 use std::io;
 
@@ -41,42 +41,37 @@ fn case_of(text: &str) -> Option<Case<'_>> {
 }
 
 /// The status of what was found in a text.
-fn status_of(is_refused: bool, answer: &str) -> &'static str {
+fn status_of(is_refused: bool, found: &[Diagnostic]) -> &'static str {
     if is_refused {
         "1"
-    } else if answer.is_empty() {
-        "0"
-    } else {
+    } else if are_grave(found) {
         "3"
-    }
-}
-
-/// The status of the texts of a run, and what was found of it.
-fn found_of_run(rt: &HostRuntime, text: &str) -> io::Result<(&'static str, String)> {
-    let (machine, events) = text.split_once("-- events\n").unwrap_or((text, ""));
-    let report = check_run(rt.alloc(), PATH, machine.as_bytes(), events.as_bytes())?;
-    Ok((if report.warns { "3" } else { "0" }, report.text))
-}
-
-/// The status of the text of a case of a table, and what was found in it.
-fn found_in(rt: &HostRuntime, table: &str, text: &str) -> io::Result<(&'static str, String)> {
-    if table.ends_with(".endings") {
-        return found_of_run(rt, text);
-    }
-    let (is_refused, answer) = if table.ends_with(".events") {
-        let finding = check_events(rt.alloc(), PATH, text.as_bytes())?;
-        (finding.fault.is_some(), finding.text)
     } else {
-        let finding = check_machine(rt.alloc(), PATH, text.as_bytes())?;
-        (finding.fault.is_some(), finding.text)
-    };
-    let status = status_of(is_refused, answer.as_str());
-    Ok((status, answer))
+        "0"
+    }
+}
+
+/// What was found in the text of a case of a table, and whether the text is refused.
+fn found_in(rt: &HostRuntime, table: &str, text: &str) -> io::Result<(bool, Vec<Diagnostic>)> {
+    let alloc = rt.alloc();
+    if table.ends_with(".endings") {
+        let (machine, events) = text.split_once("-- events\n").unwrap_or((text, ""));
+        let report = check_run(alloc, machine.as_bytes(), events.as_bytes())?;
+        return Ok((false, report.found));
+    }
+    if table.ends_with(".events") {
+        let finding = check_events(alloc, text.as_bytes())?;
+        return Ok((finding.fault.is_some(), finding.found));
+    }
+    let finding = check_machine(alloc, text.as_bytes())?;
+    Ok((finding.fault.is_some(), finding.found))
 }
 
 /// Whether the answer to a text is as it is wanted. If it is not, it is printed.
 fn is_as_wanted(rt: &HostRuntime, table: &str, case: &Case<'_>) -> io::Result<bool> {
-    let (status, answer) = found_in(rt, table, case.text)?;
+    let (is_refused, found) = found_in(rt, table, case.text)?;
+    let status = status_of(is_refused, &found);
+    let answer = rendered(rt.alloc(), PATH, &found, Look::PLAIN)?;
     let answer = answer.as_str();
     if status == case.status && answer == case.answer {
         return Ok(true);

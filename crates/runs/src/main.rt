@@ -1,7 +1,7 @@
 //! Makes whole runs of the simulator and whole answers of the checker, and compares each with what is in its data.
 //!
 //! Each argument is a table of runs, `NAME.runs`, a table of mistakes, `NAME.machines`, `NAME.events` or `NAME.endings`, or an example, of
-//! which `NAME.toml`, `NAME.events` and `NAME.trace` are beside each other.
+//! which `NAME.toml`, `NAME.events` and `NAME.trace` are beside each other; `sections` is what `execcheck --explain` prints.
 //!
 //! Where the first argument is `grow`, it makes a part of a machine instead, or a machine, whose allocations are to be refused. If it is
 //! `words`, it prints what a line may have beside each word that the other arguments name.
@@ -9,6 +9,7 @@
 
 mod advice;
 mod case;
+mod explained;
 mod growing;
 mod outcome;
 mod part;
@@ -20,6 +21,7 @@ mod words;
 
 use crate::advice::compare_answers;
 use crate::case::{Case, compare_run};
+use crate::explained::compare_sections;
 use crate::table::compare_table;
 use crate::tally::Tally;
 use std::process::ExitCode;
@@ -60,6 +62,9 @@ fn compare(rt: &HostRuntime, name: &str) -> io::Result<Tally> {
     if name.ends_with(".machines") || name.ends_with(".events") || name.ends_with(".endings") {
         let text = fs::read_to_string(rt, name)?;
         return compare_answers(rt, name, text.as_str());
+    }
+    if name == "sections" {
+        return compare_sections(rt);
     }
     compare_example(rt, name)
 }

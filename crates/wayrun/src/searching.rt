@@ -90,7 +90,8 @@ impl<'a> Show for Runs<'a> {
 ///
 /// # Errors
 ///
-/// `OutOfMemory`; `TooManyOutcomes` for more than 65,536; `TooManyTicks` when a way has more than 1,000,000.
+/// `OutOfMemory`; `TooManyOutcomes` for more than 65,536; `TooMuch` for outcomes of more than `MOST_BYTES`, with the number of ways before;
+/// `TooManyTicks` when a way has more than 1,000,000.
 ///
 /// Source: project rule.
 pub fn search<'a, P: Watcher + Drop>(

@@ -11,6 +11,9 @@ pub enum SearchFault {
     /// More than `MOST_OUTCOMES` different texts are seen, or more ways than 64 bits count.
     #[error("too many outcomes")]
     TooManyOutcomes,
+    /// The outcomes take more bytes than a table keeps: the number of ways that were noted before.
+    #[error("too many bytes of outcomes")]
+    TooMuch(u64),
     /// A way has more than 1,000,000 ticks.
     #[error("too many ticks")]
     TooManyTicks,

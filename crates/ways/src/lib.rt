@@ -12,6 +12,6 @@ mod visiting;
 pub use fault::SearchFault;
 pub use grouping::{actions_of, events_for};
 pub use sizes::{Sizes, part_window};
-pub use table::Outcome;
+pub use table::{MOST_BYTES, Outcome};
 pub use tabler::{Show, Tabler, Watcher, table_of_part};
 pub use visiting::{Visitor, Window, visit_part};

@@ -12,6 +12,12 @@ use std::marker::Model;
 /// How many outcomes a table may have.
 pub const MOST_OUTCOMES: usize = 65_536;
 
+/// How many bytes the outcomes of a table may take: the bytes of their texts, and those of the actions of their first ways.
+pub const MOST_BYTES: usize = 160_000_000;
+
+/// How many bytes an action takes.
+const ACTION_BYTES: usize = 8;
+
 /// A text that was seen, the number of ways that show it, and the first of them.
 #[derive(Drop)]
 pub struct Outcome {
@@ -31,6 +37,8 @@ pub struct Tally {
 #[derive(Drop)]
 pub struct Table {
     tallies: IndexMap<Vec<u8>, Tally>,
+    /// The bytes that the outcomes take.
+    bytes: usize,
 }
 
 impl Model for Table {
@@ -61,6 +69,13 @@ fn copied_way(alloc: Global, way: &[Event]) -> Result<Vec<Event>, AllocError>
     Ok(copy)
 }
 
+/// The bytes of some outcomes and of one more, as far as 64 bits count them.
+fn bytes_with(bytes: usize, text: &[u8], way: &[Event]) -> usize {
+    bytes
+        .saturating_add(text.len())
+        .saturating_add(way.len().saturating_mul(ACTION_BYTES))
+}
+
 impl Table {
     /// A table of no ways.
     pub fn new(alloc: Global) -> Table
@@ -68,6 +83,7 @@ impl Table {
     {
         Table {
             tallies: IndexMap::new(alloc),
+            bytes: 0,
         }
     }
 
@@ -78,8 +94,18 @@ impl Table {
         self.tallies.len()
     }
 
-    /// Notes what is seen of one more way.
-    pub fn note(&mut self, alloc: Global, text: &[u8], way: &[Event]) -> Result<(), SearchFault>
+    /// Notes what is seen of one more way, after that many.
+    ///
+    /// # Errors
+    ///
+    /// `OutOfMemory`; `TooManyOutcomes`; `TooMuch`, with the number of ways before, for outcomes of more than `MOST_BYTES`.
+    pub fn note(
+        &mut self,
+        alloc: Global,
+        text: &[u8],
+        way: &[Event],
+        before: u64,
+    ) -> Result<(), SearchFault>
         ensures { OnOk result (self.new ≡ noted self.old text.now way.now) }
     {
         if let Some(tally) = self.tallies.get_mut(text) {
@@ -92,9 +118,14 @@ impl Table {
         if self.tallies.len() >= MOST_OUTCOMES {
             return Err(SearchFault::TooManyOutcomes);
         }
+        let bytes = bytes_with(self.bytes, text, way);
+        if bytes > MOST_BYTES {
+            return Err(SearchFault::TooMuch(before));
+        }
         let seen = copied_text(alloc, text)?;
         let first = copied_way(alloc, way)?;
         self.tallies.insert(seen, Tally { count: 1, first })?;
+        self.bytes = bytes;
         Ok(())
     }
 

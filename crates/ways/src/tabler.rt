@@ -117,7 +117,8 @@ impl<S: Show, P: Watcher> Visitor for Tabler<S, P> {
     fn visit(&mut self, way: &[Event]) -> Result<(), SearchFault> {
         let alerted = self.shows.show(way, &mut self.text)?;
         self.alerts = counted(self.alerts, alerted)?;
-        self.table.note(self.alloc, self.text.as_slice(), way)?;
+        self.table
+            .note(self.alloc, self.text.as_slice(), way, self.tried)?;
         self.tried = self.tried.saturating_add(1);
         self.watcher.report(self.tried, self.table.len());
         Ok(())
@@ -129,7 +130,7 @@ impl<S: Show, P: Watcher> Visitor for Tabler<S, P> {
 ///
 /// # Errors
 ///
-/// `OutOfMemory`, `TooManyOutcomes`, and what showing a way answers.
+/// `OutOfMemory`, `TooManyOutcomes`, `TooMuch`, and what showing a way answers.
 ///
 /// Source: project rule.
 pub fn table_of_part<S: Show, P: Watcher>(

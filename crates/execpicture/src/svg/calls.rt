@@ -37,7 +37,7 @@ fn write_call(said: &str, page: &mut Page) {
     }
 }
 
-/// What is written in a column.
+/// What is written in a column, beside its alert.
 #[derive(Clone, Copy)]
 struct Entry<'a> {
     said: &'a str,
@@ -49,17 +49,26 @@ struct Entry<'a> {
 /// The first line of a column that is a call of a task.
 fn call_in<'a>(column: &'a Column, name: &str) -> Option<&'a str> {
     for said in column.text.lines() {
-        match read_line(said) {
-            TraceLine::Call(call) => {
-                if call.who == name {
-                    return Some(call.said);
-                }
+        if let TraceLine::Call(call) = read_line(said) {
+            if call.who == name {
+                return Some(call.said);
             }
-            TraceLine::Alert(_) => return Some(said),
-            _ => {}
         }
     }
     None
+}
+
+/// The alert of a column, whoever made the call.
+pub(super) fn alert_in(column: &Column) -> Option<&str> {
+    column
+        .text
+        .lines()
+        .find(|said| matches!(read_line(said), TraceLine::Alert(_)))
+}
+
+/// Whether an alert is that of a call of a task.
+fn is_of(alert: &str, name: &str) -> bool {
+    alert.split(' ').nth(2) == Some(name)
 }
 
 /// What is written for a command that prints nothing: its word.
@@ -70,29 +79,29 @@ fn silent_word(scene: &Scene<'_>, actor: Actor) -> &'static str {
     }
 }
 
-/// The class of an entry of a task.
-fn class_of(said: &str, t: usize) -> &'static str {
-    if said.starts_with("alert ") {
-        "stop strong"
-    } else {
-        colour_of(t).fill
+/// What is written for a step of a task that has made no call: its word, or nothing if the call was refused.
+fn entry_without_call<'a>(scene: &'a Scene<'_>, column: &'a Column, actor: Actor) -> Entry<'a> {
+    let name = scene.objects.task_name(actor.task);
+    let (said, class) = match alert_in(column) {
+        Some(alert) if is_of(alert, name) => ("", "ink"),
+        _ => (silent_word(scene, actor), "faint slant"),
+    };
+    Entry {
+        said,
+        class,
+        task: actor.task.saturating_add(1),
     }
 }
 
 /// What is written for a step of a task.
 fn entry_of_task<'a>(scene: &'a Scene<'_>, column: &'a Column, actor: Actor) -> Entry<'a> {
-    let task = actor.task.saturating_add(1);
     match call_in(column, scene.objects.task_name(actor.task)) {
         Some(said) => Entry {
             said,
-            class: class_of(said, actor.task),
-            task,
+            class: colour_of(actor.task).fill,
+            task: actor.task.saturating_add(1),
         },
-        None => Entry {
-            said: silent_word(scene, actor),
-            class: "faint slant",
-            task,
-        },
+        None => entry_without_call(scene, column, actor),
     }
 }
 
@@ -125,14 +134,33 @@ fn entry_of<'a>(scene: &'a Scene<'_>, column: &'a Column) -> Entry<'a> {
     }
 }
 
-/// How many characters the longest call has.
+/// Writes what a column has: its entry, and its alert after that.
+fn write_entry(entry: &Entry<'_>, alert: Option<&str>, page: &mut Page) {
+    write_call(entry.said, page);
+    if let Some(alert) = alert {
+        let gap = if entry.said.is_empty() { "" } else { ", " };
+        page.fill(
+            "<tspan class=\"stop strong\">{}{}</tspan>",
+            &[Plain(gap), Xml(alert)],
+        );
+    }
+}
+
+/// How many characters a column has.
+fn length_of(scene: &Scene<'_>, column: &Column, page: &mut Page) -> usize {
+    let mut draft = page.draft();
+    write_call(entry_of(scene, column).said, &mut draft);
+    let alert = alert_in(column).unwrap_or("");
+    let gap = if alert.is_empty() { 0 } else { 2 };
+    let count = page.read(&draft).chars().count();
+    count.saturating_add(gap).saturating_add(alert.len())
+}
+
+/// How many characters the longest column has.
 pub(super) fn longest(scene: &Scene<'_>, page: &mut Page) -> usize {
     let mut most = 0;
-    let mut draft = page.draft();
     for column in scene.columns.iter().skip(1) {
-        draft.clear();
-        write_call(entry_of(scene, column).said, &mut draft);
-        most = most.max(page.read(&draft).chars().count());
+        most = most.max(length_of(scene, column, page));
     }
     most
 }
@@ -147,7 +175,7 @@ fn write_turned(plan: &Plan<'_>, entry: &Entry<'_>, column: &Column, page: &mut 
             Plain(entry.class),
         ],
     );
-    write_call(entry.said, page);
+    write_entry(entry, alert_in(column), page);
     page.fill("<title>{}</title></text>\n", &[Xml(&column.text)]);
 }
 
@@ -164,10 +192,11 @@ fn write_column(scene: &Scene<'_>, plan: &Plan<'_>, column: &Column, page: &mut 
     let entry = entry_of(scene, column);
     let top = plan.calls_top;
     let mid = plan.mid(column.number);
-    if entry.said.is_empty() {
+    let has_alert = alert_in(column).is_some();
+    if entry.said.is_empty() && !has_alert {
         return dot(page, mid, top + Px(12), 2, "faint", "nothing runs");
     }
-    if entry.said.starts_with("alert ") {
+    if has_alert {
         let x = plan.x(column.number);
         line(
             page,

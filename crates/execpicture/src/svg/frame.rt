@@ -1,4 +1,5 @@
 //! The frame of a picture: its ground, its title, what a screen reader reads, and the legend.
+use super::calls::alert_in;
 use super::plan::{MARGIN, Plan};
 use super::shapes::{Area, across, dot, open_rect, rect, text};
 use super::style::STYLE;
@@ -38,6 +39,16 @@ fn write_story(scene: &Scene<'_>, plan: &Plan<'_>, t: usize, track: &TaskTrack, 
     page.push_str(". ");
 }
 
+/// Writes which alert ends the run, if one does, in words.
+fn write_ending(scene: &Scene<'_>, page: &mut Page) {
+    for column in scene.columns.iter().skip(1) {
+        if let Some(alert) = alert_in(column) {
+            let number = Number(scene.number_of(column.number));
+            page.fill("Number {} ends the run: {}. ", &[number, Xml(alert)]);
+        }
+    }
+}
+
 /// Writes what a screen reader reads of the picture.
 fn write_description(scene: &Scene<'_>, plan: &Plan<'_>, page: &mut Page) {
     page.fill(
@@ -51,6 +62,7 @@ fn write_description(scene: &Scene<'_>, plan: &Plan<'_>, page: &mut Page) {
     for (t, track) in scene.tasks.iter().enumerate() {
         write_story(scene, plan, t, track, page);
     }
+    write_ending(scene, page);
     page.push_str("</desc>\n<style>\n");
 }
 

@@ -1,8 +1,8 @@
 //! What a machine shows of its memory: the blocks and the gaps of each region, in order of address.
 
+use super::Known;
 use super::objects::push_object;
 use crate::page::Page;
-use crate::run::Run;
 use crate::values::{push_number, push_signed, push_word};
 use execlist::space::ListSpace;
 use execsim::Machine;
@@ -44,13 +44,13 @@ fn push_front(page: &mut Page, address: u32, size: u32) {
 fn push_at<S: ListSpace>(
     page: &mut Page,
     machine: &Machine<S>,
-    run: &Run,
+    known: &Known<'_>,
     k: usize,
     address: u32,
 ) -> Option<u32> {
     if let Some(block) = machine.block(address) {
         push_front(page, address, block.size);
-        push_object(page, machine, run, address, &block.object);
+        push_object(page, machine, known, address, &block.object);
         page.push_str("\n");
         return Some(block.size);
     }
@@ -68,7 +68,7 @@ fn push_at<S: ListSpace>(
 fn push_map<S: ListSpace>(
     page: &mut Page,
     machine: &Machine<S>,
-    run: &Run,
+    known: &Known<'_>,
     k: usize,
     region: &Region,
 ) {
@@ -78,7 +78,7 @@ fn push_map<S: ListSpace>(
         if address >= end {
             return;
         }
-        match push_at(page, machine, run, k, address) {
+        match push_at(page, machine, known, k, address) {
             None => return,
             Some(size) => address = address.saturating_add(size),
         }
@@ -88,11 +88,11 @@ fn push_map<S: ListSpace>(
 /// Adds what a machine shows of its memory.
 ///
 /// Source: project rule.
-pub fn push_memory<S: ListSpace>(page: &mut Page, machine: &Machine<S>, run: &Run) {
-    for k in 0..run.listed.machine.regions().len() {
+pub fn push_memory<S: ListSpace>(page: &mut Page, machine: &Machine<S>, known: &Known<'_>) {
+    for k in 0..known.run.listed.machine.regions().len() {
         if let Some(region) = machine.region(k) {
             push_head(page, k, &region);
-            push_map(page, machine, run, k, &region);
+            push_map(page, machine, known, k, &region);
         }
     }
 }

@@ -1,8 +1,10 @@
 //! What a machine shows of an object in its memory, in words.
 
+use super::Known;
 use super::holders::push_holders;
 use super::machine::push_task_name;
 use crate::page::Page;
+use crate::public_ports::PublicPorts;
 use crate::run::Run;
 use crate::values::{push_millis, push_number, push_signed, push_word};
 use execlist::space::ListSpace;
@@ -10,7 +12,6 @@ use execsim::{DueTime, LibraryView, Machine, ObjectView, PortView};
 use iorequest::request::{ReqState, Request};
 use msgport::action::PortAction;
 use msgport::message::{Message, NT_FREEMSG, NT_MESSAGE, NT_REPLYMSG};
-use script::{Argument, Command};
 use sigsem::semaphore::Sem;
 
 /// The most objects or tasks that are shown of a list, a port or a semaphore; none has more.
@@ -70,42 +71,30 @@ fn push_messages<S: ListSpace>(page: &mut Page, machine: &Machine<S>, port: u32)
     }
 }
 
-/// Whether a command has a name by which FindPort finds the port at an address.
-fn names_port<S: ListSpace>(machine: &Machine<S>, command: &Command, address: u32) -> bool {
-    let quotes = command
-        .arguments
-        .iter()
-        .any(|argument| matches!(argument, Argument::Quoted));
-    quotes && machine.public_port(command.name.as_str()) == Some(address)
-}
-
-/// Adds that an object is a port, and its public name, if a task's command has that name and FindPort finds the port by it.
-fn push_public<S: ListSpace>(page: &mut Page, machine: &Machine<S>, run: &Run, address: u32) {
-    for body in &run.book.tasks {
-        for place in &body.places {
-            if names_port(machine, &place.command, address) {
-                page.push_str("public port \"");
-                page.push_str(place.command.name.as_str());
-                page.push_str("\" of ");
-                return;
-            }
+/// Adds that an object is a port, and its public name, if it is public.
+fn push_public(page: &mut Page, public: &PublicPorts, address: u32) {
+    match public.name_of(address) {
+        None => page.push_str("port of "),
+        Some(name) => {
+            page.push_str("public port \"");
+            page.push_str(name);
+            page.push_str("\" of ");
         }
     }
-    page.push_str("port of ");
 }
 
 /// Adds a port.
 fn push_port<S: ListSpace>(
     page: &mut Page,
     machine: &Machine<S>,
-    run: &Run,
+    known: &Known<'_>,
     address: u32,
     port: &PortView,
 ) {
-    push_public(page, machine, run, address);
+    push_public(page, known.public, address);
     push_task_name(page, machine, port.task);
     page.push_str(", ");
-    push_action(page, run, port);
+    push_action(page, known.run, port);
     push_messages(page, machine, address);
 }
 
@@ -257,7 +246,7 @@ fn push_request<S: ListSpace>(
 fn push_kind<S: ListSpace>(
     page: &mut Page,
     machine: &Machine<S>,
-    run: &Run,
+    known: &Known<'_>,
     address: u32,
     object: &ObjectView,
 ) {
@@ -271,10 +260,10 @@ fn push_kind<S: ListSpace>(
             page.push_str("node, priority ");
             push_signed(page, i64::from(*pri));
         }
-        ObjectView::Port(port) => push_port(page, machine, run, address, port),
+        ObjectView::Port(port) => push_port(page, machine, known, address, port),
         ObjectView::Message(message) => push_message(page, machine, address, message),
         ObjectView::Semaphore(semaphore) => push_semaphore(page, machine, address, semaphore),
-        ObjectView::Library(library) => push_library(page, run, library),
+        ObjectView::Library(library) => push_library(page, known.run, library),
         ObjectView::Request(request) => push_request(page, machine, address, request),
     }
 }
@@ -285,10 +274,10 @@ fn push_kind<S: ListSpace>(
 pub fn push_object<S: ListSpace>(
     page: &mut Page,
     machine: &Machine<S>,
-    run: &Run,
+    known: &Known<'_>,
     address: u32,
     object: &ObjectView,
 ) {
-    push_kind(page, machine, run, address, object);
-    push_holders(page, machine, run, address);
+    push_kind(page, machine, known, address, object);
+    push_holders(page, machine, known.run, address);
 }

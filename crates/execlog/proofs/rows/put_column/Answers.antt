@@ -5,7 +5,7 @@ use Rattle.execlog.proofs.rows.put_column.Goals as goal
 
 pub returns-clause-put : goal.returns-clause-put
 returns-clause-put c =
-    column_put c.saturating_sub.result c.put_digits-start.result 5 (decimal c.args.n) _ c.put_digits-start.new.room
+    column_put c.saturating_sub.result c.put_digits-start.result c.args.width (decimal c.args.n) _ c.put_digits-start.new.room
     (omega (arith, c.saturating_sub.ensures, c.put_digits-start.ensures.at)) (omega (arith, c.saturating_sub.ensures, c.put_digits-start.ensures.few, c.requires.within.0))
     c.put_digits-start.ensures.blank c.put_digits-start.ensures.put
 

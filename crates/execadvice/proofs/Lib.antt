@@ -1,0 +1,2 @@
+-- The lemma files of `execadvice`.
+pub mod Reading

@@ -1,0 +1,60 @@
+//! Branches of C and BASIC.
+
+use crate::made::Made;
+use std::alloc::Global;
+use taskscript::fields_of;
+
+/// The word for a condition of C, and the value that it asks of.
+fn branch_of(condition: &str) -> (&'static str, &str) {
+    for zero in [" == 0", " = 0"] {
+        if let Some(value) = condition.strip_suffix(zero) {
+            return ("JumpZ", value);
+        }
+    }
+    for other in [" != 0", " <> 0"] {
+        if let Some(value) = condition.strip_suffix(other) {
+            return ("JumpNZ", value);
+        }
+    }
+    for not in ["!", "not "] {
+        if let Some(value) = condition.strip_prefix(not) {
+            return ("JumpZ", value);
+        }
+    }
+    ("JumpNZ", condition)
+}
+
+/// The condition and the label of a line as `if x == 0 goto end` or `if x then end`.
+fn parts_of(line: &str) -> Option<(&str, &str)> {
+    let rest = line.strip_prefix("if ")?;
+    for by in [" then goto ", " goto ", " then "] {
+        if let Some(parts) = rest.split_once(by) {
+            return Some(parts);
+        }
+    }
+    None
+}
+
+/// What is meant by a line as `if x == 0 goto end`.
+pub(crate) fn branch_meant(alloc: Global, line: &str) -> Made<Option<String>> {
+    let lower = line.to_ascii_lowercase(alloc)?;
+    let Some((condition, label)) = parts_of(lower.as_str()) else {
+        return Ok(None);
+    };
+    let (word, value) = branch_of(condition);
+    Ok(Some(format!(in alloc; "{word} {value} {label}")?))
+}
+
+/// Whether a line compares two values, as C has it.
+pub(crate) fn compares(alloc: Global, line: &str) -> Made<bool> {
+    let fields = fields_of(alloc, line)?;
+    Ok(fields.iter().any(|field| is_comparison(*field)))
+}
+
+/// Whether a part is an operator that compares.
+fn is_comparison(field: &str) -> bool {
+    match field {
+        "==" | "!=" | "<" | ">" | "<=" | ">=" | "<>" => true,
+        _ => false,
+    }
+}

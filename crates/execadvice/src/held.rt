@@ -1,0 +1,157 @@
+//! Values of keys that are written in the manner of other languages, as they are written in a machine file.
+
+use crate::keys::keys_of;
+use crate::made::Made;
+use crate::near::nearest;
+use crate::values::{has_point, number_meant};
+use script::is_name;
+use std::alloc::Global;
+use taskscript::{Array, Key, TablePlace, is_softint_pri};
+
+/// The least and the greatest number that a key of a table may hold. Of a key that holds no number the least is the
+/// greater.
+fn bounds(of: TablePlace, key: Key) -> (i64, i64) {
+    match (of, key) {
+        (TablePlace::Top, Key::Version) => (1, 2),
+        (TablePlace::Item(_, _), Key::Version) => (0, 65_535),
+        (_, Key::Quantum) => (1, 255),
+        (_, Key::TickMicros) => (1, 1_000_000),
+        (_, Key::Pool) => (1, 1024),
+        (TablePlace::Item(Array::Library, _), Key::Size) => (8, 65_536),
+        (_, Key::Base | Key::Size) => (0, 4_294_967_295),
+        (_, Key::Attrs) => (0, 7),
+        (_, Key::Pri) => (-128, 127),
+        (_, Key::Name | Key::Source | Key::Claim | Key::Start | Key::Code) => (1, 0),
+    }
+}
+
+/// Whether a key of a table may hold that number.
+fn may_hold(of: TablePlace, key: Key, number: i64) -> bool {
+    let (least, most) = bounds(of, key);
+    let is_softint = match of {
+        TablePlace::Item(Array::Softint, _) => key == Key::Pri,
+        _ => false,
+    };
+    least <= number && number <= most && (!is_softint || is_softint_pri(number))
+}
+
+/// The text of a value without quotes.
+fn inside(text: &str) -> &str {
+    let text = text.trim_matches('"').trim_matches('\'').trim();
+    text.trim_matches('\u{201C}')
+        .trim_matches('\u{201D}')
+        .trim_matches('\u{201E}')
+}
+
+/// What of a number is before its point, if only zeros are after it.
+fn without_point(text: &str) -> &str {
+    match text.split_once(".") {
+        Some((whole, rest)) if has_point(text) && rest.trim_matches('0').is_empty() => whole,
+        _ => text,
+    }
+}
+
+/// The number that is meant by a value, if a key of a table may hold it.
+fn number_held(alloc: Global, of: TablePlace, key: Key, text: &str) -> Made<Option<String>> {
+    let plain = inside(text).replace(alloc, '\u{2212}', "-")?;
+    let plain = without_point(plain.as_str());
+    let digits = plain.trim_start_matches('-').trim_start_matches('+');
+    let Some(number) = number_meant(alloc, digits)? else {
+        return Ok(None);
+    };
+    let magnitude = i64::from(number);
+    let number = if plain.starts_with("-") {
+        0i64.saturating_sub(magnitude)
+    } else {
+        magnitude
+    };
+    Ok(if may_hold(of, key, number) {
+        Some(format!(in alloc; "{number}")?)
+    } else {
+        None
+    })
+}
+
+/// Whether a value is true or false, if it is meant to be one of them.
+fn truth_held(alloc: Global, text: &str) -> Made<Option<String>> {
+    let lower = inside(text).to_ascii_lowercase(alloc)?;
+    let truth = match lower.as_str() {
+        "true" | "yes" | "on" | "1" => "true",
+        "false" | "no" | "off" | "0" => "false",
+        _ => return Ok(None),
+    };
+    Ok(Some(String::from_str(alloc, truth)?))
+}
+
+/// The source that is meant by a value.
+fn source_held(alloc: Global, text: &str) -> Made<Option<String>> {
+    match nearest(alloc, inside(text), &["PORTS", "VERTB", "EXTER"])? {
+        None => Ok(None),
+        Some(name) => Ok(Some(format!(in alloc; "\"{name}\"")?)),
+    }
+}
+
+/// The name that is meant by a value.
+fn name_held(alloc: Global, text: &str) -> Made<Option<String>> {
+    let name = inside(text).replace(alloc, ' ', "_")?;
+    let name = name.as_str();
+    if !is_name(name.as_bytes()) {
+        return Ok(None);
+    }
+    Ok(Some(format!(in alloc; "\"{name}\"")?))
+}
+
+/// The code that is meant by one string, or by an array of lines without quotes, in one line of the file.
+fn code_held(alloc: Global, text: &str) -> Made<Option<String>> {
+    if text.contains('\n') || text.starts_with("\"\"\"") || text.starts_with("'''") {
+        return Ok(None);
+    }
+    if text.len() > 2 && text.starts_with("\"") && text.ends_with("\"") {
+        return Ok(Some(format!(in alloc; "[{text}]")?));
+    }
+    let Some(inner) = text.strip_prefix("[") else {
+        return Ok(None);
+    };
+    if !inner.ends_with("]") || inner.contains('"') || inner.contains('\'') {
+        return Ok(None);
+    }
+    let mut lines = Vec::new(alloc);
+    for part in inner.trim_end_matches(']').split(',') {
+        let line = part.trim();
+        lines.push(format!(in alloc; "\"{line}\"")?)?;
+    }
+    let lines: Vec<&str> = lines.iter().map(|line| line.as_str()).collect(alloc)?;
+    let list = lines.join(alloc, ", ")?;
+    Ok(Some(format!(in alloc; "[{list}]")?))
+}
+
+/// The value that a key of a table is meant to hold by one that it may not hold, if that is known.
+pub(crate) fn value_held(
+    alloc: Global,
+    of: TablePlace,
+    key: Key,
+    text: &str,
+) -> Made<Option<String>> {
+    match key {
+        Key::Claim | Key::Start => truth_held(alloc, text),
+        Key::Source => source_held(alloc, text),
+        Key::Name => name_held(alloc, text),
+        Key::Code => code_held(alloc, text),
+        _ => number_held(alloc, of, key, text),
+    }
+}
+
+/// A table that has a key of that name, and the key.
+pub(crate) fn table_with(name: &str) -> Option<(TablePlace, Key)> {
+    for of in [
+        TablePlace::Top,
+        TablePlace::Item(Array::Region, 0),
+        TablePlace::Item(Array::Server, 0),
+        TablePlace::Item(Array::Task, 0),
+    ] {
+        if let Some(key) = keys_of(of).iter().find(|key| key.text() == name) {
+            return Some((of, *key));
+        }
+    }
+    None
+}

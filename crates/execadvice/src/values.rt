@@ -1,0 +1,198 @@
+//! Arguments that are written in the manner of other languages, as they are written here.
+
+use crate::foreign::{number_of_constants, written_number};
+use crate::made::Made;
+use crate::near::are_digits;
+use crate::reads::is_number;
+use crate::variables::is_variable;
+use script::is_name;
+use std::alloc::Global;
+use taskscript::quoted_in;
+
+/// Whether a part is a number or a variable.
+pub(crate) fn is_value(part: &str) -> bool {
+    is_variable(part) || is_number(part)
+}
+
+/// The digits after `0x`, `0X` or `$`.
+pub(crate) fn base_sixteen(field: &str) -> Option<&str> {
+    match (field.strip_prefix("0x"), field.strip_prefix("0X")) {
+        (Some(digits), _) | (None, Some(digits)) => Some(digits),
+        (None, None) => field.strip_prefix("$"),
+    }
+}
+
+/// A part with the plain minus, without `_`, and without the `#` of an assembler and the letters that C has after a
+/// number.
+fn without_suffix(alloc: Global, text: &str) -> Made<String> {
+    let joined = text.trim_start_matches('#').replace(alloc, '_', "")?;
+    let plain = joined.as_str().replace(alloc, '\u{2212}', "-")?;
+    let short = plain.as_str().trim_end_matches('L').trim_end_matches('l');
+    let short = short.trim_end_matches('U').trim_end_matches('u');
+    String::from_str(alloc, short)
+}
+
+/// A part without the plus and the zeros before its digits.
+fn without_zeros(alloc: Global, text: &str) -> Made<String> {
+    let sign = if text.starts_with("-") { "-" } else { "" };
+    let digits = text
+        .trim_start_matches('-')
+        .trim_start_matches('+')
+        .trim_start_matches('0');
+    if digits.is_empty() && text.ends_with("0") {
+        return String::from_str(alloc, "0");
+    }
+    format!(in alloc; "{sign}{digits}")
+}
+
+/// How many bytes K or M after a number are. It is in small letters.
+fn unit_of(text: &str) -> (&str, u32) {
+    let text = text.strip_suffix("b").unwrap_or(text);
+    let text = text.strip_suffix("i").unwrap_or(text);
+    match (text.strip_suffix("k"), text.strip_suffix("m")) {
+        (Some(digits), _) => (digits, 1024),
+        (None, Some(digits)) => (digits, 1_048_576),
+        (None, None) => (text, 1),
+    }
+}
+
+/// The number of decimal digits, with K or M after them if a unit is there. It is in small letters.
+fn number_of_units(text: &str) -> Option<u32> {
+    let (digits, unit) = unit_of(text);
+    u32::from_str_radix(digits, 10).ok()?.checked_mul(unit)
+}
+
+/// The number of digits, in the base that the sign before them has. It is in small letters.
+fn number_of_digits(text: &str) -> Option<u32> {
+    for sign in ["0x", "$", "&h"] {
+        if let Some(digits) = text.strip_prefix(sign) {
+            return u32::from_str_radix(digits, 16).ok();
+        }
+    }
+    for sign in ["0b", "%"] {
+        if let Some(digits) = text.strip_prefix(sign) {
+            return u32::from_str_radix(digits, 2).ok();
+        }
+    }
+    number_of_units(text)
+}
+
+/// The number that a part is, in whatever base, or of which it is the name.
+fn number_in(alloc: Global, text: &str) -> Made<Option<u32>> {
+    let named = number_of_constants(text);
+    if named.is_some() {
+        return Ok(named);
+    }
+    let text = without_suffix(alloc, text)?;
+    let lower = text.as_str().to_ascii_lowercase(alloc)?;
+    Ok(number_of_digits(lower.as_str()))
+}
+
+/// The number of a part as `1L<<12`, or of one without a shift.
+fn shifted(alloc: Global, text: &str) -> Made<Option<u32>> {
+    let Some((number, places)) = text.split_once("<<") else {
+        return number_in(alloc, text);
+    };
+    match (number_in(alloc, number)?, number_in(alloc, places)?) {
+        (Some(number), Some(places)) => Ok(number.checked_shl(places)),
+        _ => Ok(None),
+    }
+}
+
+/// The number of a part that is written as C, an assembler or another language has it, with `<<` and `|`.
+pub(crate) fn number_meant(alloc: Global, text: &str) -> Made<Option<u32>> {
+    let mut sum = 0u32;
+    for one in text.split('|') {
+        match shifted(alloc, one)? {
+            None => return Ok(None),
+            Some(number) => sum |= number,
+        }
+    }
+    Ok(Some(sum))
+}
+
+/// A number in the form that it has, as nearly as it may be written so: in decimal digits, or in base 16.
+fn number_of_form(alloc: Global, field: &str) -> Made<Option<String>> {
+    let short = without_suffix(alloc, field)?;
+    let number = match base_sixteen(short.as_str()) {
+        None => without_zeros(alloc, short.as_str())?,
+        Some(digits) => {
+            let digits = digits.to_ascii_uppercase(alloc)?;
+            format!(in alloc; "${digits}")?
+        }
+    };
+    Ok(if is_number(number.as_str()) {
+        Some(number)
+    } else {
+        None
+    })
+}
+
+/// The variable that a part is meant to be, if there is one: with small letters, and without the `&` of C.
+fn variable_meant(alloc: Global, field: &str) -> Made<Option<String>> {
+    let lower = field.trim_start_matches('&').to_ascii_lowercase(alloc)?;
+    Ok(if is_variable(lower.as_str()) && !is_constant(field) {
+        Some(lower)
+    } else {
+        None
+    })
+}
+
+/// Whether a part is written as the constants of C are: in capital letters, with `_`, or it is one of those that are
+/// known.
+pub(crate) fn is_constant(field: &str) -> bool {
+    let has_small = field.as_bytes().iter().any(|b| b.is_ascii_lowercase());
+    field.contains('_') && !has_small || number_of_constants(field).is_some()
+}
+
+/// The number or the variable that a part is meant to be, if there is one.
+pub(crate) fn value_meant(alloc: Global, field: &str) -> Made<Option<String>> {
+    if is_value(field) {
+        return Ok(Some(String::from_str(alloc, field)?));
+    }
+    let variable = variable_meant(alloc, field)?;
+    if variable.is_some() {
+        return Ok(variable);
+    }
+    let number = number_of_form(alloc, field)?;
+    if number.is_some() {
+        return Ok(number);
+    }
+    match number_meant(alloc, field)? {
+        None => Ok(None),
+        Some(number) => Ok(Some(written_number(alloc, number)?)),
+    }
+}
+
+/// A part without quotes, and without the `&` of C.
+pub(crate) fn unquoted(field: &str) -> &str {
+    field
+        .trim_start_matches('&')
+        .trim_matches('"')
+        .trim_matches('\'')
+}
+
+/// The name between double quotes that a part is meant to be, if there is one.
+pub(crate) fn quoted_meant(alloc: Global, field: &str) -> Made<Option<String>> {
+    let inside = unquoted(field);
+    if is_name(inside.as_bytes()) {
+        return Ok(Some(format!(in alloc; "\"{inside}\"")?));
+    }
+    Ok(None)
+}
+
+/// The name between double quotes, or 0 for none, that a part is meant to be, if there is one.
+pub(crate) fn quoted_or_none_meant(alloc: Global, field: &str) -> Made<Option<String>> {
+    if quoted_in(field).is_none() && number_meant(alloc, field)? == Some(0) {
+        return Ok(Some(String::from_str(alloc, "0")?));
+    }
+    quoted_meant(alloc, field)
+}
+
+/// Whether a part is a number with digits after a point.
+pub(crate) fn has_point(field: &str) -> bool {
+    match field.trim_start_matches('-').split_once(".") {
+        None => false,
+        Some((whole, rest)) => !whole.is_empty() && are_digits(whole) && are_digits(rest),
+    }
+}

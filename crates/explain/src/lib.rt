@@ -1,0 +1,11 @@
+//! What each fault, alert and warning is that a text or a run may have, with texts that show it and texts in which it is mended.
+#![tactic(auto)]
+
+mod alerts;
+mod faults;
+mod section;
+mod text;
+mod warnings;
+
+pub use section::{Example, Section, section_named, sections};
+pub use text::section_text;

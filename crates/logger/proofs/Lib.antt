@@ -1,0 +1,2 @@
+-- The lemma files of `logger`.
+pub mod FailLemmas
