@@ -28,7 +28,7 @@ impl Outside for Nothing {
 
 #[test]
 fn a_frame_that_is_written_is_read_back(rt: HostRuntime) {
-    let frame = frame_of(rt.alloc(), b"{\"id\":1}").unwrap();
+    let frame = frame_of(rt.alloc(), b"{\"id\":1}").expect(&rt, "memory is there");
     assert_eq!(&rt;
         frame.as_slice(),
         b"Content-Length: 8\r\n\r\n{\"id\":1}".as_slice()
@@ -53,9 +53,9 @@ fn messages_come_one_after_another(rt: HostRuntime) {
         b"Content-Length: 1\r\n\r\n1Content-Length: 2\r\n\r\n22".as_slice(),
     );
     assert!(&rt; input.wait() == Ok(Waited::More));
-    let first = input.take().unwrap();
+    let first = input.take().expect(&rt, "a message is there");
     assert!(&rt; matches!(&first, Next::Message(bytes) if bytes.len() == 1));
-    let second = input.take().unwrap();
+    let second = input.take().expect(&rt, "a message is there");
     assert!(&rt; matches!(&second, Next::Message(bytes) if bytes.len() == 2));
 }
 
@@ -76,7 +76,7 @@ fn methods_have_meanings(rt: HostRuntime) {
 
 #[test]
 fn an_editor_ends_the_server(rt: HostRuntime) {
-    let frame = frame_of(rt.alloc(), b"{\"method\":\"exit\"}").unwrap();
+    let frame = frame_of(rt.alloc(), b"{\"method\":\"exit\"}").expect(&rt, "memory is there");
     let mut out = Vec::new(rt.alloc());
     let served = serve(&Nothing, rt.alloc(), frame.as_slice(), &mut out);
     assert_eq!(&rt; served, Ok(Served::Aborted));
