@@ -102,6 +102,10 @@ class Native:
             words = [self.room / command, *map(str, options), "machine.toml", "run.events"]
             ran = subprocess.run(words, cwd=folder, stdin=subprocess.DEVNULL, capture_output=True, check=False)
         said = callwords.said(ran.stderr.decode(errors="replace")).removeprefix(f"{command}: ").removesuffix("\n")
+        step = callwords.alert_step(said) if "--state" in options else None
+        if step is not None:
+            status, page = self.run(command, machine, events, "--state", step)
+            return status, callwords.as_step(page, step, options[1])
         return ran.returncode, ran.stdout or said.encode()
 
     def all(self, asked):
