@@ -49,10 +49,13 @@ int machine_read_events(const char *path, char **kinds, size_t *count) {
     fclose(from);
     uint32_t status =
         execsim_check((const uint8_t *)none, sizeof none - 1, text, size, (uint8_t *)said, sizeof said, &length);
-    if (status == EXECSIM_EVENTS_REFUSED || size > EXECSIM_FILE_LIMIT) {
+    if (status == EXECSIM_EVENTS_REFUSED || status == EXECSIM_TOO_LONG || size > EXECSIM_FILE_LIMIT) {
+        /* what was found may be longer than the buffer: the run says whether the text is refused */
         uint8_t *out = malloc(length + 1);
-        execsim_run((const uint8_t *)none, sizeof none - 1, text, size, out, length + 1, &length);
-        stop(BAD_WORDS, "%s: %.*s; a line is 'run N', 'tick N', 'irq PORTS' or 'irq EXTER'", path, (int)length, out);
+        status = execsim_run((const uint8_t *)none, sizeof none - 1, text, size, out, length + 1, &length);
+        if (status == EXECSIM_EVENTS_REFUSED || size > EXECSIM_FILE_LIMIT)
+            stop(BAD_WORDS, "%s: %.*s; a line is 'run N', 'tick N', 'irq PORTS' or 'irq EXTER'", path, (int)length, out);
+        free(out);
     }
     size_t room = 0;
     *kinds = 0, *count = 0;
@@ -444,7 +447,7 @@ int machine_shows(const char *what, const char *number, const char *names) {
         if (!(out = realloc(out, (room = length) + 1))) stop(FAILED, "out of memory");
     if (status == EXECSIM_NO_MEMORY) stop(FAILED, "out of memory");
     if (status == EXECSIM_NOT_THERE) stop(BAD_WORDS, "%.*s", (int)length, out);
-    int width = places_width();
+    int width = places_width(), is_of_name = 0, has_found = 0;
     if (report == log_report) printf(" step         ms  %*s  %-45s  call\n", width, "place", "trace");
     for (char *at = (char *)out, *end = at + length, *next; at < end; at = next + 1) {
         if (!(next = memchr(at, '\n', end - at))) next = end;
@@ -452,11 +455,15 @@ int machine_shows(const char *what, const char *number, const char *names) {
         if (report == log_report) show_row(at, width);
         else if (report == state_report && at == (char *)out && !strncmp(at, "machine.toml", 12))
             printf("%s%s\n", names, at + 12);
-        else if (report == check_report) show_line_in_c(at);
-        else show_named(at, names);
+        else if (report == check_report) {
+            /* a variable of a recorded file is a name alone, for a reader: that no line reads it says nothing of the program */
+            if (*at != ' ') is_of_name = !!strstr(at, ": warning[unused-variable]: ");
+            if (!is_of_name) show_line_in_c(at);
+            has_found |= !is_of_name && (strstr(at, ": warning[") || strstr(at, ": error["));
+        } else show_named(at, names);
     }
     if (fflush(stdout)) stop(FAILED, "the output cannot be written");
-    return status == EXECSIM_ALERTED ? FOUND : 0;
+    return status == EXECSIM_ALERTED && (has_found || report != check_report) ? FOUND : 0;
 }
 
 /* How many ways the proved search has. */
