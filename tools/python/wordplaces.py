@@ -25,7 +25,7 @@ NOT_NAMED = (
     ("a run says that it is no command", "crates/runs/data/not-simulated.runs", r"^== {} is no command$"),
 )
 # A stored answer that says of the text above its marks that it is no word.
-UNKNOWN = re.compile(r"(?m)^(.*)\n( +)(\^+) unknown word")
+UNKNOWN = re.compile(r"(?m)\[BadCommand\]: unknown word.*\n(?:    in .*\n)?(    .*)\n( +)(\^+)$")
 # A word and its alert, of which a stored answer is.
 ENDING = re.compile(r"(?m)^== (\w+) ([A-Z]+)\b")
 COUNTED = re.compile(r"\bthere are (\d+) words\b")
