@@ -415,8 +415,8 @@ def does(t, call, s):
 # A call of task t, by the group of its word. After a call on requests that has set system time, and after its line,
 # each request finishes that waits for a system time that has come.
 # does_word : Word → ℕ → Call → State → Outcome  [execmodel/specs/Step.antt:37]
-def does_word(word, t, call, s):
-    match word:
+def does_word(this_word, t, call, s):
+    match this_word:
         case Word.Plain(word): return does_plain(word, t, call, s)
         case Word.Signals(word): return does_signals(word, t, call, s)
         case Word.Nesting(word): return does_nesting(word, t, call, s)
@@ -3405,8 +3405,8 @@ def does_in_body(name, call, s):
 
 # a call of a body, by the group of its word; a word that no body may have does nothing
 # does_word_by : Word → Caller → Call → State → Outcome  [execmodel/specs/Bodies.antt:41]
-def does_word_by(word, c, call, s):
-    match word:
+def does_word_by(this_word, c, call, s):
+    match this_word:
         case Word.Plain(word): return does_plain_by(word, c, call, s)
         case Word.Signals(word): return does_signals_by(word, c, call, s)
         case Word.Ports(word): return does_ports_by(word, c, call, s)
@@ -4982,8 +4982,8 @@ def word_text(word):
 
 # what is known of a word by itself, which is its row, by the group of the word
 # row : Word → RowData  [script/specs/Words.antt:8]
-def row(word):
-    match word:
+def row(this_word):
+    match this_word:
         case Word.Plain(word): return plain_row(word)
         case Word.Signals(word): return signal_row(word)
         case Word.Nesting(word): return nesting_row(word)
@@ -7644,8 +7644,8 @@ def reader():
 
 # a word that the body of an interrupt may have
 # is_word_of_interrupt : Word → Bool  [script/specs/Interrupting.antt:28]
-def is_word_of_interrupt(word):
-    match word:
+def is_word_of_interrupt(this_word):
+    match this_word:
         case Word.Plain(word): return is_plain_of_interrupt(word)
         case Word.Signals(word): return is_signal_of_interrupt(word)
         case Word.Ports(word): return is_port_of_interrupt(word)
