@@ -490,9 +490,11 @@ code = [
     },
     Section {
         name: "deadlock",
-        title: "tasks wait for each other",
-        text: "Each has what the next one waits for. If all tasks obtain semaphores in one
-order, there is no circle.",
+        title: "tasks wait for each other's semaphores",
+        text: "Each owns a semaphore that another one of them waits for. If all tasks obtain
+semaphores in one order, there is no circle. A circle of tasks that wait for
+messages or signals of each other is not looked for: what is said of each of
+them is the warning waits.",
         shows: Example {
             machine: "[[region]]
 base = 4096
