@@ -86,9 +86,14 @@ def calls(words):
     return as_table(("Word", "Arguments", "Returns", "Alerts, in their order", "Effect"), rows)
 
 
+ADVICE = tables.TOP / "crates" / "execadvice" / "src"
+# The tables of names that are no words, each with its file.
+FOREIGN = {table: ADVICE / f"{file}.rt" for file, row in (("foreign", ("NAMES", "ABSENT")), ("elsewhere", ("CALLS", "LOCKS", "SIGNS", "LACKED", "LACKED_SIGNS"))) for table in row}
+
+
 def foreign_rows(table):
     """The rows of a table of names that are no words, as `execcheck` has them: each name, and what is said of it."""
-    text = (tables.TOP / "crates" / "execadvice" / "src" / "foreign.rt").read_text()
+    text = FOREIGN[table].read_text()
     said = dict(re.findall(r'const (\w+): &str =\s*"((?:[^"\\]|\\.)*)";', text))
     rows = re.search(rf"const {table}: [^=]*= \[\n(.*?)\n\];", text, re.S)[1]
     found = re.findall(r'\(\s*"([^"]+)",\s*(?:"((?:[^"\\]|\\.)*)"|(\w+)),?\s*\)', rows)

@@ -3,6 +3,7 @@
 use crate::diagnostic::{Diagnostic, of_line};
 use crate::escaped::hidden_reason;
 use crate::events::{is_event, is_of_trace};
+use crate::foreign::is_type;
 use crate::held::{table_with, value_held};
 use crate::made::Made;
 use crate::reads::says_something;
@@ -24,6 +25,18 @@ const EVENT: &str =
 /// What is said of a line of a trace.
 const TRACE: &str =
     "this is a line of a trace, which execsim writes; the first path is the machine file";
+
+/// What is said of a line of YAML.
+const YAML: &str =
+    "this is YAML; a machine file is TOML, with KEY = VALUE, and [[task]] above each task";
+
+/// What is said of a line of C.
+const C: &str =
+    "this is C, which execc runs; a machine file is TOML, with KEY = VALUE, and [[task]] above each task";
+
+/// What is said of the head of a table that does not end.
+const HEAD: &str =
+    "the head of a table is its kind between two brackets on each side, as [[task]], with its name below: name = \"a\"";
 
 /// What is said of a line of code.
 const CODE: &str =
@@ -61,6 +74,11 @@ fn likely_reason(before: char, c: char, wants_value: bool) -> Option<&'static st
         } else {
             "there is no comma after a value"
         });
+    }
+    if c == ';' && before == '"' {
+        return Some(
+            "there is a comma between the items of an array, and no semicolon after a value",
+        );
     }
     let likely = character_likely(c);
     if likely.is_some() {
@@ -150,11 +168,32 @@ fn other_text_reason(alloc: Global, line: &str) -> Made<Option<&'static str>> {
     if says_something(alloc, line.trim())? && line.contains(' ') {
         return Ok(Some(CODE));
     }
-    Ok(if line.starts_with("---") || line.trim_start().starts_with("- ") {
-        Some("this is YAML; a machine file is TOML, with KEY = VALUE, and [[task]] above each task")
+    Ok(other_language_reason(line))
+}
+
+/// Whether a line begins as the head of a table does, or with parentheses in its place, and has no comma as an array
+/// has.
+fn begins_as_head(line: &str) -> bool {
+    let inside = line.trim_start_matches('[').trim_start_matches('(');
+    let first = inside.as_bytes().first().copied().unwrap_or(b' ');
+    inside.len() < line.len() && first.is_ascii_alphabetic() && !line.contains(',')
+}
+
+/// What is said of a line of another language.
+fn other_language_reason(line: &str) -> Option<&'static str> {
+    let text = line.trim();
+    let first = text.split(' ').next().unwrap_or("");
+    if text.starts_with("---") || text.starts_with("- ") {
+        Some(YAML)
+    } else if text.ends_with(":") && !text.contains('"') && !text.contains('=') {
+        Some(YAML)
+    } else if text.contains('(') && is_type(first) {
+        Some(C)
+    } else if begins_as_head(line) && (!text.ends_with("]") || text.contains(' ')) {
+        Some(HEAD)
     } else {
         None
-    })
+    }
 }
 
 /// What is said where a line ends too soon.

@@ -8,6 +8,7 @@ use crate::document::reason_of_bytes;
 use crate::made::Made;
 use crate::near::{are_digits, nearest};
 use crate::proposal::change;
+use crate::reads::says_something;
 use crate::show::{Advice, Fix, Span, field_span, width_of};
 use crate::spacing::hidden_advice;
 use crate::text::{Text, is_line_feed, text_or_nothing};
@@ -101,12 +102,14 @@ fn is_of_machine_file(line: &str) -> bool {
 
 /// Whether a line is one of a trace.
 pub(crate) fn is_of_trace(line: &str) -> bool {
+    let line = line.strip_suffix(" waits").unwrap_or(line);
     let digits = match line.rsplit_once(" $") {
         None => "",
         Some((_, digits)) => digits,
     };
     let is_result = digits.len() == 8 && digits.as_bytes().iter().all(|b| b.is_ascii_hexdigit());
-    line == "idle" || line.starts_with("switch ") || is_result && !line.contains('=')
+    let is_other = line.starts_with("switch ") || line.starts_with("serve ");
+    line == "idle" || is_other || is_result && !line.contains('=')
 }
 
 /// The word of an event that is meant by another one.
@@ -114,7 +117,7 @@ fn word_meant(alloc: Global, word: &str) -> Made<Option<&'static str>> {
     let lower = word.to_ascii_lowercase(alloc)?;
     let meant = match lower.as_str() {
         "step" | "steps" | "go" => "run",
-        "vblank" | "vertb" => "tick",
+        "vblank" | "vbl" | "vertb" => "tick",
         "int" | "interrupt" => "irq",
         _ => return nearest(alloc, word, &["run", "tick", "irq"]),
     };
@@ -124,7 +127,7 @@ fn word_meant(alloc: Global, word: &str) -> Made<Option<&'static str>> {
 /// Whether a character of other languages separates the parts of an event.
 fn is_apart(c: char) -> bool {
     match c {
-        '(' | ')' | ':' | ';' | '=' | '"' => true,
+        '(' | ')' | '[' | ']' | ':' | ';' | '=' | '"' => true,
         _ => c.is_whitespace(),
     }
 }
@@ -190,6 +193,7 @@ fn event_meant(alloc: Global, line: &str) -> Made<Option<String>> {
     let found = match plain.split_once(" ") {
         None if are_digits(plain) => event_of(alloc, "run", plain)?,
         None => None,
+        Some((number, word)) if are_digits(number) => event_of(alloc, word, number)?,
         Some((word, argument)) => event_of(alloc, word, argument)?,
     };
     match found {
@@ -253,6 +257,11 @@ fn event_advice(alloc: Global, line: &str) -> Made<Advice> {
     if is_of_trace(line) {
         let reason =
             "this is a line of a trace, which execsim writes; the second path is the event text";
+        return Advice::new(alloc, field_span(line, 0), reason);
+    }
+    if line.contains(' ') && says_something(alloc, line)? {
+        let reason =
+            "this is a line of code, which belongs to a machine file; a line is run N, tick N or irq S";
         return Advice::new(alloc, field_span(line, 0), reason);
     }
     // A carriage return at the end has a reason of its own.

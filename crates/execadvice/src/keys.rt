@@ -70,7 +70,7 @@ pub fn unknown_key(alloc: Global, of: TablePlace, table: &Table) -> Made<&str> {
 }
 
 /// Names that other systems have for keys, each with the keys that may be meant.
-const OTHER_KEYS: [(&str, &str); 20] = [
+const OTHER_KEYS: [(&str, &str); 23] = [
     ("libraries", "library"),
     ("lib", "library"),
     ("libs", "library"),
@@ -90,6 +90,9 @@ const OTHER_KEYS: [(&str, &str); 20] = [
     ("script", "code"),
     ("lines", "code"),
     ("commands", "code"),
+    ("program", "code"),
+    ("body", "code"),
+    ("steps", "code"),
     ("tick", "tick_micros"),
 ];
 
@@ -103,7 +106,21 @@ fn key_meant(name: &str, keys: &[&str]) -> Option<&'static str> {
     None
 }
 
-/// Why a key is none of a table, with the keys that the table may have.
+/// The tables that have a key.
+fn owners_of(key: &str) -> Option<&'static str> {
+    match key {
+        "code" | "name" => Some("[[task]], [[server]] and [[softint]]"),
+        "pri" => Some("[[task]], [[server]], [[softint]] and [[region]]"),
+        "start" => Some("[[task]]"),
+        "source" | "claim" => Some("[[server]]"),
+        "base" | "attrs" => Some("[[region]]"),
+        "size" => Some("[[region]] and [[library]]"),
+        "version" => Some("[[library]]"),
+        _ => None,
+    }
+}
+
+/// Why a key is none of a table, with the keys that the table may have, and the tables that have it, if some do.
 pub fn unknown_key_reason(alloc: Global, of: TablePlace, key: &str) -> Made<String> {
     if of != TablePlace::Top && key_texts(alloc, TablePlace::Top)?.contains(&key) {
         let reason = "this key belongs to the top of the file, above all tables";
@@ -113,7 +130,12 @@ pub fn unknown_key_reason(alloc: Global, of: TablePlace, key: &str) -> Made<Stri
         shown_name(alloc, key)?,
         key_texts(alloc, of)?.join(alloc, ", ")?,
     );
-    format!(in alloc; "unknown key {name} in this table; its keys are {list}")
+    match owners_of(key) {
+        None => format!(in alloc; "unknown key {name} in this table; its keys are {list}"),
+        Some(owners) => format!(in alloc;
+            "unknown key {name} in this table; its keys are {list}; {name} is one of {owners}"
+        ),
+    }
 }
 
 /// The key of a table that is likely meant by another one, if there is one.

@@ -2,11 +2,13 @@
 #![tactic(auto)]
 
 mod advice;
+mod assembler;
 mod bodies;
 mod branches;
 mod calculations;
 mod diagnostic;
 mod document;
+mod elsewhere;
 mod escaped;
 mod events;
 mod file;

@@ -1,6 +1,7 @@
 //! What is meant by a line that is not a command, as a whole line: its target, its word and its arguments, as far as
 //! each can be told.
 
+use crate::assembler::assembled;
 use crate::branches::branch_meant;
 use crate::calculations::{calculated, counted, idiom, target_of};
 use crate::foreign::instead_of;
@@ -8,7 +9,7 @@ use crate::labels::labels_of;
 use crate::made::Made;
 use crate::members::{name_of, position_named};
 use crate::near::nearest;
-use crate::plain::{plain_line, without_groups};
+use crate::plain::{plain_line, without_groups, without_quotes};
 use crate::reads::says_something;
 use crate::stands::may_be_in_interrupt;
 use crate::values::{quoted_meant, quoted_or_none_meant, unquoted, value_meant};
@@ -109,6 +110,14 @@ fn ends_with_name(line: &str, name: &str) -> bool {
     match line.rsplit_once(" ") {
         None => false,
         Some((_, last)) => last.trim_end_matches(';') == name,
+    }
+}
+
+/// Whether a line has that name before its `=`.
+fn sets(line: &str, name: &str) -> bool {
+    match line.split_once(" = ") {
+        None => false,
+        Some((target, _)) => target == name,
     }
 }
 
@@ -254,6 +263,15 @@ impl Mending<'_> {
         }
     }
 
+    /// What is meant by a line of an assembler, or by what is a line without a target.
+    fn line_of_parts(self, line: &str) -> Made<Option<String>> {
+        let parts = fields_of(self.alloc, line)?;
+        match assembled(self.alloc, &parts)? {
+            None => self.command_meant(None, line),
+            Some(other) => self.again(other.as_str()),
+        }
+    }
+
     /// What is meant by a target and what is after its `=`, or by what is a line without them.
     fn command_meant(self, target: Option<&str>, rest: &str) -> Made<Option<String>> {
         let fields = fields_of(self.alloc, rest)?;
@@ -285,10 +303,19 @@ impl Mending<'_> {
             let right = format!(in self.alloc; "{word} {target} {right}")?;
             return self.command_meant(Some(target), right.as_str());
         }
+        if self.is_set(right) {
+            let right = format!(in self.alloc; "Set {right}")?;
+            return self.command_meant(Some(target), right.as_str());
+        }
         match calculated(self.alloc, right)? {
             None => self.command_meant(Some(target), right),
             Some(right) => self.command_meant(Some(target), right.as_str()),
         }
+    }
+
+    /// Whether a line of the body sets the variable of that name.
+    fn is_set(self, name: &str) -> bool {
+        self.lines.iter().any(|item| sets(line_in(item), name))
     }
 
     /// Whether another line of the body ends with that name, as a jump does.
@@ -301,23 +328,25 @@ impl Mending<'_> {
     /// What is meant by a line that is a name: a label, if a line jumps to it or it has its colon, or a jump to the
     /// label of that name.
     fn label_line(self, line: &str) -> Made<Option<String>> {
-        let lower = line.replace(self.alloc, ' ', "_")?;
+        let close = line.replace(self.alloc, " :", ":")?;
+        let lower = close.as_str().replace(self.alloc, ' ', "_")?;
         let lower = lower.as_str().to_ascii_lowercase(self.alloc)?;
         let name = lower.as_str().trim_end_matches(':');
         let first = line.split(' ').next().unwrap_or("");
-        let is_call = word_meant(self.alloc, first)?.is_some() || instead_of(first).is_some();
-        if !is_identifier(name.as_bytes()) || is_call {
+        let is_foreign = instead_of(first).is_some();
+        let is_call = is_foreign || word_meant(self.alloc, first)?.is_some();
+        if !is_identifier(name.as_bytes()) || is_call && !is_foreign {
             return Ok(None);
         }
         let has_colon = line.ends_with(":");
         if self.labels()?.contains(&name) {
-            return if has_colon {
+            return if has_colon || is_foreign {
                 Ok(None)
             } else {
                 Ok(Some(format!(in self.alloc; "Jump {name}")?))
             };
         }
-        if has_colon || self.is_named(name) {
+        if has_colon && !is_foreign || self.is_named(name) {
             return Ok(Some(format!(in self.alloc; "{name}:")?));
         }
         Ok(None)
@@ -337,7 +366,7 @@ impl Mending<'_> {
             Some((target, rest)) if is_variable(target) && begins_with_word(rest) => {
                 self.assigned(target, rest)
             }
-            _ => self.command_meant(None, line),
+            _ => self.line_of_parts(line),
         }
     }
 
@@ -353,6 +382,9 @@ impl Mending<'_> {
     fn plain_meant(self, line: &str) -> Made<Option<String>> {
         if let Some(branch) = branch_meant(self.alloc, line)? {
             return self.command_meant(None, branch.as_str());
+        }
+        if let Some((target, rest)) = line.split_once(" <- ") {
+            return self.assigned(target, rest);
         }
         match line.split_once("=") {
             None => self.unassigned(line),
@@ -371,7 +403,7 @@ impl Mending<'_> {
     /// The line that is meant by one whose punctuation is as it is given, if that can be told as a whole and may be in
     /// the body.
     fn meant_by(self, line: &str) -> Made<Option<String>> {
-        let plain = plain_line(self.alloc, line)?;
+        let plain = plain_line(self.alloc, without_quotes(line))?;
         match self.plain_meant(plain.as_str())? {
             Some(meant) if self.fits(meant.as_str())? => Ok(Some(meant)),
             _ => Ok(None),

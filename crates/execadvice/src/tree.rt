@@ -81,6 +81,16 @@ fn marked_line(own: &Table, key: Key, fault: FileFault) -> Option<usize> {
     }
 }
 
+/// What is said besides of a text of several lines.
+fn lines_reason(value: &Value) -> &'static str {
+    match value.as_str() {
+        Some(text) if text.trim().contains('\n') => {
+            "; each line is a string of its own, as [\"Print 1\", \"Print 2\"]"
+        }
+        _ => "",
+    }
+}
+
 /// Why a value of a key is not one that the key may have. `wanted` is what it may have.
 fn bad_value_reason(alloc: Global, own: &Table, key: Key, wanted: &str) -> Made<String> {
     let name = key.text();
@@ -93,8 +103,8 @@ fn bad_value_reason(alloc: Global, own: &Table, key: Key, wanted: &str) -> Made<
             format!(in alloc; "{name}: expected {wanted}, but line {number} is not a string")
         }
         _ => {
-            let held = held_text(alloc, value)?;
-            format!(in alloc; "{name}: expected {wanted}, found {held}")
+            let (held, more) = (held_text(alloc, value)?, lines_reason(value));
+            format!(in alloc; "{name}: expected {wanted}, found {held}{more}")
         }
     }
 }
