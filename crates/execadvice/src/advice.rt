@@ -76,6 +76,9 @@ const HASH: &str =
 /// What is said of a line of an event text.
 const EVENT: &str = "this is a line of an event text, which is the second path";
 
+/// What is said of `#` before a number.
+const NUMBER_HASH: &str = "a number has no # before it";
+
 /// What is said of a call in the manner of C.
 const CALLED: &str = "arguments follow the word, with one space before each";
 
@@ -120,9 +123,9 @@ fn is_field(part: &str) -> bool {
     }
 }
 
-/// Whether a plain line sets the field of a structure, or sets a variable to one.
-fn has_field(plain: &str) -> bool {
-    match plain.split_once(" = ") {
+/// Whether a line sets the field of a structure, or sets a variable to one.
+fn has_field(line: &str) -> bool {
+    match line.split_once(" = ") {
         None => false,
         Some((target, value)) => is_field(target) || is_field(value),
     }
@@ -462,6 +465,17 @@ fn count_reason(alloc: Global, word: Word, given: usize, has_target: bool) -> Ma
     format!(in alloc; "{takes}, but {given} {verb} given{end}")
 }
 
+/// What is said of a part after the arguments of a word, if it shows what is meant.
+fn extra_reason(part: &str) -> Option<&'static str> {
+    if part == "=" {
+        Some("there is no = between arguments")
+    } else if word_of(part).is_some() {
+        Some("each command has a line of its own")
+    } else {
+        None
+    }
+}
+
 /// Whether a word takes the address of a port first, and no name after it.
 fn takes_port(word: Word) -> bool {
     match word {
@@ -596,11 +610,8 @@ impl Line<'_, '_, '_> {
         if after.len() == count {
             return Ok(None);
         }
-        if word_of(after.get(count).copied().unwrap_or("")).is_some() {
-            return self.at(
-                first.saturating_add(count),
-                "each command has a line of its own",
-            );
+        if let Some(reason) = extra_reason(after.get(count).copied().unwrap_or("")) {
+            return self.at(first.saturating_add(count), reason);
         }
         let part = first.saturating_add(count.min(after.len()));
         let sentence = count_reason(self.alloc, word, after.len(), self.gains_target())?;
@@ -746,7 +757,7 @@ impl Line<'_, '_, '_> {
 
     /// What is wrong with a line that has a sign of C, or the name of a type.
     fn sign_reason(&self, plain: &str) -> Made<Option<&'static str>> {
-        if self.text.contains("->") || has_field(plain) {
+        if self.text.contains("->") || has_field(self.text.trim_end_matches(';')) {
             return Ok(Some(FIELDS));
         }
         if self.text.ends_with("{") || self.text.starts_with("}") {
@@ -804,6 +815,9 @@ impl Line<'_, '_, '_> {
         }
         if self.is_called(first) || self.meant.is_some() && is_operation(self.alloc, first)? {
             return Ok(Some(unknown_word_reason(self.alloc, first, self.meant)?));
+        }
+        if self.meant.is_some() && plain.contains('#') {
+            return Ok(Some(String::from_str(self.alloc, NUMBER_HASH)?));
         }
         if has_two_targets(parts) {
             let reason = "a line has one variable before its word";

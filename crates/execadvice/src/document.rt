@@ -176,7 +176,8 @@ fn other_text_reason(alloc: Global, line: &str) -> Made<Option<&'static str>> {
 fn begins_as_head(line: &str) -> bool {
     let inside = line.trim_start_matches('[').trim_start_matches('(');
     let first = inside.as_bytes().first().copied().unwrap_or(b' ');
-    inside.len() < line.len() && first.is_ascii_alphabetic() && !line.contains(',')
+    let is_whole = !line.contains(',') && !line.contains('\r');
+    inside.len() < line.len() && first.is_ascii_alphabetic() && is_whole
 }
 
 /// What is said of a line of another language.

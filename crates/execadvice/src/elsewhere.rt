@@ -395,17 +395,18 @@ fn place_in(
     }
 }
 
+/// What has the place of a name in capital letters that is another one in small letters.
+pub(crate) fn place_of_capitals(name: &str) -> Option<&'static str> {
+    match name {
+        "NEXT" => Some(LOOP_END),
+        "P" => Some("ObtainSemaphore s for a semaphore, or Print x to show a number"),
+        "V" => Some("ReleaseSemaphore s"),
+        _ => None,
+    }
+}
+
 /// What has the place of a name of another system or language, as text.
 pub(crate) fn place_elsewhere(name: &str) -> Option<&'static str> {
-    if name == "NEXT" {
-        return Some(LOOP_END);
-    }
-    if name == "P" {
-        return Some("ObtainSemaphore s for a semaphore, or Print x to show a number");
-    }
-    if name == "V" {
-        return Some("ReleaseSemaphore s");
-    }
     place_in(&CALLS, name, place_in(&LOCKS, name, row_of(&SIGNS, name)))
 }
 

@@ -1,6 +1,6 @@
 //! Names of other systems and of Exec's headers, with what has their place in a machine file.
 
-use crate::elsewhere::{lack_elsewhere, place_elsewhere, row_of};
+use crate::elsewhere::{lack_elsewhere, place_elsewhere, place_of_capitals, row_of};
 use crate::made::Made;
 use std::alloc::Global;
 
@@ -350,6 +350,10 @@ pub(crate) enum Instead {
 /// What has the place of a name of Exec, of another system or of another language, as text.
 pub(crate) fn place_of(name: &str) -> Option<&'static str> {
     let name = undotted(name);
+    let found = place_of_capitals(name);
+    if found.is_some() {
+        return found;
+    }
     match row_of(&NAMES, name) {
         Some(text) => Some(text),
         None => place_elsewhere(name),

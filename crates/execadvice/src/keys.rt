@@ -133,7 +133,7 @@ pub fn unknown_key_reason(alloc: Global, of: TablePlace, key: &str) -> Made<Stri
     match owners_of(key) {
         None => format!(in alloc; "unknown key {name} in this table; its keys are {list}"),
         Some(owners) => format!(in alloc;
-            "unknown key {name} in this table; its keys are {list}; {name} is one of {owners}"
+            "unknown key {name} in this table; its keys are {list}; {name} is a key of {owners}"
         ),
     }
 }

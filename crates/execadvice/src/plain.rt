@@ -96,11 +96,25 @@ fn before_mark<'a>(line: &'a str, mark: &str) -> &'a str {
     }
 }
 
+/// Whether a text begins as a number does, as it does after the `#` of an assembler.
+fn begins_as_number(text: &str) -> bool {
+    let first = text.as_bytes().first().copied().unwrap_or(b' ');
+    first.is_ascii_digit() || first == b'$' || first == b'%' || first == b'-'
+}
+
+/// What of a line is before a `#` that begins a comment.
+fn before_hash(line: &str) -> &str {
+    match line.split_once(" #") {
+        Some((before, after)) if !begins_as_number(after) => before,
+        _ => line,
+    }
+}
+
 /// What of a line is before a comment.
 fn before_comment(line: &str) -> &str {
     let line = before_mark(line, " //");
     let line = before_mark(line, " /*");
-    before_mark(before_mark(line, " ;"), " #")
+    before_hash(before_mark(line, " ;"))
 }
 
 /// A line without the number that BASIC has before it.
