@@ -186,6 +186,15 @@ fn event_of(alloc: Global, word: &str, argument: &str) -> Made<Option<String>> {
     }
 }
 
+/// Whether a text is an event text that is accepted.
+fn is_accepted(alloc: Global, text: &str) -> Made<bool> {
+    match read_events(alloc, text.as_bytes()) {
+        Ok(_) => Ok(true),
+        Err(EventFault::OutOfMemory) => Err(AllocError),
+        Err(_) => Ok(false),
+    }
+}
+
 /// The event that is meant by a line, if that can be told: a line that the reader of events accepts.
 fn event_meant(alloc: Global, line: &str) -> Made<Option<String>> {
     let plain = plain_event(alloc, line)?;
@@ -196,9 +205,13 @@ fn event_meant(alloc: Global, line: &str) -> Made<Option<String>> {
         Some((number, word)) if are_digits(number) => event_of(alloc, word, number)?,
         Some((word, argument)) => event_of(alloc, word, argument)?,
     };
-    match found {
-        Some(event) if read_events(alloc, event.as_str().as_bytes()).is_ok() => Ok(Some(event)),
-        _ => Ok(None),
+    let Some(event) = found else {
+        return Ok(None);
+    };
+    if is_accepted(alloc, event.as_str())? {
+        Ok(Some(event))
+    } else {
+        Ok(None)
     }
 }
 
