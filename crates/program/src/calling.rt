@@ -45,6 +45,20 @@ fn refuse_name<E: Write>(err: &mut E) -> u8
     COMMAND_LINE_REFUSED
 }
 
+/// Searches the ways of a run, or all states of a machine if a word of the command line asks for that.
+fn explore<R: Env + Files + Clock + AllocGlobal, W: Write + Drop, E: Write + IsTerminal>(
+    rt: &R,
+    out: W,
+    err: &mut E,
+) -> u8
+    ensures { result ≤ 5 }
+{
+    if everystate::asks_for_all(rt) {
+        return everystate::run_on_arguments(rt, out, err);
+    }
+    execexplore::run_on_arguments(rt, out, err)
+}
+
 /// Runs the command by whose name the program was called on the process's arguments, and answers the status with which it ends.
 ///
 /// Each command but `execsim`, whose command line is two paths, takes the word `--version` too.
@@ -55,7 +69,7 @@ pub fn run_as_called<
     W: Write + IsTerminal + Drop,
     E: Write + IsTerminal,
 >(rt: &R, mut out: W, err: &mut E) -> u8
-    ensures { result ≤ 4 }
+    ensures { result ≤ 5 }
 {
     let Some(command) = command_of(rt) else {
         return refuse_name(err);
@@ -66,7 +80,7 @@ pub fn run_as_called<
     match command {
         Command::Execsim => execrun::run_on_arguments(rt, out, err),
         Command::Execcheck => checker::run_on_arguments(rt, out, err),
-        Command::Execexplore => execexplore::run_on_arguments(rt, out, err),
+        Command::Execexplore => explore(rt, out, err),
         Command::Execlog => logger::run_on_arguments(rt, out, err),
     }
 }
