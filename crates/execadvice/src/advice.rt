@@ -1,7 +1,7 @@
 //! Why a line is not a command, in one sentence, with a proposal if one is near.
 
 use crate::assembler::is_operation;
-use crate::branches::{branch_meant, compares};
+use crate::branches::{branch_meant, compares, zero_reason};
 use crate::calculations::{Wordless, asks, is_operator, name_of_operator, without_word};
 use crate::escaped::shown_name;
 use crate::events::is_event;
@@ -58,6 +58,9 @@ const QUOTES: &str = "a line of code has one pair of quotes around it, those of 
 /// What is said of a list, or a structure, as a value.
 const ONE_NUMBER: &str = "a variable holds one number; there are no lists of numbers";
 
+/// What is said of a value that begins with the `*` of C.
+const NO_BASE: &str = "variables have no addresses, and the words of Exec need no base";
+
 /// What is said of `++` or `--` within a line.
 const STEP_WITHIN: &str = "a line does one thing: y = Add y 1 and then x = Set y";
 
@@ -75,6 +78,10 @@ const HASH: &str =
 
 /// What is said of a line of an event text.
 const EVENT: &str = "this is a line of an event text, which is the second path";
+
+/// What is said of a line of a trace.
+const TRACE: &str =
+    "this is a line of a trace, which execsim writes; a line of code has no name of a task before it";
 
 /// What is said of `#` before a number.
 const NUMBER_HASH: &str = "a number has no # before it";
@@ -103,6 +110,7 @@ fn has_two_targets(parts: &[&str]) -> bool {
 fn calculation_reason(after: &[&str]) -> Option<&'static str> {
     match after {
         [value, ..] if value.starts_with("[") || value.starts_with("{") => Some(ONE_NUMBER),
+        [value, ..] if value.starts_with("*") => Some(NO_BASE),
         [value] if value.starts_with("!") => Some(CHOICES),
         [value] if value.contains("++") || value.contains("--") => Some(STEP_WITHIN),
         [_, operator, ..] if asks(*operator) => Some(CHOICES),
@@ -135,6 +143,13 @@ fn has_field(line: &str) -> bool {
 fn begins_foreign(plain: &str) -> bool {
     let first = plain.split(' ').next().unwrap_or("");
     instead_of(first).is_some() && !first.eq_ignore_ascii_case("if")
+}
+
+/// Whether a line of code is one of a trace: it has an answer after an arrow, or it waits, or it is of a switch or of an
+/// interrupt that is served.
+fn is_copied_from_trace(line: &str) -> bool {
+    let is_other = line.starts_with("switch ") || line.starts_with("serve ");
+    line.contains(" -> $") || line.ends_with(" waits") || is_other && !line.contains('(')
 }
 
 /// Whether a part begins as a number or as a text does.
@@ -757,6 +772,9 @@ impl Line<'_, '_, '_> {
 
     /// What is wrong with a line that has a sign of C, or the name of a type.
     fn sign_reason(&self, plain: &str) -> Made<Option<&'static str>> {
+        if is_copied_from_trace(self.text) {
+            return Ok(Some(TRACE));
+        }
         if self.text.contains("->") || has_field(self.text.trim_end_matches(';')) {
             return Ok(Some(FIELDS));
         }
@@ -773,7 +791,7 @@ impl Line<'_, '_, '_> {
             return Ok(Some(QUOTES));
         }
         if self.meant.is_none() && compares(self.alloc, plain)? && !begins_foreign(plain) {
-            return Ok(Some(COMPARED));
+            return Ok(Some(zero_reason(plain).unwrap_or(COMPARED)));
         }
         let first = self.text.split(' ').next().unwrap_or("");
         Ok(if is_type(first) && self.text.contains(' ') {

@@ -1,5 +1,6 @@
 //! Branches of C and BASIC.
 
+use crate::foreign::number_of_constants;
 use crate::made::Made;
 use std::alloc::Global;
 use taskscript::fields_of;
@@ -49,6 +50,41 @@ pub(crate) fn branch_meant(alloc: Global, line: &str) -> Made<Option<String>> {
 pub(crate) fn compares(alloc: Global, line: &str) -> Made<bool> {
     let fields = fields_of(alloc, line)?;
     Ok(fields.iter().any(|field| is_comparison(*field)))
+}
+
+/// What has the place of a comparison with 0.
+const IS_ZERO: &str =
+    "whether a value is 0 is asked by JumpZ x LABEL, which goes on at the label if x is 0";
+
+const IS_NOT_ZERO: &str =
+    "whether a value is 0 is asked by JumpNZ x LABEL, which goes on at the label if x is not 0";
+
+/// Whether a part is 0, or a name of it.
+fn is_nothing(part: &str) -> bool {
+    part == "0" || number_of_constants(part) == Some(0)
+}
+
+/// Whether a line has that operator with 0 before it or after it.
+fn has_nothing_at(line: &str, operator: &str) -> bool {
+    match line.split_once(operator) {
+        None => false,
+        Some((before, after)) => {
+            let next = after.split(' ').next().unwrap_or("");
+            let (_, last) = before.rsplit_once(" ").unwrap_or(("", before));
+            is_nothing(next) || is_nothing(last)
+        }
+    }
+}
+
+/// What has the place of a comparison of a line with 0, if it has one.
+pub(crate) fn zero_reason(line: &str) -> Option<&'static str> {
+    if has_nothing_at(line, " == ") {
+        Some(IS_ZERO)
+    } else if has_nothing_at(line, " != ") || has_nothing_at(line, " <> ") {
+        Some(IS_NOT_ZERO)
+    } else {
+        None
+    }
 }
 
 /// Whether a part is an operator that compares.

@@ -254,8 +254,13 @@ fn fix_of_value(alloc: Global, line: &str, text: &str) -> Made<Option<Fix>> {
         let span = Span { start, width };
         return Ok(Some(Fix { span, text }));
     }
-    let (before, _) = line.split_once(value).unwrap_or((line, ""));
-    let (start, width) = (width_of(before), width_of(value));
+    // The value may also be a part of the key.
+    let (head, rest) = line.split_once("=").unwrap_or((line, ""));
+    let (gap, _) = rest.split_once(value).unwrap_or((rest, ""));
+    let start = width_of(head)
+        .saturating_add(1)
+        .saturating_add(width_of(gap));
+    let width = width_of(value);
     let span = Span { start, width };
     let text = String::from_str(alloc, text)?;
     Ok(Some(Fix { span, text }))
@@ -290,15 +295,29 @@ pub(crate) fn reason_of_bytes(bytes: &[u8]) -> &'static str {
     }
 }
 
-/// What is said of what is no document: what the reader of TOML says, at its place.
+/// A text without its byte order mark, and how many bytes the mark has: 0 if there is none.
+fn after_mark<'a>(text: &Text<'a>) -> (Text<'a>, usize) {
+    let alloc = text.alloc;
+    match text.bytes {
+        [0xEF, 0xBB, 0xBF, bytes @ ..] => (Text { alloc, bytes }, 3),
+        _ => (*text, 0),
+    }
+}
+
+/// What is said of what is no document: what the reader of TOML says, at its place. A byte order mark is no part of the
+/// first line.
 pub(crate) fn no_document(
     text: &Text<'_>,
     rule: &'static str,
     error: &toml::de::Error,
 ) -> Made<Diagnostic> {
+    let (text, mark) = after_mark(text);
     let (offset, end) = match error.span() {
         None => (0, 1),
-        Some(span) => (span.start, span.end),
+        Some(span) => (
+            span.start.saturating_sub(mark),
+            span.end.saturating_sub(mark),
+        ),
     };
     let before = text_or_nothing(text.bytes.get(..offset).unwrap_or(&[]));
     let at = FilePlace { line: 1, column: 1 }.after(before);

@@ -159,7 +159,7 @@ const LOCKS: [(&str, &str); 46] = [
 ];
 
 /// Names of other languages and of assemblers, each with what is written in their place.
-const SIGNS: [(&str, &str); 56] = [
+const SIGNS: [(&str, &str); 62] = [
     ("do", LOOP_END),
     ("until", LOOP_END),
     ("repeat", LOOP),
@@ -223,6 +223,12 @@ const SIGNS: [(&str, &str); 56] = [
     ("jne", "JumpNZ x LABEL"),
     ("jnz", "JumpNZ x LABEL"),
     ("JumpN", "JumpNZ x LABEL"),
+    ("JumpZero", "JumpZ x LABEL"),
+    ("JumpIfZero", "JumpZ x LABEL"),
+    ("BranchZ", "JumpZ x LABEL"),
+    ("JumpNotZero", "JumpNZ x LABEL"),
+    ("JumpIfNotZero", "JumpNZ x LABEL"),
+    ("BranchNZ", "JumpNZ x LABEL"),
     ("CALLEXEC", "the call by its name alone, as Forbid"),
     ("CALLSYS", "the call by its name alone, as Forbid"),
     ("LINKLIB", "the call by its name alone, as Forbid"),
@@ -260,10 +266,12 @@ const NO_CLASSES: &str = "there are no functions and no classes; a task is a [[t
 
 const NO_EXCEPTIONS: &str = "there are no exceptions; a call answers, and JumpZ x LABEL asks for 0";
 
+const KERNEL: &str = "the kernel does it itself, after a call or an interrupt";
+
 const NO_GRAPHICS: &str = "there is Exec alone, with timer.device";
 
 /// Names of calls of amiga.lib, of dos.library and of C whose place nothing has, each with the reason, or with what serves.
-const LACKED: [(&str, &str); 38] = [
+const LACKED: [(&str, &str); 41] = [
     (
         "Open",
         "there are no files; OpenLibrary and OpenDevice open a library and a device",
@@ -309,6 +317,9 @@ const LACKED: [(&str, &str); 38] = [
         "AddMemHandler",
         "there are no handlers of low memory; in version 2 libraries are expunged",
     ),
+    ("Dispatch", KERNEL),
+    ("Exception", KERNEL),
+    ("ExitIntr", KERNEL),
     ("RemTOF", "a server of a [[server]] table stays"),
     ("fopen", NO_FILES),
     ("fclose", NO_FILES),

@@ -18,8 +18,20 @@ use std::alloc::{AllocError, Global};
 use std::str::from_utf8;
 use taskscript::{EventFault, read_events};
 
-/// Why a number of turns is none. `short` is it without the zeros before it.
-fn number_reason_of(digits: &str, short: &str) -> &'static str {
+/// What is said of a carriage return within a line.
+const RETURN: &str = "lines end with a line feed, not with a carriage return alone";
+
+/// Why a number of turns of a line is too great.
+fn great_number_reason(line: &str) -> &'static str {
+    if line.starts_with("tick ") {
+        "a number is from 1 to 1000000; all ticks of a run together are 1000000 at most"
+    } else {
+        "a number is from 1 to 1000000; all steps of a run together are 1000000 at most"
+    }
+}
+
+/// Why a number of turns of a line is none. `short` is it without the zeros before it.
+fn number_reason_of(line: &str, digits: &str, short: &str) -> &'static str {
     if digits.is_empty() {
         "expected a number from 1 to 1000000 here"
     } else if !are_digits(digits) {
@@ -27,7 +39,7 @@ fn number_reason_of(digits: &str, short: &str) -> &'static str {
     } else if short.is_empty() {
         "0 asks for nothing: a number is from 1 to 1000000"
     } else {
-        "a number is from 1 to 1000000; write several lines"
+        great_number_reason(line)
     }
 }
 
@@ -44,7 +56,7 @@ fn number_advice(alloc: Global, line: &str, digits: &str) -> Made<Advice> {
     let reason = if !short.is_empty() && short.len() < digits.len() && are_digits(digits) {
         "a number has no zero before its digits"
     } else {
-        number_reason_of(digits, short)
+        number_reason_of(line, digits, short)
     };
     part_advice(alloc, line, 1, reason)
 }
@@ -228,10 +240,13 @@ fn is_event_word(word: &str) -> bool {
     word == "run" || word == "tick" || word == "irq"
 }
 
-/// Why a line with more than two parts is no event.
-fn rest_reason(rest: &str) -> &'static str {
+/// Why a line with more than two parts, of which the first is that word, is no event.
+fn rest_reason(word: &str, rest: &str) -> &'static str {
     let another = [" run ", " tick ", " irq "];
-    if another.iter().any(|event| rest.contains(*event)) {
+    let first = rest.as_bytes().first().copied().unwrap_or(b' ');
+    if word == "run" && first.is_ascii_alphabetic() {
+        "run takes its number alone: which task runs is not said here"
+    } else if another.iter().any(|event| rest.contains(*event)) {
         "each event has a line of its own"
     } else {
         "a line ends with its one argument"
@@ -251,7 +266,7 @@ fn parts_advice(alloc: Global, line: &str) -> Made<Advice> {
         return part_advice(alloc, line, 1, "a comment has a line of its own");
     }
     if rest.contains(" ") {
-        return part_advice(alloc, line, 2, rest_reason(rest));
+        return part_advice(alloc, line, 2, rest_reason(word, rest));
     }
     if word == "irq" {
         source_advice(alloc, line, rest)
@@ -281,6 +296,9 @@ fn event_advice(alloc: Global, line: &str) -> Made<Advice> {
     let mut shown = line.trim_end_matches('\r').chars();
     if let Some(start) = shown.position(|c| is_hidden(c) && c != '\t') {
         let mut advice = hidden_advice(alloc, line, start)?;
+        if line.chars().nth(start) == Some('\r') {
+            advice.reason = String::from_str(alloc, RETURN)?;
+        }
         advice.fix = fix_of_event(alloc, line, usize::MAX)?;
         return Ok(advice);
     }
