@@ -17,7 +17,7 @@ _execsim_names() {
 }
 
 # What execcheck may find, by name.
-_execsim_found='NotToml UnknownKey MissingKey BadValue NameTwice BadRegions BadCommand BadLabel NotInInterrupt TooMany BadLine HANDLE MASK VALUE MEM NEST
+_execsim_found='NotToml UnknownKey MissingKey BadValue NameTwice BadRegions BadCommand BadLabel NotInInterrupt TooMany BadLine TooLong OutOfMemory HANDLE MASK VALUE MEM NEST
 LINK PORT SEM LIB IO unset unused-variable unused-label unreachable never-added unknown-port unknown-task unknown-library no-memory waits
 lost-wakeup unread owner-gone deadlock busy ends-early late'
 
