@@ -1,6 +1,9 @@
 //! The command over any words and writers, and on the arguments of its process.
-ghost use Rattle.std.specs.Prelude.{◌≤◌, IfOk};
-ghost use Rattle.everystate.specs.Searched.{Reports};
+ghost use Rattle.std.specs.Prelude.{◌≡◌, ◌≢◌, ◌≤◌, ◌⊎◌, IfOk, OnOk};
+ghost use Rattle.std.specs.Io.KnownBytes.{Appends};
+ghost use Rattle.clap.specs.Walk.{texts as words_of};
+ghost use Rattle.execrun.specs.{CommandLine.AreRight, CommandLine.IsNoAnswer, Texts.nothing_told};
+ghost use Rattle.everystate.specs.{CommandLine.command_line, Searched.Reports, Written.WritesGiven, Written.WritesStates, Written.status_of};
 
 use crate::command_line::{Asked, asked_by, not_text_error};
 use crate::failure::{Failure, report};
@@ -40,18 +43,34 @@ fn name_in(path: &str) -> &str {
 
 /// The status of a report.
 fn status_of(report: &StateReport) -> u8
-    ensures { result ≤ 5 }
+    ensures status { result ≡ status_of report.now.is_closed report.now.alerts }
+    ensures within { result ≤ 5 }
 {
-    if !report.is_closed {
-        return NOT_CLOSED;
+    if report.is_closed {
+        if report.alerts == 0 { NO_ALERT } else { ALERTS }
+    } else {
+        NOT_CLOSED
     }
-    if report.alerts > 0 { ALERTS } else { NO_ALERT }
 }
 
 /// Writes a text, and flushes it.
-fn write_text<W: Write>(text: &[u8], out: &mut W) -> io::Result<()> {
+fn write_text<W: Write>(text: &[u8], out: &mut W) -> io::Result<()>
+    ensures { OnOk result (Appends (W.contents out.old) (W.contents out.new) text.now) }
+{
     out.write_all(text)?;
     out.flush()
+}
+
+/// Writes a report, and answers its status.
+fn write_report<'a, W: Write>(report: &StateReport, out: &mut W) -> Result<u8, Failure<'a>>
+    ensures takes { IfOk result (λ _. Appends (W.contents out.old) (W.contents out.new) report.now.text.items) }
+    ensures status { IfOk result (λ status. status ≡ status_of report.now.is_closed report.now.alerts) }
+    ensures within { IfOk result (λ status. status ≤ 5) }
+{
+    match write_text(&report.text, out) {
+        Err(_) => Err(Failure::WriteFailed),
+        Ok(()) => Ok(status_of(report)),
+    }
 }
 
 /// Makes the report of a text. It reports how far it is if that is asked for, or if `err` is a terminal.
@@ -79,7 +98,8 @@ fn write_states<'a, T: Texts, C: Clock, W: Write, E: Write + IsTerminal>(
     out: &mut W,
     err: &mut E,
 ) -> Result<u8, Failure<'a>>
-    ensures { IfOk result (λ status. status ≤ 5) }
+    ensures within { IfOk result (λ status. status ≤ 5) }
+    ensures writes { IfOk result (WritesStates (T.text_at texts.now) asked.entry.machine (W.contents out.old) (W.contents out.new)) }
 {
     let machine = asked.machine;
     let text = match read_text(texts, alloc, machine) {
@@ -90,10 +110,7 @@ fn write_states<'a, T: Texts, C: Clock, W: Write, E: Write + IsTerminal>(
         Ok(report) => report,
         Err(failure) => return Err(failure),
     };
-    match write_text(&report.text, out) {
-        Err(_) => Err(Failure::WriteFailed),
-        Ok(()) => Ok(status_of(&report)),
-    }
+    write_report(&report, out)
 }
 
 /// Writes the help, and flushes it.
@@ -104,7 +121,9 @@ fn write_help<W: Write>(error: &clap::Error, out: &mut W) -> io::Result<()> {
 
 /// Answers a command line that asks for nothing: the help, or why it is refused.
 fn answer_without_work<W: Write, E: Write>(error: &clap::Error, out: &mut W, err: &mut E) -> u8
-    ensures { result ≤ 5 }
+    ensures within { result ≤ 5 }
+    ensures no_answer { IsNoAnswer error.now → result ≢ 0 }
+    ensures no_alert { result ≢ 3 }
 {
     if error.kind() == ErrorKind::OutOfMemory {
         return report(&Failure::NoMemory, err);
@@ -132,7 +151,8 @@ pub fn run_on_texts<T: Texts, C: Clock, W: Write, E: Write + IsTerminal>(
     out: &mut W,
     err: &mut E,
 ) -> u8
-    ensures { result ≤ 5 }
+    ensures status { result ≤ 5 }
+    ensures searched { AreRight command_line (words_of words.now) → (result ≡ 0) ⊎ (result ≡ 3) → WritesGiven (T.text_at texts.now) (words_of words.now) (W.contents out.old) (W.contents out.new) result }
 {
     let asked = match asked_by(alloc, words) {
         Err(error) => return answer_without_work(&error, out, err),
@@ -154,7 +174,8 @@ pub fn run<R: Files + Clock, W: Write, E: Write + IsTerminal>(
     out: &mut W,
     err: &mut E,
 ) -> u8
-    ensures { result ≤ 5 }
+    ensures status { result ≤ 5 }
+    ensures searched { AreRight command_line (words_of words.now) → (result ≡ 0) ⊎ (result ≡ 3) → WritesGiven nothing_told (words_of words.now) (W.contents out.old) (W.contents out.new) result }
 {
     run_on_texts(&SystemTexts(rt), rt, alloc, words, out, err)
 }

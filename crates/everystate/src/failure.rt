@@ -1,5 +1,5 @@
 //! Why there is no report, what the command says of it, and the status that it ends with.
-ghost use Rattle.std.specs.Prelude.{◌≤◌};
+ghost use Rattle.std.specs.Prelude.{◌≢◌, ◌≤◌};
 
 use closure::Fault;
 use escape::Shown;
@@ -73,7 +73,9 @@ impl Failure<'_> {
     ///
     /// Source: project rule.
     pub fn status(&self) -> u8
-        ensures { result ≤ 5 }
+        ensures within { result ≤ 5 }
+        ensures no_report { result ≢ 0 }
+        ensures no_alert { result ≢ 3 }
     {
         match self {
             Failure::Machine(_) => 1,
@@ -129,7 +131,9 @@ impl fmt::Display for Failure<'_> {
 ///
 /// Source: project rule.
 pub fn report<E: Write>(failure: &Failure<'_>, err: &mut E) -> u8
-    ensures { result ≤ 5 }
+    ensures within { result ≤ 5 }
+    ensures no_report { result ≢ 0 }
+    ensures no_alert { result ≢ 3 }
 {
     let _ = writeln!(err, "execexplore: {failure}");
     failure.status()
