@@ -32,7 +32,7 @@ pub struct Searched {
     pub is_whole: bool,
 }
 
-/// A search under way: what was found, and the number of each state by its key.
+/// A search in progress: what was found, and the number of each state by its key.
 #[derive(Drop)]
 struct SoFar {
     alloc: Global,

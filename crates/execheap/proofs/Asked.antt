@@ -1,4 +1,4 @@
--- Libraries that are asked by number are expunged under low memory as those by address are.
+-- Libraries by number that are asked for memory do as those by address do.
 use Rattle.std.proofs.Common.{◌≡◌, ℕ, List, [], ◌∷◌, Bool, true, false, length, map, refl, ap, sym, ◌∙◌, subst, Some, None, Option, is_some, ◌&&◌, not, nat_eq, if◌then◌else◌, option_map}
 use Rattle.std.specs.List.{range_with_len}
 use Rattle.std.proofs.lemmas.List.{length-map}
@@ -117,7 +117,7 @@ module _ {s : Numbered} (kept : IsKept s) (sound : IsSound s.table) (formed : Is
 
 -- ---- before an object is made
 
--- objects by number once libraries were expunged under low memory for an object of a kind
+-- objects by number after libraries were asked for memory for an object of a kind
 abbrev pub readied : Kind → Numbered → Numbered
 readied kind s = record s { table = ready_for kind s.table }
 
@@ -161,7 +161,7 @@ module _ {s seen : Numbered} (view : s ≡ seen) (kept : IsKept s) (sound : IsSo
   place_made made is =
       ap address_of is ∙ sym (place_shown (readied kind s) ready.sound kind ready.stocked) ∙ ap (place_for_object (test_of kind) (size_of kind)) shown_ready
 
-  -- if none is made, libraries may have been expunged under low memory all the same
+  -- if none is made, libraries may have been asked for memory all the same
   module _ (t : Tabled) (is : t ≡ with_object kind None (ready_for kind s.table)) where
     pub kept_unmade : IsKept (record s { table = t })
     kept_unmade = subst IsKept (λ i. record s { table = sym is i }) ready.kept

@@ -1,4 +1,5 @@
--- A table stays sound if libraries are expunged under low memory: what becomes of the libraries and of the memory that is lent to them.
+-- A table stays sound if libraries are asked for memory: what becomes of the libraries and of the memory that is lent
+-- to them.
 use Rattle.std.proofs.Common.{◌≡◌, ℕ, ◌<◌, Bool, true, false, length, refl, ap, sym, ◌∙◌, subst, Some, None, Option, IfSome, if◌then◌else◌, slice_index_or, slice_set, option_map}
 use Rattle.memlist.specs.{Fit.fit, Memory.IsWellFormed, Memory.Memory, Memory.allocated}
 use Rattle.memlist.proofs.Keeping.{freed_well_formed}
@@ -65,7 +66,7 @@ module _ {t : Tabled} (sound : IsSound t) (formed : IsWellFormed t.memory.region
     settled_asked = settled_after size reqs (lent t.libs t.memory) (settled_now sound formed)
 
     module _ (place : Option ℕ) (is : place ≡ fit t.memory.regions asked.memory.blocks size reqs) where
-      -- a block is placed where it fits once libraries were expunged
+      -- a block is placed where it fits after libraries were asked for memory
       pub place_asked : place ≡ fit asked.memory.regions asked.memory.blocks size reqs
       place_asked = is ∙ ap (λ regions. fit regions asked.memory.blocks size reqs) (sym settled_asked.regions)
 
@@ -89,7 +90,7 @@ module _ {t : Tabled} (sound : IsSound t) (formed : IsWellFormed t.memory.region
         ∙ ap (λ o. object_at_next kind o (after_asking (size_of kind) 1 t)) next_is
         ∙ ap (λ o. next_object kind (ready_for_number kind o t)) next_is
 
-    -- if its block fits nowhere, libraries were expunged under low memory all the same
+    -- if its block fits nowhere, libraries were asked for memory all the same
     pub sound_unmade : (memory : Memory) (libs : Libraries) → libs ≡ (asked size 1).libraries → memory ≡ (asked size 1).memory
         → IsSound (record t { memory = memory; libs = libs })
     sound_unmade memory libs is_libs is_memory =

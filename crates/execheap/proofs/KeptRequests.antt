@@ -133,7 +133,7 @@ module _ {s : Numbered} (kept : IsKept s) where
 written_not : {way : Bool} (r : ℕ) (old : Pooled TimerRequest) → is_way_at r old ≡ way → IsWritten way r old old
 written_not r old is = record { same = refl; here = is; rest = λ k other. refl; port = λ k. refl }
 
--- a request that rests may be written
+-- a request that is idle may be written
 rests_free : (r : ℕ) (old : Pooled TimerRequest) → is_under_way (request_at r old) ≡ false → in_use_fault r old ≡ None
 rests_free r old rests = ap (λ b. if b then Some InUse else None) rests
 
@@ -179,7 +179,7 @@ module _ {s : Numbered} (sound : IsSound s) where
   under_way_loose held r m lives way is =
       ap (home s.ports.places) is ∙ held.apart (message_of_request r s) (kept.in_time.held r ∙ (λ i. lives i && way i))
 
-  -- it may be held if the request rests and its reply is in no port
+  -- it may be held if the request is idle and its reply is in no port
   pub request_loose : (r m : ℕ) → IsTrue (is_request r s.requests) → is_under_way (request_at r s.requests) ≡ false
       → home s.ports.places (message_of_request r s) ≡ None → m ≡ message_of_request r s → loose_fault m s.ports ≡ None
   request_loose r m lives rests loose is =

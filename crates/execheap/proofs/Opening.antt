@@ -1,4 +1,4 @@
--- Libraries are opened by number as they are by address, once others were expunged under low memory.
+-- Libraries are opened by number as they are by address, after others were asked for memory.
 use Rattle.std.proofs.Common.{◌≡◌, ℕ, List, refl, ap, sym, ◌∙◌, Some, None, Option, is_some, if◌then◌else◌, option_map}
 use Rattle.memlist.specs.Memory.{IsWellFormed}
 use Rattle.execlib.specs.{declared.library.Loaded.Loaded, Libraries.Lent, Libraries.lent, Libraries.library_to_open, Libraries.loaded_at, Libraries.opened_base}

@@ -140,9 +140,9 @@ pub record IsApt (ports : MessagePorts) (sems : Semaphores) (tasks : ℕ) : Type
   pub own_signals : (p : ℕ) → IsTrue (is_port p ports) → 16 ≤ (port_at p ports).bit
   pub each_task : length sems.places ≡ tasks
 
--- Each request has its message from the beginning on. Just a request that is in progress is held as a message and waits for the timer; one whose
--- reply is queued lives, and the port that has it is its reply port. The clock has room for the longest time of a request, and system time
--- is ahead of it by no more than such a time.
+-- Each request has its message from the beginning on. Exactly a request that is in progress is held as a message and
+-- waits for the timer; one whose reply is queued lives, and the port that has it is its reply port. The clock has room
+-- for the longest time of a request, and system time is ahead of it by no more than such a time.
 pub record IsInTime (s : Numbered) : Type 0 where
   pub each_message : length s.ports.messages.slots ≡ s.table.pool + s.table.pool
   pub each_time : s.timing.room ≡ s.table.pool

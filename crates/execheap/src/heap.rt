@@ -36,11 +36,11 @@ impl<S: ListSpace> Model for Heap<S> {
 }
 
 impl<S: ListSpace> Heap<S> {
-    /// The memory of these regions with nothing allocated, and these libraries, at most 32, none of them loaded, which are expunged under low memory
-    /// if memory is refused if `asks` says so. Of each kind as many objects may live as `pool` says, there are that many tasks, at most
-    /// 4,096, numbered from 0, for each of which there is room to wait for a semaphore, and clock and system time are at 0 and gain
-    /// `tick_micros` microseconds at each tick. An error means that memory of the host is lacking, or that `check_regions` refuses
-    /// the regions, which no machine file's are.
+    /// The memory of these regions with nothing allocated, and these libraries, at most 32, none of them loaded, which
+    /// are asked for memory when a block fits nowhere, if `asks` says so. Of each kind as many objects may live as
+    /// `pool` says, there are that many tasks, at most 4,096, numbered from 0, for each of which there is room to wait
+    /// for a semaphore, and clock and system time are at 0 and gain `tick_micros` microseconds at each tick. An error
+    /// means that the host refuses memory, or that `check_regions` refuses the regions, which no machine file's are.
     pub fn new(
         alloc: Global,
         regions: &[Region],
@@ -85,9 +85,11 @@ impl<S: ListSpace> Heap<S> {
 
     // ---- memory
 
-    /// Allocates a plain block of a size in bytes, which is rounded up to a multiple of 8, and answers its address: the front of the
-    /// lowest gap of the suitable region of greatest priority. If no gap is large enough and libraries are asked, they are expunged under low memory one after
-    /// another until one is. None if nothing fits then or the size is 0 (autodoc exec.library/AllocMem).
+    /// Allocates a plain block of a size in bytes, which is rounded up to a multiple of 8, and answers its address: the
+    /// front of the lowest gap of the suitable region of highest priority. If no gap is large enough and libraries are
+    /// asked for memory, they are asked one after another, in the order of the file, until one is: a library that is
+    /// not open is expunged, an open one is marked. None if nothing fits then or the size is 0 (autodoc
+    /// exec.library/AllocMem).
     pub fn alloc_mem(&mut self, size: u32, reqs: u32) -> Option<u32>
         ensures address { result ≡ place_for size reqs (after_asking size reqs self.old) }
         ensures next { self.new ≡ placed size Plain result (after_asking size reqs self.old) }

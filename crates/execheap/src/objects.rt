@@ -75,9 +75,9 @@ impl<S: ListSpace> Model for Objects<S> {
 }
 
 impl<S: ListSpace> Objects<S> {
-    /// Memory of these regions in which nothing is allocated, room for that many objects of each kind and for that many tasks to wait at
-    /// semaphores, these libraries, none of them loaded, which are expunged under low memory or not, and a clock at 0 that gains that many microseconds
-    /// at each tick.
+    /// Memory of these regions in which nothing is allocated, room for that many objects of each kind and for that many
+    /// tasks to wait at semaphores, these libraries, none of them loaded, which are asked for memory or not, and a
+    /// clock at 0 that gains that many microseconds at each tick.
     pub fn new(
         alloc: Global,
         regions: &[Region],
@@ -121,7 +121,7 @@ impl<S: ListSpace> Objects<S> {
 
     // ---- plain blocks
 
-    /// A plain block of that many bytes, if one fits once libraries were expunged under low memory: its address.
+    /// A plain block of that many bytes, if one fits, at once or after libraries were asked for memory: its address.
     ///
     /// Source: autodoc exec.library/AllocMem; when libraries are asked: project rule.
     pub fn allocate(&mut self, size: u32, reqs: u32) -> Option<u32>

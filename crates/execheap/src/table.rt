@@ -38,8 +38,8 @@ impl<S: ListSpace> Model for Table<S> {
 }
 
 impl<S: ListSpace> Table<S> {
-    /// Memory of these regions in which nothing is allocated, room for that many objects of each kind, and these libraries, none of them loaded,
-    /// which are expunged under low memory or not.
+    /// Memory of these regions in which nothing is allocated, room for that many objects of each kind, and these
+    /// libraries, none of them loaded, which are asked for memory or not.
     pub fn new(
         alloc: Global,
         regions: &[Region],
@@ -62,7 +62,8 @@ impl<S: ListSpace> Table<S> {
         })
     }
 
-    /// Frees all, as `new` makes it: nothing is allocated, no object lives, and no library is loaded; libraries are expunged under low memory or not.
+    /// Frees all, as `new` makes it: nothing is allocated, no object lives, and no library is loaded; libraries are
+    /// asked for memory or not.
     ///
     /// Source: project rule.
     pub fn reset(&mut self, asks: bool)
@@ -106,7 +107,7 @@ impl<S: ListSpace> Table<S> {
 
     // ---- plain blocks
 
-    /// A plain block of that many bytes, if one fits once libraries were expunged under low memory.
+    /// A plain block of that many bytes, if one fits, at once or after libraries were asked for memory.
     ///
     /// Source: autodoc exec.library/AllocMem; when libraries are asked: project rule.
     pub fn allocate(&mut self, size: u32, reqs: u32) -> Option<u32>
@@ -180,8 +181,8 @@ impl<S: ListSpace> Table<S> {
         self.pools[kind.code()].get(number)
     }
 
-    /// A new object of a kind, if the pool has one left and its block fits once libraries were expunged under low memory: its number and its
-    /// address. Nothing is asked if the pool has none left.
+    /// A new object of a kind, if the pool has one left and its block fits, at once or after libraries were asked for
+    /// memory: its number and its address. Nothing is asked if the pool has none left.
     pub fn make(&mut self, kind: Kind) -> Option<(usize, u32)>
         ensures answer { result ≡ next_object kind (ready_for kind self.old) }
         ensures next { self.new ≡ with_object kind result (ready_for kind self.old) }
@@ -263,8 +264,9 @@ impl<S: ListSpace> Table<S> {
         self.libs.count(i)
     }
 
-    /// Opens the library of a name that has at least a version, loading it first if it is absent, and answers its base; none if there
-    /// is none such, or it can be opened no more, or its block fits nowhere once others were expunged under low memory.
+    /// Opens the library of a name that has at least a version, loading it first if it is absent, and answers its base;
+    /// none if there is none such, or it can be opened no more, or its block fits nowhere, even after others were asked
+    /// for memory.
     ///
     /// Source: autodoc exec.library/OpenLibrary.
     pub fn open_library(&mut self, name: &str, version: u32) -> Option<u32>

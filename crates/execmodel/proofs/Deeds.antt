@@ -17,7 +17,8 @@ unless_same : (alert : Option Alert) (t : ℕ) (call : Call) (f g : State → Ou
 unless_same None t call f g s e = e
 unless_same (Some code) t call f g s e = refl
 
--- to take memory for an object is such a value: it is taken once libraries were asked, which changes the blocks alone
+-- to take memory for an object is such a value: it is taken after libraries were asked for memory, which changes the
+-- blocks alone
 pub allotting : (alert : Option Alert) (asked : Memory → Memory) (place : Memory → Option ℕ) (size : ℕ) (object : Object) (t : ℕ) (call : Call) (s : State)
     → without_blocks (asked s.memory) ≡ without_blocks s.memory
     → performs (allots alert asked place size object) t call s

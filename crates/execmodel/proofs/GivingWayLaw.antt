@@ -1,4 +1,4 @@
--- Libraries are expunged under low memory as far as a block needs it, and only those that are not open go.
+-- Libraries are asked for memory as far as a block needs it, and only those that are not open are expunged.
 use Rattle.std.proofs.Common.{inl, inr, ◌≡◌, ◌≢◌, ℕ, zero, suc, ◌+◌, ◌<◌, ◌≤◌, Bool, true, false, List, [], ◌∷◌, Option, None, Some, refl, sym, ap, ◌∙◌, subst, arith, not, ◌&&◌, if◌then◌else◌, nat_eq, is_some, length, option_map}
 use Rattle.std.specs.List.{range_with_len}
 use Rattle.memlist.specs.{declared.region.Region.Region, Memory.IsWellFormed}

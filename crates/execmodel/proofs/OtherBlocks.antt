@@ -42,7 +42,7 @@ placed_leaves kind regions size reqs length address object a heap is formed fits
     ))
     (λ apart. inl (block_placed_there a address _ heap apart))
 
--- ---- the memory once libraries were asked
+-- ---- the memory after libraries were asked
 
 formed_before : (regions : List Region) (new : Heap)
     → HoldsBefore regions (λ heap. IsWellFormed regions (extents heap) → IsWellFormed regions (extents new))
@@ -86,7 +86,7 @@ once_asked : (kind : Object → Bool) (a : ℕ) (old mid new : Heap) → block_a
 once_asked kind a old mid new same (inl e) = inl (e ∙ same)
 once_asked kind a old mid new same (inr (none, is)) = inr (sym same ∙ none, is)
 
--- an object takes memory once libraries were asked
+-- an object takes memory after libraries were asked
 pub allotted_leaves : (kind : Object → Bool) (size reqs : ℕ) (object : Object) (place : Option ℕ) (a : ℕ) (memory asked : Memory) → IsAsked a memory asked
     → kind object ≡ true → place_for size reqs asked ≡ place → Becomes kind a memory.heap (placed size object place asked).heap
 allotted_leaves kind size reqs object None a memory asked is of_kind fits = inl is.same
@@ -115,7 +115,7 @@ module _ (s : State) (tidy : IsTidy s) (a : ℕ) (none : is_library_at a s.memor
   either_leaves kind true o p one other = one
   either_leaves kind false o p one other = other
 
-  -- an object is made once libraries were asked, if the pool allows one more
+  -- an object is made after libraries were asked, if the pool allows one more
   either_asked : (test : Bool) (m : Memory) → IsAsked a s.memory m → IsAsked a s.memory (if test then m else s.memory)
   either_asked true m asked = asked
   either_asked false m asked = record { regions = refl; formed = tidy.formed; same = refl }

@@ -1,5 +1,5 @@
--- What a call that takes memory makes of the blocks: libraries are expunged under low memory, one after another, and then an object is placed, or an opening of a
--- library is counted, or nothing.
+-- What a call that takes memory makes of the blocks: libraries are asked for memory, one after another, and then an
+-- object is placed, or an opening of a library is counted, or nothing.
 use Rattle.std.proofs.Common.{◌⊎◌, inl, ◌≡◌, ℕ, ◌≤◌, Bool, true, false, List, [], ◌∷◌, Option, None, Some, refl, sym, ap, ◌∙◌, subst, arith, not, ◌&&◌, if◌then◌else◌, nat_eq, is_some, length, nat_cmp}
 use Rattle.std.specs.{List.range_with_len, FinMap.put as put_entry}
 use Rattle.memlist.specs.{declared.region.Region.Region, Fit.fit, Fit.round, Memory.IsWellFormed}
@@ -39,7 +39,7 @@ pub record IsTaking (may_count : Bool) (s : State) (o : Outcome) : Type 0 where
   pub silent : o.marks ≡ []
   pub blocks : Takes s.memory.asks may_count s.memory.regions s.memory.heap o.state.memory.heap
 
--- ---- libraries are expunged under low memory
+-- ---- libraries are asked for memory
 
 pub number_is : (n k : ℕ) → nat_eq n k ≡ true → n ≡ k
 number_is n k e = cases_eq n k (λ same. same) (λ apart. true_is_not_false (sym e ∙ nat_eq-other n k apart))
@@ -106,7 +106,7 @@ takes_before asks may_count regions new asked = record {
   freeing = λ base heap there none rest. yields base there none asked rest;
 }
 
--- ---- what a call takes once libraries were asked, it takes
+-- ---- what a call takes after libraries were asked, it takes
 
 once_asked : {may_count : Bool} (asked : Memory) (s : State) (o : Outcome) → without_blocks asked ≡ without_blocks s.memory
     → (Takes s.memory.asks may_count s.memory.regions asked.heap o.state.memory.heap → Takes s.memory.asks may_count s.memory.regions s.memory.heap o.state.memory.heap)

@@ -43,8 +43,8 @@ abbrev pub frees_block : (Heap → Option Alert) → ℕ → Deed
 frees_block alert address =
     record { alert = λ memory. alert memory.heap; heap = λ memory. (freed address memory).heap; answer = λ memory. None }
 
--- Libraries are expunged under low memory, and then an object gets a block of that many bytes, if there is a place for
--- it. The block's address is returned, or 0 if there is no place.
+-- Libraries are asked for memory, and then an object gets a block of that many bytes, if there is a place for it. The
+-- block's address is returned, or 0 if there is no place.
 abbrev pub allots : Option Alert → (asked : Memory → Memory) → (place : Memory → Option ℕ) → ℕ → Object → Deed
 allots alert asked place size object = record {
   alert = λ memory. alert;

@@ -177,8 +177,8 @@ EachStateIsSettled = InEveryState (λ s. s.stopped ≡ false → IsSettled s)
 abbrev pub candidates : Schedule → List ℕ
 candidates s = s.queue.ready ++ (elim s.running as (λ x. List ℕ) [ None ↦ [] | Some r ↦ r ∷ [] ])
 
--- A switch to a task is to the earliest among those of greatest priority, of the ready tasks and the one that ran until then, which comes
--- last; and a task that runs leaves for one of its own priority only if its quantum has ended.
+-- A switch to a task is to the earliest among those of highest priority, of the ready tasks and the one that ran until
+-- then, which comes last; and a task that runs leaves for one of its own priority only if its quantum has ended.
 abbrev pub SwitchesGoToTheChosen : Type 0
 SwitchesGoToTheChosen =
     (s : State) (name : List ℕ) → (switches s).lines ≡ Switch name ∷ []
@@ -307,7 +307,7 @@ LibrariesHaveOneBase =
 
 -- ---- versions of the rules
 
--- In every state libraries are expunged under low memory just in version 2 of the rules.
+-- In every state libraries are asked for memory exactly in version 2 of the rules.
 abbrev pub LibrariesAreAskedInVersionTwo : Type 0
 LibrariesAreAskedInVersionTwo =
     (machine : MachineData) (list : List Event) → IsMachine machine → (run machine list).state.memory.asks ≡ nat_eq machine.version 2
@@ -319,7 +319,7 @@ pub record UnaskedMemoryStays : Type 0 where
   pub for_a_port : (bit : Option ℕ) (memory : Memory) → memory.asks ≡ false → after_asking_for_port bit memory ≡ memory
   pub for_a_library : (found : Option ℕ) (memory : Memory) → memory.asks ≡ false → ready_to_open found memory ≡ memory
 
--- In any version, asking libraries to be expunged under low memory changes the blocks alone; and nothing, if the block has a place already.
+-- In any version, asking libraries for memory changes the blocks alone; and nothing, if the block has a place already.
 pub record AskingChangesTheBlocks : Type 0 where
   pub for_a_block : (size reqs : ℕ) (memory : Memory) → without_blocks (after_asking size reqs memory) ≡ without_blocks memory
   pub for_an_object : (kind : Object → Bool) (size : ℕ) (memory : Memory)
@@ -327,15 +327,15 @@ pub record AskingChangesTheBlocks : Type 0 where
   pub for_a_library : (found : Option ℕ) (memory : Memory) → without_blocks (ready_to_open found memory) ≡ without_blocks memory
   pub where_it_fits : (size reqs : ℕ) (memory : Memory) → is_some (place_for size reqs memory) ≡ true → after_asking size reqs memory ≡ memory
 
--- ---- libraries are expunged under low memory
+-- ---- libraries are asked for memory
 
--- the first that many libraries of the file were expunged under low memory, one after another
+-- the first libraries of the file, that many, were asked for memory, one after another
 abbrev pub first_gave_way : ℕ → Memory → Memory
 first_gave_way zero memory = memory
 first_gave_way (suc k) memory = gives_way k (first_gave_way k memory)
 
--- A block of that many bytes was asked for: the first that many libraries of the file were expunged under low memory, no fewer were enough for the block, and after that
--- it has a place, or all of them were expunged under low memory.
+-- A block of that many bytes was asked for: the first libraries of the file, that many, were asked for memory, no fewer
+-- were enough for the block, and after that it has a place, or all of them were asked for memory.
 pub record AsksAsFarAsNeeded (size reqs : ℕ) (memory asked : Memory) : Type 0 where
   pub count : ℕ
   pub first : asked ≡ first_gave_way count memory
@@ -343,7 +343,7 @@ pub record AsksAsFarAsNeeded (size reqs : ℕ) (memory asked : Memory) : Type 0 
   pub enough : (is_some (place_for size reqs asked) ≡ true) ⊎ (count ≡ length memory.libraries)
   pub within : count ≤ length memory.libraries
 
--- Libraries are expunged under low memory as far as a block needs it, and no further.
+-- Libraries are asked for memory as far as a block needs it, and no further.
 abbrev pub LibrariesGiveWayAsFarAsNeeded : Type 0
 LibrariesGiveWayAsFarAsNeeded =
     (size reqs : ℕ) (memory : Memory) → memory.asks ≡ true → size ≢ 0 → AsksAsFarAsNeeded size reqs memory (after_asking size reqs memory)

@@ -67,9 +67,9 @@ avail_alert reqs = if not (can_be_asked reqs) then Some an_alert.Value else None
 -- what a call on memory does: the alert that refuses it, how it changes the blocks, and what it returns
 unfoldable pub memory_deed : MemoryWord → Call → Deed
 -- AllocMem size reqs: returns the address of a new plain block, or 0 if there is no place for it or the size is 0. It
--- is placed in a suitable region with room for it, the earliest of greatest priority, at the front of the lowest gap
--- that is large enough. If no region has room, libraries are first expunged under low memory, in version 2 of the rules
--- (autodoc exec.library/AllocMem; size 0, the order of asking, and the alert: project rule).
+-- is placed in a suitable region with room for it, the earliest of highest priority, at the front of the lowest gap
+-- that is large enough. If no region has room, libraries are first asked for memory, in version 2 of the rules (autodoc
+-- exec.library/AllocMem; size 0, the order of asking, and the alert: project rule).
 memory_deed word.AllocMem call =
     let size = argument 0 call in
     let reqs = argument 1 call in

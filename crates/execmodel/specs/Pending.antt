@@ -1,5 +1,5 @@
 -- Pending interrupts (RKM Libraries, Exec Interrupts). The abstract machine keeps the software interrupts that are
--- caused in order of arrival, and never sorts them: the one that runs next is the earliest among those of greatest
+-- caused in order of arrival, and never sorts them: the one that runs next is the earliest among those of highest
 -- priority. How one arrives, and which is next, is defined for either discipline of a queue. A source asks to be served
 -- by its latch: more requests before it is served change nothing.
 use Rattle.std.specs.Prelude.{ℕ, ℤ, Bool, not, ◌&&◌, ◌==◌, if◌then◌else◌, nat_lt, bytes_eq, length, map, List, Option, None}
@@ -50,7 +50,7 @@ caused_no_more i pending = record pending { caused = without i pending.caused }
 abbrev pub softint_next : Discipline → List SoftintData → Schedule → Pending → Option ℕ
 softint_next d softints schedule pending = if allows_interrupts schedule then d.choice (softint_pri softints) pending.caused else None
 
--- the software interrupt that runs next, if interrupts are allowed and one is caused: of those of greatest priority the
+-- the software interrupt that runs next, if interrupts are allowed and one is caused: of those of highest priority the
 -- one that was caused first (RKM Libraries, Exec Interrupts: software interrupts)
 unfoldable pub next_softint : State → Option ℕ
 next_softint s = softint_next by_arrival s.bodies.softints s.schedule s.pending

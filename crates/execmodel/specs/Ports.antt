@@ -1,6 +1,6 @@
 -- Message ports and messages (RKM Libraries, Exec Messages and Ports). A port has a sequence of messages in order of
 -- arrival; a message is in one port at most, once. The public ports are a sequence in order of arrival; the one of a
--- name is the earliest among those of greatest priority that have it. An address at which no object of the kind begins
+-- name is the earliest among those of highest priority that have it. An address at which no object of the kind begins
 -- is the alert HANDLE; a message that is in a port where it must be in none, or a port that is public where it must not
 -- be, or is not public where it must be, is the alert LINK; a port that is in use, or that does not signal the caller,
 -- is the alert PORT (project rule).
@@ -138,7 +138,7 @@ abbrev pub port_or_none : Option PublicPort → ℕ
 port_or_none None = 0
 port_or_none (Some public) = public.port
 
--- the public port of a name: the earliest among those of greatest priority that have it, or 0 if none has (autodoc
+-- the public port of a name: the earliest among those of highest priority that have it, or 0 if none has (autodoc
 -- FindPort)
 unfoldable pub found_port : List ℕ → Memory → ℕ
 found_port name memory = port_or_none (chosen priority_of_public (filter (is_called name) memory.public))
@@ -162,8 +162,8 @@ port_created t call (Some bit) (Some address) s =
     answered t call address
     (on_schedule (allocates t (negsuc 0)) (on_memory (placed port_size (MsgPort (new_port t bit) []) (Some address)) s))
 
--- the memory after libraries were expunged under low memory for a port; if there is no signal for the port, none is
--- expunged (project rule)
+-- the memory after libraries were asked for memory for a port; if there is no signal for the port, none is asked
+-- (project rule)
 abbrev pub after_asking_for_port : Option ℕ → Memory → Memory
 after_asking_for_port None memory = memory
 after_asking_for_port (Some bit) memory = after_asking_for_object is_port port_size memory

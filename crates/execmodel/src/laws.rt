@@ -17,19 +17,21 @@ pub fn an_alert_ends_all()
         → andthen first (unless_stopped next) s ≡ first s }
 {}
 
-/// The words of a group change their part of the state, and leave all else as it is. Of what the tasks execute each word changes the shared
-/// variables and the caller's progress alone (its place, its variables and the call that it waits in), and plain words change nothing else. Words
-/// of signals change signals and which tasks are ready, running or waiting; words of nesting the nestings; words of lists, memory and libraries
-/// the blocks of memory and the objects in them; words of ports these, which ports are public, signals, which tasks are ready, running or waiting,
-/// and which software interrupts are caused; words of semaphores the objects and which tasks are ready, running or waiting, words of tasks these
-/// and the priorities, and words of interrupts which software interrupts are caused; words of requests the objects, which requests wait for the
-/// timer, system time, signals, which tasks are ready, running or waiting, and which software interrupts are caused, but neither the clock nor
-/// which ports are public. An alert stops the machine.
-/// Of the blocks, in every state of every run, the words of a group leave each as it is whose object is of another kind, but for libraries that are
-/// expunged under low memory: words of libraries each that is no library's, words of lists each that holds neither a list nor a node, words of
-/// memory each that holds no plain block, words of ports each that holds neither a port nor a message, words of semaphores each that holds no
-/// semaphore, and words of requests, with what finishes if one sets system time, each that holds neither a request nor a port. Words of tasks leave
-/// all blocks, libraries too, and place none: of a semaphore they change only which tasks wait for it.
+/// The words of a group change their part of the state, and leave all else as it is. Of what the tasks execute each
+/// word changes the shared variables and the caller's progress alone (its place, its variables and the call that it
+/// waits in), and plain words change nothing else. Words of signals change signals and which tasks are ready, running
+/// or waiting; words of nesting the nestings; words of lists, memory and libraries the blocks of memory and the objects
+/// in them; words of ports these, which ports are public, signals, which tasks are ready, running or waiting, and which
+/// software interrupts are caused; words of semaphores the objects and which tasks are ready, running or waiting, words
+/// of tasks these and the priorities, and words of interrupts which software interrupts are caused; words of requests
+/// the objects, which requests wait for the timer, system time, signals, which tasks are ready, running or waiting, and
+/// which software interrupts are caused, but neither the clock nor which ports are public. An alert stops the machine.
+/// Of the blocks, in every state of every run, the words of a group leave each as it is whose object is of another
+/// kind, but for libraries that are asked for memory: words of libraries each that is no library's, words of lists each
+/// that holds neither a list nor a node, words of memory each that holds no plain block, words of ports each that holds
+/// neither a port nor a message, words of semaphores each that holds no semaphore, and words of requests, with what
+/// finishes if one sets system time, each that holds neither a request nor a port. Words of tasks leave all blocks,
+/// libraries too, and place none: of a semaphore they change only which tasks wait for it.
 #[tactic(auto, using(crate::proofs::Words::plain_words_change_scripts, crate::proofs::Words::signal_words_change_signals_and_states, crate::proofs::Words::nesting_words_change_nestings, crate::proofs::Words::task_words_change_states_priorities_and_objects, crate::proofs::Words::list_words_change_the_memory, crate::proofs::Words::memory_words_change_the_memory, crate::proofs::Words::port_words_change_ports_signals_and_states, crate::proofs::Words::semaphore_words_change_states_and_objects, crate::proofs::Words::interrupt_words_change_what_is_caused, crate::proofs::Words::library_words_change_the_memory, crate::proofs::Words::request_words_change_requests_ports_signals_and_states, crate::proofs::OtherLists::list_words_leave_other_blocks, crate::proofs::OtherBlocks::library_words_leave_other_blocks, crate::proofs::OtherBlocks::memory_words_leave_other_blocks, crate::proofs::OtherPorts::port_words_leave_other_blocks, crate::proofs::OtherRequests::request_words_leave_other_blocks, crate::proofs::OtherSemaphores::semaphore_words_leave_other_blocks, crate::proofs::OtherTasks::task_words_leave_other_blocks))]
 pub fn each_group_keeps_to_its_part()
     ensures plain { PlainWordsChangeScripts }
@@ -93,11 +95,11 @@ pub fn agreement()
     ensures { QueuesAgreeWithTheSchedule }
 {}
 
-/// After the start and after each step, tick and request of every run, unless an alert stopped the machine: if no task runs none is ready; if
-/// switching is allowed no ready task has a higher priority than the running one; and a request is left only if interrupts are not
-/// allowed. A switch to a task is to the earliest among those of greatest priority, of the ready tasks and the one that ran until then,
-/// which comes last; and a task that runs leaves for one of its own priority only if its quantum has ended. Nothing else says that a
-/// switch is made.
+/// After the start and after each step, tick and request of every run, unless an alert stopped the machine: if no task
+/// runs none is ready; if switching is allowed no ready task has a higher priority than the running one; and a request
+/// is left only if interrupts are not allowed. A switch to a task is to the earliest among those of highest priority,
+/// of the ready tasks and the one that ran until then, which comes last; and a task that runs leaves for one of its own
+/// priority only if its quantum has ended. Nothing else says that a switch is made.
 ///
 /// Source: RKM Libraries, Exec Tasks: task scheduling.
 #[tactic(auto, using(crate::proofs::Settled::each_state_is_settled, crate::proofs::Switching::switches_go_to_the_chosen, crate::proofs::Saying::only_switches_say_so))]
@@ -153,13 +155,14 @@ pub fn libraries_have_one_base()
     ensures { LibrariesHaveOneBase }
 {}
 
-/// In version 1 of the rules no library is expunged under low memory. In every state of every run libraries are asked exactly if the machine is of
-/// version 2. If they are not, what asks them before a word takes memory changes nothing, and each word that takes memory takes it as it is: one
-/// equation for each of these words, in every state of a run of version 1. And whatever a step, a tick or a request does, a loaded library stays as
-/// it is, open or not: at its base, in its block, as often open, and to be expunged or not, unless the running task in this step opens, closes or
-/// removes that library; then it is open once more, once less or as often, or is expunged: removed while it is not open, or closed for the last
-/// time when it was to be expunged then. In any version asking changes the blocks and the objects in them alone, and nothing if the block has a
-/// place already.
+/// In version 1 of the rules no library is asked for memory. In every state of every run libraries are asked exactly if
+/// the machine is of version 2. If they are not, what asks them before a word takes memory changes nothing, and each
+/// word that takes memory takes it as it is: one equation for each of these words, in every state of a run of version
+/// 1. And whatever a step, a tick or a request does, a loaded library stays as it is, open or not: at its base, in its
+/// block, as often open, and to be expunged or not, unless the running task in this step opens, closes or removes that
+/// library; then it is open once more, once less or as often, or is expunged: removed while it is not open, or closed
+/// for the last time when it was to be expunged then. In any version asking changes the blocks and the objects in them
+/// alone, and nothing if the block has a place already.
 #[tactic(auto, using(crate::proofs::Versions::libraries_are_asked_in_version_two, crate::proofs::Versions::unasked_memory_stays, crate::proofs::UnaskedLibraries::unasked_libraries_stay, crate::proofs::Versions::asking_changes_the_blocks))]
 pub fn version_one()
     ensures asked { LibrariesAreAskedInVersionTwo }
@@ -170,10 +173,11 @@ pub fn version_one()
     ensures beside { AskingChangesTheBlocks }
 {}
 
-/// Libraries are expunged under low memory as far as a block needs it, and no further: if libraries are asked for a block, the first that many of the file are expunged under low memory,
-/// one after another, no fewer would have been enough, and after that the block has a place, or all of them were expunged under low memory. In every state of every
-/// run, asking frees no block but those of libraries that are not open: what is no library stays as it is, and an open library stays at its
-/// base, in its block and as often open.
+/// Libraries are asked for memory as far as a block needs it, and no further: if libraries are asked for a block, the
+/// first ones of the file are asked for memory, one after another, no fewer would have been enough, and after that the
+/// block has a place, or all of them were asked for memory. In every state of every run, asking frees no block but
+/// those of libraries that are not open: what is no library stays as it is, and an open library stays at its base, in
+/// its block and as often open.
 ///
 /// Source: autodoc exec.library/AllocMem; the order of asking: project rule.
 #[tactic(auto, using(crate::proofs::GivingWayLaw::libraries_give_way_as_far_as_needed, crate::proofs::GivingWayLaw::only_closed_libraries_give_way))]

@@ -63,7 +63,7 @@ pub fn sizes_round_up()
     ensures { SizesRoundUp }
 {}
 
-/// Of the regions with the attributes asked for, the one of greatest priority gives the memory.
+/// Of the regions with the attributes asked for, the one of highest priority gives the memory.
 pub fn suitable_regions_are_tried_by_priority()
     ensures { SuitableRegionsAreTriedByPriority }
 {}
@@ -90,7 +90,8 @@ pub fn messages_are_taken_in_order_of_arrival()
     ensures marks { MarksTellWhatCameAndWhatWasTaken }
 {}
 
-/// Of the public ports of a name that of greatest priority is found; taking out one that is not public is the alert LINK.
+/// Of the public ports of a name that of highest priority is found; taking out one that is not public is the alert
+/// LINK.
 pub fn the_public_port_of_greatest_priority_is_found()
     ensures { ThePublicPortOfGreatestPriorityIsFound }
 {}
@@ -131,8 +132,8 @@ pub fn a_softint_may_cause_itself_again()
     ensures { ASoftintMayCauseItselfAgain }
 {}
 
-/// Software interrupts run one a step, the earliest caused among those of greatest priority first; causing one that is caused already does
-/// nothing.
+/// Software interrupts run one a step, the earliest caused among those of highest priority first; causing one that is
+/// caused already does nothing.
 pub fn softints_run_one_a_step_by_priority()
     ensures { SoftintsRunOneAStepByPriority }
 {}
@@ -179,8 +180,8 @@ pub fn libraries_give_way()
     ensures one { NoLibraryGivesWayInVersionOne }
 {}
 
-/// An open library that was expunged under low memory is expunged at its last close, also if the block found no place after all. In version 1 it
-/// stays.
+/// An open library that was asked for memory, and so marked, is expunged at its last close, also if the block found no
+/// place after all. In version 1 it stays.
 pub fn what_was_marked_in_vain_stays_so()
     ensures two { WhatWasMarkedInVainStaysSo }
     ensures one { NothingIsMarkedInVersionOne }

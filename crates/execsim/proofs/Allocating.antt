@@ -36,7 +36,7 @@ module _ {H : Hearing} {m n : Seen} {a b : H.Told} (t : ℕ) (call : Call) where
       (follows_change (moves_memory (placed size Plain place) (placed size Plain place) (placed-in_order size Plain place) is) follows)
 
 module _ {H : Hearing} {m n o : Seen} {a b : H.Told} (t : ℕ) (call : Call) where
-  -- libraries are expunged under low memory, and then the block is taken
+  -- libraries are asked for memory, and then the block is taken
   pub alloc_tried : (place : Option ℕ) → has_only alloc_bits (argument 1 call) ≡ true
       → place ≡ place_for (argument 0 call) (argument 1 call) (after_asking (argument 0 call) (argument 1 call) m.memory)
       → n ≡ record m { memory = placed (argument 0 call) Plain place (after_asking (argument 0 call) (argument 1 call) m.memory) }

@@ -1,4 +1,5 @@
--- How the machine follows if libraries are expunged under low memory to a block: the order of the public ports is of no account.
+-- How the machine follows if libraries are asked for memory for a block: the order of the public ports is of no
+-- account.
 use Rattle.std.proofs.Common.{◌≡◌, ℕ, Bool, true, false, cond, List, [], ◌∷◌, Option, None, Some, refl, ap, ◌∙◌, ◌&&◌, is_some, length, nat_eq, not}
 use Rattle.std.specs.List.{range_with_len}
 use Rattle.execmodel.specs.{State.Memory, State.Object, State.on_heap, Places.freed, Places.place_for, Objects.is_allowed, Loaded.base_of, Loaded.count_of, Loaded.after_expunge, Loaded.with_library, GivingWay.after_asking, GivingWay.after_asking_for_object, GivingWay.asked_each, GivingWay.asked_one, GivingWay.gives_way, GivingWay.gives_way_at}

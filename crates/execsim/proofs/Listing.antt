@@ -115,7 +115,7 @@ module _ {H : Hearing} {m n o : Seen} {a b : H.Told} (t : ℕ) (call : Call) whe
       (follows_change (moves_memory (placed size object place) (placed size object place) (placed-in_order size object place) is) follows)
 
 module _ {H : Hearing} {m n o : Seen} {a b : H.Told} (t : ℕ) (call : Call) where
-  -- libraries are expunged under low memory to an object, and then it is made
+  -- libraries are asked for memory for an object, and then it is made
   pub follows_made : (kind : Object → Bool) (size : ℕ) (object : Object) (place : Option ℕ)
       → place ≡ place_for_object kind size (after_asking_for_object kind size m.memory)
       → n ≡ record m { memory = placed size object place (after_asking_for_object kind size m.memory) }

@@ -15,7 +15,7 @@ loading-in_order : (base : Option ℕ) (i : ℕ) (y : Memory) → ready_to_load 
 loading-in_order (Some base) i y = refl
 loading-in_order None i y = asking-in_order (library_at i y).size public_memory y
 
--- the memory before an opening, if libraries were expunged under low memory
+-- the memory before an opening, if libraries were asked for memory
 ready-in_order : (found : Option ℕ) (y : Memory) → ready_to_open found (queues_in_order y) ≡ queues_in_order (ready_to_open found y)
 unfolding ready_to_open
 ready-in_order None y = refl

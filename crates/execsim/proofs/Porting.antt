@@ -31,7 +31,7 @@ module _ {H : Hearing} {m : Seen} {a b : H.Told} (t : ℕ) (call : Call) where
       rw same refl)
       follows
 
-  -- the caller has that signal left, and libraries are expunged under low memory for its port
+  -- the caller has that signal left, and libraries are asked for memory for its port
   asked_first : {n : Seen} (bit : ℕ) → Some bit ≡ grant (negsuc 0) (signals_of m.schedule t)
       → Follows H (model.makes_port t call (Some bit)) (record m { memory = after_asking_for_object is_port port_size m.memory }) n a b
       → Follows H (model.does_create_msg_port t call) m n a b

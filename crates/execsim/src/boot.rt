@@ -170,7 +170,8 @@ fn libraries_of(alloc: Global, libraries: &[LibraryRecord]) -> Result<Vec<LibIni
     Ok(inits)
 }
 
-/// The memory of a file: nothing is allocated, and no library is loaded; libraries are expunged under low memory if the file is of version 2.
+/// The memory of a file: nothing is allocated, and no library is loaded; libraries are asked for memory if the file is
+/// of version 2.
 fn heap_of<S: ListSpace>(alloc: Global, file: &MachineFile) -> Result<Heap<S>, AllocError>
     ensures { IfOk result (λ heap. heap ≡ record {
       regions = file.now.regions;

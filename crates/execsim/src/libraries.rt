@@ -13,8 +13,8 @@ use script::LibraryWord;
 use taskq::TaskId;
 
 impl<S: ListSpace> Kernel<S> {
-    /// Opens the library of a name with at least that version, if there is one and it has a place, once others were expunged under low memory for it
-    /// if it is to be loaded.
+    /// Opens the library of a name with at least that version, if there is one and it has a place; the others are asked
+    /// for memory if it is to be loaded.
     fn open(&mut self, name: Name, version: u32) -> Option<u32>
         ensures answer { result ≡ opening name.bytes version self.old.memory }
         ensures next { self.new ≡ record self.old { memory = opened name.bytes version self.old.memory } }

@@ -19,7 +19,7 @@ use taskq::TaskId;
 impl<S: ListSpace> Kernel<S> {
     // ---- made and freed
 
-    /// A new empty list, if there is room for one once libraries were expunged under low memory for it.
+    /// A new empty list, if there is room for one, at once or after libraries were asked for memory.
     fn make_list(&mut self) -> Option<u32>
         ensures address { result ≡ place_for_object is_list list_size (after_asking_for_object is_list list_size self.old.memory) }
         ensures next { self.new ≡ record self.old {
@@ -29,8 +29,8 @@ impl<S: ListSpace> Kernel<S> {
         self.memory.new_list()
     }
 
-    /// A new node with the priority that the word is, read as a signed one, and with that name or none, if there is room for one once
-    /// libraries were expunged under low memory for it.
+    /// A new node with the priority that the word is, read as a signed one, and with that name or none, if there is
+    /// room for one, at once or after libraries were asked for memory.
     fn make_node(&mut self, pri: u32, name: Option<Name>) -> Option<u32>
         requires inside { IsTrue (is_priority (cast_signed w32 pri)) }
         ensures address { result ≡ place_for_object is_node node_size (after_asking_for_object is_node node_size self.old.memory) }

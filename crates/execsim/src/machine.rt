@@ -91,7 +91,7 @@ impl<S: ListSpace> Machine<S> {
     ///
     /// # Errors
     ///
-    /// Memory is lacking.
+    /// Memory is refused.
     pub fn boot(alloc: Global, file: &MachineFile) -> Result<Machine<S>, AllocError>
         ensures agrees { IfOk result (λ m. Agrees m.seen (booted file.now)) }
         ensures whole { IfOk result (λ m. m.failed ≡ false) }

@@ -34,7 +34,7 @@ fn can_be_asked(reqs: u32) -> bool
 }
 
 impl<S: ListSpace> Kernel<S> {
-    /// A plain block of that many bytes, if one fits once libraries were expunged under low memory for it.
+    /// A plain block of that many bytes, if one fits, at once or after libraries were asked for memory.
     fn allocate(&mut self, size: u32, reqs: u32) -> Option<u32>
         ensures answer { result ≡ place_for size reqs (after_asking size reqs self.old.memory) }
         ensures next { self.new ≡ record self.old { memory = placed size Plain result (after_asking size reqs self.old.memory) } }
@@ -59,9 +59,9 @@ impl<S: ListSpace> Kernel<S> {
         self.memory.avail(reqs)
     }
 
-    /// AllocMem size reqs: answers the address of a plain block, or 0 if none fits once libraries were expunged under low memory, or the size is
-    /// 0. VALUE if the requirements have other bits than MEMF_PUBLIC, MEMF_CHIP, MEMF_FAST and MEMF_CLEAR (autodoc
-    /// exec.library/AllocMem; size 0, and the alert: project rule).
+    /// AllocMem size reqs: answers the address of a plain block, or 0 if none fits, even after libraries were asked for
+    /// memory, or the size is 0. VALUE if the requirements have other bits than MEMF_PUBLIC, MEMF_CHIP, MEMF_FAST and
+    /// MEMF_CLEAR (autodoc exec.library/AllocMem; size 0, and the alert: project rule).
     fn alloc_mem<W: Witness>(&mut self, t: TaskId, call: &Call, out: &mut W)
         requires { HasTask t self.old }
         ensures { Follows W.hearing (does_memory words.AllocMem t (call_view call.now)) self.old self.new (W.told out.old) (W.told out.new) }

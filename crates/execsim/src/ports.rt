@@ -47,8 +47,8 @@ impl<S: ListSpace> Kernel<S> {
         self.sched.next_signal()
     }
 
-    /// A new port of task t, which signals it by the signal of that number, if there is room for one once libraries were expunged under low memory
-    /// to it.
+    /// A new port of task t, which signals it by the signal of that number, if there is room for one, at once or after
+    /// libraries were asked for memory.
     fn make_port(&mut self, t: TaskId, bit: u32) -> Option<u32>
         requires own { 16 ≤ bit }
         requires signal { bit < 32 }
@@ -60,9 +60,9 @@ impl<S: ListSpace> Kernel<S> {
         self.memory.new_port(t, bit)
     }
 
-    /// CreateMsgPort: answers the address of a new port, which signals the caller by a newly allocated signal; or 0 if the caller has no
-    /// signal left, and then no library is expunged under low memory, or there is no room for the port (autodoc exec.library/CreateMsgPort; when
-    /// libraries are asked: project rule).
+    /// CreateMsgPort: answers the address of a new port, which signals the caller by a newly allocated signal; or 0 if
+    /// the caller has no signal left, and then no library is asked for memory, or there is no room for the port
+    /// (autodoc exec.library/CreateMsgPort; when libraries are asked: project rule).
     fn create_msg_port<W: Witness>(&mut self, t: TaskId, call: &Call, out: &mut W)
         requires known { HasTask t self.old }
         requires runs { Runs t self.old }

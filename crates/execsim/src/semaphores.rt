@@ -28,7 +28,7 @@ fn attempted(has: bool) -> u32
 impl<S: ListSpace> Kernel<S> {
     // ---- made and freed
 
-    /// A new semaphore, which no task owns, if there is room for one once libraries were expunged under low memory for it.
+    /// A new semaphore, which no task owns, if there is room for one, at once or after libraries were asked for memory.
     fn make_semaphore(&mut self) -> Option<u32>
         ensures address { result ≡ place_for_object is_semaphore semaphore_size (after_asking_for_object is_semaphore semaphore_size self.old.memory) }
         ensures next { self.new ≡ record self.old {

@@ -30,7 +30,7 @@ pub enum SimFault {
     /// The event text is refused, or memory is refused to read it.
     #[error("events: {0}")]
     Events(EventFault),
-    /// Memory is lacking for the machine.
+    /// Memory is refused for the machine.
     #[error("no memory")]
     Memory,
     /// A write failed: what was written is a part of the trace.

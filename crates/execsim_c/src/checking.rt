@@ -38,7 +38,7 @@ fn status_of_findings(is_machine_refused: bool, is_script_refused: bool, warns: 
     }
 }
 
-/// Writes what was found in a text behind what is there already, and answers whether there is more than notes.
+/// Writes what was found in a text after what is there already, and answers whether there is more than notes.
 fn add_found(
     alloc: Global,
     name: &str,

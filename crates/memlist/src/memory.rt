@@ -78,9 +78,9 @@ impl MemList {
     /// Allocates a block of a size in bytes, which is rounded up to a multiple of 8, and answers its address.
     ///
     /// Of `reqs` only bits 0 to 2 count: the block lies in a region that has each of them. Among these the region of
-    /// greatest priority that has a large enough gap is taken, the earliest of equals, and in it the front of the lowest
-    /// such gap. None is answered, and nothing changes, if there is no such gap or the size is 0. A `tag` of 0 makes
-    /// a plain block; any other names what owns the block.
+    /// highest priority that has a large enough gap is taken, the earliest of equals, and in it the front of the lowest
+    /// such gap. None is answered, and nothing changes, if there is no such gap or the size is 0. A `tag` of 0 makes a
+    /// plain block; any other names what owns the block.
     ///
     /// Source: autodoc exec.library/AllocMem; size 0 is a project rule.
     pub fn alloc_mem(&mut self, size: u32, reqs: u32, tag: u32) -> Option<u32>

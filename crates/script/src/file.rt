@@ -112,8 +112,8 @@ impl MachineFile {
         }
     }
 
-    /// The version of the rules that the machine goes by: 1, or 2, in which libraries are expunged under low memory if memory is refused and regions may have
-    /// 4,194,304 bytes in all; 1 if `version` is not in the file (project rule).
+    /// The version of the rules that the machine goes by: 1, or 2, in which libraries are asked for memory when a block
+    /// fits nowhere, and regions may have 4,194,304 bytes in all; 1 if `version` is not in the file (project rule).
     pub fn version(&self) -> u8
         ensures version { result ≡ self.now.version }
         ensures machine { IsMachine self.now }

@@ -53,7 +53,7 @@ is_too_deep t sem = is_owner t sem && nat_lt most_obtained (sem.count + 1)
 abbrev pub once_more : ℕ → Sem → Sem
 once_more t sem = record { owner = Some t; count = sem.count + 1 }
 
--- the owner has to release a semaphore just once more
+-- the owner has to release a semaphore exactly once more
 abbrev pub is_last : Sem → Bool
 is_last sem = sem.count == 1
 

@@ -121,8 +121,9 @@ impl<S: ListSpace> Ints<S> {
         }
     }
 
-    /// Takes off the caused software interrupt that is to run next and answers it, or answers none if none is caused: the one that
-    /// was caused first among those of greatest priority. RKM Libraries, Exec Interrupts: software interrupts.
+    /// Takes off the caused software interrupt that is to run next and answers it, or answers none if none is caused:
+    /// the one that was caused first among those of highest priority. RKM Libraries, Exec Interrupts: software
+    /// interrupts.
     pub fn next(&mut self) -> Option<IntId>
         ensures value { result ≡ first self.old.caused }
         ensures next { self.new ≡ taken_off (first self.old.caused) self.old }

@@ -100,11 +100,11 @@ impl<S: ListSpace> Objects<S> {
 }
 
 impl<S: ListSpace> Heap<S> {
-    /// Opens the library of a name that has at least a version, and answers its base. One that is absent is loaded first: it takes a block
-    /// of its size, of public memory, and others are expunged under low memory for it as in `alloc_mem`. It is open once more, and is not to be
-    /// expunged any more. None if there is none of the name, its version is lower, it is open 65,535 times, or its block fits nowhere;
-    /// then nothing changes but what were expunged under low memory. Autodoc exec.library/OpenLibrary; the count, and that a library takes public memory: project
-    /// rule.
+    /// Opens the library of a name that has at least a version, and answers its base. One that is absent is loaded
+    /// first: it takes a block of its size, of public memory, and the others are asked for memory as in `alloc_mem`. It
+    /// is open once more, and is not to be expunged any more. None if there is none of the name, its version is lower,
+    /// it is open 65,535 times, or its block fits nowhere; then nothing changes but libraries that were asked for
+    /// memory. Autodoc exec.library/OpenLibrary; the count, and that a library takes public memory: project rule.
     pub fn open_library(&mut self, name: &str, version: u32) -> Option<u32>
         ensures answer { result ≡ model.opening name.now version self.old }
         ensures next { self.new ≡ model.opened name.now version self.old }

@@ -17,7 +17,8 @@ use execlist::space::{HeaderId, ListSpace, NodeId};
 impl<S: ListSpace> Objects<S> {
     // ---- lists and nodes made and freed
 
-    /// A new empty list, if the pool has one left and its block fits once libraries were expunged under low memory: its address.
+    /// A new empty list, if the pool has one left and its block fits, at once or after libraries were asked for memory:
+    /// its address.
     ///
     /// Source: autodoc amiga.lib/NewList; that it takes the memory is a project rule.
     pub fn make_list(&mut self) -> Option<u32>
@@ -28,7 +29,8 @@ impl<S: ListSpace> Objects<S> {
         Some(list)
     }
 
-    /// A new node with that key, if the pool has one left and its block fits once libraries were expunged under low memory: its address.
+    /// A new node with that key, if the pool has one left and its block fits, at once or after libraries were asked for
+    /// memory: its address.
     ///
     /// Source: RKM Libraries, Exec Lists and Queues: node initialization; that it takes the memory is a project rule.
     pub fn make_node(&mut self, pri: i8, name: Option<Name>) -> Option<u32>
@@ -380,8 +382,9 @@ impl<S: ListSpace> Objects<S> {
 impl<S: ListSpace> Heap<S> {
     // ---- lists and nodes made and freed
 
-    /// Makes an empty list and answers its address; none if the pool has no list left, which asks nothing, or its block fits nowhere once
-    /// libraries were expunged under low memory (autodoc amiga.lib/NewList; that it takes the memory: project rule).
+    /// Makes an empty list and answers its address; none if the pool has no list left, which asks nothing, or its block
+    /// fits nowhere, even after libraries were asked for memory (autodoc amiga.lib/NewList; that it takes the memory:
+    /// project rule).
     pub fn new_list(&mut self) -> Option<u32>
         ensures address { result ≡ place_for_object model.is_list model.list_size (after_asking_for_object model.is_list model.list_size self.old) }
         ensures next { self.new ≡ placed model.list_size (ListHead []) result (after_asking_for_object model.is_list model.list_size self.old) }
@@ -389,8 +392,9 @@ impl<S: ListSpace> Heap<S> {
         self.objects.make_list()
     }
 
-    /// Makes a node with that priority and that name or none, which is not linked, and answers its address; none if the pool has no
-    /// node left, which asks nothing, or its block fits nowhere once libraries were expunged under low memory (project rule).
+    /// Makes a node with that priority and that name or none, which is not linked, and answers its address; none if the
+    /// pool has no node left, which asks nothing, or its block fits nowhere, even after libraries were asked for memory
+    /// (project rule).
     pub fn new_node(&mut self, pri: i8, name: Option<Name>) -> Option<u32>
         ensures address { result ≡ place_for_object model.is_node model.node_size (after_asking_for_object model.is_node model.node_size self.old) }
         ensures next { self.new ≡ placed model.node_size (Node (key_with pri (option_map (λ text. text.bytes) name))) result (after_asking_for_object model.is_node model.node_size self.old) }

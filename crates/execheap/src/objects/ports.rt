@@ -53,7 +53,8 @@ impl<S: ListSpace> Objects<S> {
 
     // ---- made and freed
 
-    /// A new port of a task, which signals it by the signal of that number, if the pool has one left and its block fits once libraries were expunged under low memory: its address.
+    /// A new port of a task, which signals it by the signal of that number, if the pool has one left and its block
+    /// fits, at once or after libraries were asked for memory: its address.
     ///
     /// Source: autodoc exec.library/CreateMsgPort.
     pub fn make_port(&mut self, task: TaskId, bit: u32) -> Option<u32>
@@ -68,7 +69,8 @@ impl<S: ListSpace> Objects<S> {
         Some(port)
     }
 
-    /// A new message with a reply port, or 0, and a word, if the pool has one left and its block fits once libraries were expunged under low memory: its address.
+    /// A new message with a reply port, or 0, and a word, if the pool has one left and its block fits, at once or after
+    /// libraries were asked for memory: its address.
     ///
     /// Source: RKM Libraries, Exec Messages and Ports: messages; that it takes the memory is a project rule.
     pub fn make_message(&mut self, reply: u32, word: u32) -> Option<u32>
@@ -384,9 +386,9 @@ impl<S: ListSpace> Objects<S> {
 impl<S: ListSpace> Heap<S> {
     // ---- ports made and freed
 
-    /// Makes a port of a task, which signals it by the signal of that number (16 to 31), and answers its address; none if the pool has
-    /// no port left, which asks nothing, or its block fits nowhere once libraries were expunged under low memory. It has no message and is not public
-    /// (autodoc exec.library/CreateMsgPort).
+    /// Makes a port of a task, which signals it by the signal of that number (16 to 31), and answers its address; none
+    /// if the pool has no port left, which asks nothing, or its block fits nowhere, even after libraries were asked for
+    /// memory. It has no message and is not public (autodoc exec.library/CreateMsgPort).
     pub fn new_port(&mut self, task: TaskId, bit: u32) -> Option<u32>
         requires own { 16 ≤ bit }
         requires signal { bit < 32 }
@@ -467,9 +469,10 @@ impl<S: ListSpace> Heap<S> {
 
     // ---- messages made and freed
 
-    /// Makes a message of type 0 with a reply port, 0 for none, and a word, which is in no port, and answers its address; none if the
-    /// pool has no message left, which asks nothing, or its block fits nowhere once libraries were expunged under low memory. It is refused if the
-    /// reply port is not 0 and no port begins there (Handle). Project rule.
+    /// Makes a message of type 0 with a reply port, 0 for none, and a word, which is in no port, and answers its
+    /// address; none if the pool has no message left, which asks nothing, or its block fits nowhere, even after
+    /// libraries were asked for memory. It is refused if the reply port is not 0 and no port begins there (Handle).
+    /// Project rule.
     pub fn new_message(&mut self, reply: u32, word: u32) -> Result<Option<u32>, Refusal>
         ensures alert { alert_of result ≡ model.reply_port_alert reply self.old.heap }
         ensures address { IfOk result (λ place. place ≡ place_for_object model.is_message model.message_size (after_asking_for_object model.is_message model.message_size self.old)) }

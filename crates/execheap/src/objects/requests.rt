@@ -57,7 +57,8 @@ impl<S: ListSpace> Objects<S> {
 
     // ---- made and freed
 
-    /// A new request with that reply port, which is idle and not open, if the pool has one left and its block fits once libraries were expunged under low memory: its address.
+    /// A new request with that reply port, which is idle and not open, if the pool has one left and its block fits, at
+    /// once or after libraries were asked for memory: its address.
     ///
     /// Source: autodoc exec.library/CreateIORequest.
     pub fn make_request(&mut self, port: u32) -> Option<u32>
@@ -490,9 +491,10 @@ fn finish<S: ListSpace>(
 impl<S: ListSpace> Heap<S> {
     // ---- made and freed
 
-    /// Makes a request with a reply port, which is idle and not open, and answers its address; none if the pool has no request left, which
-    /// asks nothing, or its block fits nowhere once libraries were expunged under low memory. It is refused if no port begins at the reply port
-    /// (Handle). Autodoc exec.library/CreateIORequest; the refusal: project rule.
+    /// Makes a request with a reply port, which is idle and not open, and answers its address; none if the pool has no
+    /// request left, which asks nothing, or its block fits nowhere, even after libraries were asked for memory. It is
+    /// refused if no port begins at the reply port (Handle). Autodoc exec.library/CreateIORequest; the refusal: project
+    /// rule.
     pub fn new_request(&mut self, port: u32) -> Result<Option<u32>, Refusal>
         ensures alert { alert_of result ≡ port_alert port self.old.heap }
         ensures address { IfOk result (λ place. place ≡ place_for_object model.is_request model.request_size (after_asking_for_object model.is_request model.request_size self.old)) }

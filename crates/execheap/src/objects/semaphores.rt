@@ -26,7 +26,8 @@ impl<S: ListSpace> Objects<S> {
 
     // ---- made and freed
 
-    /// A new semaphore, which no task owns, if the pool has one left and its block fits once libraries were expunged under low memory: its address.
+    /// A new semaphore, which no task owns, if the pool has one left and its block fits, at once or after libraries
+    /// were asked for memory: its address.
     ///
     /// Source: autodoc exec.library/InitSemaphore; that it takes the memory is a project rule.
     pub fn make_semaphore(&mut self) -> Option<u32>
@@ -125,8 +126,9 @@ impl<S: ListSpace> Objects<S> {
 impl<S: ListSpace> Heap<S> {
     // ---- semaphores made and freed
 
-    /// Makes a semaphore, which no task owns, and answers its address; none if the pool has no semaphore left, which asks nothing, or its
-    /// block fits nowhere once libraries were expunged under low memory (autodoc exec.library/InitSemaphore; that it takes the memory: project rule).
+    /// Makes a semaphore, which no task owns, and answers its address; none if the pool has no semaphore left, which
+    /// asks nothing, or its block fits nowhere, even after libraries were asked for memory (autodoc
+    /// exec.library/InitSemaphore; that it takes the memory: project rule).
     pub fn new_semaphore(&mut self) -> Option<u32>
         ensures address { result ≡ place_for_object model.is_semaphore model.semaphore_size (after_asking_for_object model.is_semaphore model.semaphore_size self.old) }
         ensures next { self.new ≡ placed model.semaphore_size (Semaphore free_sem []) result (after_asking_for_object model.is_semaphore model.semaphore_size self.old) }

@@ -1,4 +1,4 @@
--- A block fits if it is shown to fit, and is shown where it is put, once libraries were expunged under low memory.
+-- A block fits if it is shown to fit, and is shown where it is put, after libraries were asked for memory.
 use Rattle.std.proofs.Common.{ap, ◌∙◌}
 use Rattle.execmodel.specs.{State.Plain, Memory.place_for, Memory.placed, GivingWay.after_asking}
 use Rattle.execheap.specs.Numbered.{shown_memory}

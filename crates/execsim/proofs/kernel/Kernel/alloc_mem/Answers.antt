@@ -1,5 +1,5 @@
--- The proof of `Kernel::alloc_mem`: AllocMem size reqs: answers the address of a plain block, or 0 if none fits once libraries were
--- expunged under low memory, or the size is 0.
+-- The proof of `Kernel::alloc_mem`: AllocMem size reqs: answers the address of a plain block, or 0 if none fits, even
+-- after libraries were asked for memory, or the size is 0.
 use Rattle.execsim.proofs.Allocating.{alloc_refused, alloc_tried}
 use Rattle.execsim.proofs.kernel.Kernel.alloc_mem.Goals as goal
 

@@ -1,6 +1,6 @@
--- The proof of `Kernel::create_msg_port`: CreateMsgPort: answers the address of a new port, which signals the caller by a newly allocated
--- signal; or 0 if the caller has no signal left, and then no library is expunged under low memory, or there is no room for the port
--- (autodoc exec.library/CreateMsgPort; when libraries are asked: project rule).
+-- The proof of `Kernel::create_msg_port`: CreateMsgPort: answers the address of a new port, which signals the caller by
+-- a newly allocated signal; or 0 if the caller has no signal left, and then no library is asked for memory, or there is
+-- no room for the port (autodoc exec.library/CreateMsgPort; when libraries are asked: project rule).
 use Rattle.execsim.proofs.Porting.{created, created_without_room, created_without_signal}
 use Rattle.execsim.proofs.kernel.Kernel.create_msg_port.Goals as goal
 
