@@ -3,7 +3,7 @@ use Rattle.std.proofs.Common.{◌≡◌, ℕ, ◌<◌, [], ◌∷◌, ◌++◌, 
 use Rattle.std.specs.List.{list_any}
 use Rattle.std.proofs.Math.Path.{fun_ext}
 use Rattle.std.proofs.lemmas.Simd.{map-map}
-use Rattle.execlist.specs.{Order.without, Lists.is_at, Lists.times, Pool.slot}
+use Rattle.execlist.specs.{Order.without_item, Lists.is_at, Lists.times, Pool.slot}
 use Rattle.execlist.proofs.Pools.{item_of}
 use Rattle.memlist.proofs.Answered.{nat_eq-other, nat_eq-same}
 use Rattle.sigsem.specs.Semaphores as sems
@@ -28,16 +28,16 @@ module _ {m : Semaphores} (held : sems.IsSound m) (t : ℕ) where
   queue_known j waits = omega (arith, held.each_queue, item_known m.sems.slots j (held.live t j waits))
 
   -- leaving a task out of every queue takes it from the one that has it
-  waiters_from : (o : Option ℕ) → waits_at t m ≡ o → (k : ℕ) → waiters_of k (dropped_from o t m) ≡ without t (waiters_of k m)
+  waiters_from : (o : Option ℕ) → waits_at t m ≡ o → (k : ℕ) → waiters_of k (dropped_from o t m) ≡ without_item t (waiters_of k m)
   waiters_from None none k = sym (without_absent t (waiters_of k m) (stands_where k ∙ ap (λ o. is_at o k) none))
   waiters_from (Some j) waits k =
-      sequence_set m.queues j (without t (waiters_of j m)) k (queue_known j waits)
-      ∙ either_number k j (λ b. (if b then without t (waiters_of j m) else waiters_of k m) ≡ without t (waiters_of k m))
-      (λ same. ap (λ i. without t (waiters_of i m)) (sym same))
+      sequence_set m.queues j (without_item t (waiters_of j m)) k (queue_known j waits)
+      ∙ either_number k j (λ b. (if b then without_item t (waiters_of j m) else waiters_of k m) ≡ without_item t (waiters_of k m))
+      (λ same. ap (λ i. without_item t (waiters_of i m)) (sym same))
       (λ other. sym (without_absent t (waiters_of k m)
       (stands_where k ∙ ap (λ o. is_at o k) waits ∙ nat_eq-other j k (λ same. other (sym same)))))
 
-  pub waiters_without : (k : ℕ) → waiters_of k (sems.dropped t m) ≡ without t (waiters_of k m)
+  pub waiters_without : (k : ℕ) → waiters_of k (sems.dropped t m) ≡ without_item t (waiters_of k m)
   waiters_without k = waiters_from (waits_at t m) refl k
 
   -- the semaphores stay as they are

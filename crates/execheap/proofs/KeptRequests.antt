@@ -3,7 +3,7 @@ use Rattle.std.proofs.Common.{◌≡◌, ◌≢◌, ℕ, ◌+◌, ◌<◌, ◌�
 use Rattle.std.proofs.lemmas.Bool.{cases_eq}
 use Rattle.execlist.specs.{Lists.home, Pool.Pooled, Pool.slot, Answers.kept_or}
 use Rattle.execlist.proofs.Pools.{item_of, slot_known, slot_other, slot_same}
-use Rattle.iorequest.specs.Request.{asks_time, begun, done_state, finished, idle_request, is_under_way, is_way, reply_port, second}
+use Rattle.iorequest.specs.Request.{asks_time, in_progress, done_state, finished, idle_request, is_under_way, is_way, reply_port, second}
 use Rattle.iorequest.specs.{declared.request.Request.Request as TimerRequest, declared.fault.ReqFault.TheVariants.InUse, Requests.in_use_fault, Requests.is_request, Requests.request_at, Requests.with_request}
 use Rattle.msgport.specs.declared.fault.PortFault.TheVariants.{Link, Unknown}
 use Rattle.msgport.specs.{Port.Port, Ports.MessagePorts, Ports.is_held, Ports.is_message, Ports.is_port, Ports.is_queued as is_in_port, Ports.let_go, Ports.loose_fault, Ports.nt_replymsg, Ports.posted, Ports.queued_fault, Ports.taken_out}
@@ -137,7 +137,7 @@ written_not r old is = record { same = refl; here = is; rest = λ k other. refl;
 rests_free : (r : ℕ) (old : Pooled TimerRequest) → is_under_way (request_at r old) ≡ false → in_use_fault r old ≡ None
 rests_free r old rests = ap (λ b. if b then Some InUse else None) rests
 
-pub begun_port : (quick : Bool) (system : ℕ) (q : TimerRequest) → (begun quick system q).port ≡ q.port
+pub begun_port : (quick : Bool) (system : ℕ) (q : TimerRequest) → (in_progress quick system q).port ≡ q.port
 begun_port quick system q = by_case (asks_time q) where
   by_case : (b : Bool) → (if b then record q { secs = system / second % 2 ^ 32; micros = system % second } else q).port ≡ q.port
   by_case true = refl
@@ -233,13 +233,13 @@ module _ {s : Numbered} (sound : IsSound s) where
     -- it is begun and waits
     pub kept_begun : (m : ℕ) → m ≡ message_of_request r s → (quick : Bool) (system : ℕ) (due : Due)
         → (q : Pooled TimerRequest) (p : MessagePorts) (t : Held)
-        → q ≡ with_request r (begun quick system (request_at r s.requests)) s.requests → p ≡ ports.held m s.ports
+        → q ≡ with_request r (in_progress quick system (request_at r s.requests)) s.requests → p ≡ ports.held m s.ports
         → t ≡ on_timer (begins_to_wait r due) s.timing → IsKept (record s { requests = q; ports = p; timing = t })
     kept_begun m is quick system due q p t is_q is_p is_t = subst (λ (x : Numbered). IsKept x)
         (λ i. record s { requests = sym is_q i; ports = sym (is_p ∙ ap (λ n. ports.held n s.ports) is) i; timing = sym is_t i })
-        (kept_call kept (with_request r (begun quick system (request_at r s.requests)) s.requests) (ports.held own s.ports)
+        (kept_call kept (with_request r (in_progress quick system (request_at r s.requests)) s.requests) (ports.held own s.ports)
         (on_timer (begins_to_wait r due) s.timing) r (request_live kept r lives)
-        (written_is r (begun quick system (request_at r s.requests)) s.requests lives (begun_port quick system (request_at r s.requests)))
+        (written_is r (in_progress quick system (request_at r s.requests)) s.requests lives (begun_port quick system (request_at r s.requests)))
         (moved_held own At s.ports) (timed_begun r s.timing due))
 
     done_rests : (q : TimerRequest) (error : ℤ) → is_under_way (finished error q) ≡ false

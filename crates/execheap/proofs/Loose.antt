@@ -1,6 +1,6 @@
 -- A message of the table that is in no port is not held, and so may be put, replied and freed.
 use Rattle.std.proofs.Common.{◌≡◌, ℕ, ◌+◌, ◌<◌, false, ap, sym, ◌∙◌, Some, None, is_some, if◌then◌else◌, not, slice_set, ◌||◌, IsSome, IsTrue}
-use Rattle.execlist.specs.{Lists.home, Order.without, Pool.slot, Pool.written}
+use Rattle.execlist.specs.{Lists.home, Order.without_item, Pool.slot, Pool.written}
 use Rattle.msgport.proofs.Linking.{without_absent}
 use Rattle.msgport.specs.declared.fault.PortFault.TheVariants.{Link, Unknown}
 use Rattle.msgport.specs.{declared.message.Message.Message, Ports.MessagePorts, Ports.is_held, Ports.is_message, Ports.is_port, Ports.let_go, Ports.loose_fault, Ports.nt_replymsg, Ports.post_fault, Ports.posted, Ports.reply_fault}
@@ -45,7 +45,7 @@ module _ {s : Numbered} (kept : IsKept s) (sound : table.IsSound s.table) (m : �
       (λ r p there. ap (λ all. home all (s.table.pool + r)) (sym placed) ∙ there)
 
   -- letting go of it changes nothing
-  pub held_as_before : without m s.ports.holding ≡ s.ports.holding
+  pub held_as_before : without_item m s.ports.holding ≡ s.ports.holding
   held_as_before = without_absent m s.ports.holding unheld
 
   pub let_go_same : let_go m s.ports ≡ s.ports

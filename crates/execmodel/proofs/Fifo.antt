@@ -3,7 +3,7 @@ use Rattle.std.proofs.Common.{◌≡◌, ◌≢◌, ℕ, Bool, true, false, List
 use Rattle.std.specs.{List.list_any, Ordering.eq_by_cmp}
 use Rattle.memlist.specs.{declared.region.Region.Region, Memory.IsWellFormed, Fit.round}
 use Rattle.memlist.proofs.Answered.{nat_eq-same, nat_eq-other, cases_eq}
-use Rattle.execlist.specs.Order.{first, without}
+use Rattle.execlist.specs.Order.{first, without_item}
 use Rattle.iorequest.specs.declared.request.Request.{Request as TimerRequest}
 use Rattle.execmodel.specs.State.{Call, Object, Plain, ListHead, MsgPort, Message, Semaphore, Library, Block, Heap, Waiting as Queued, Mark, out, State}
 use Rattle.execmodel.specs.Ports.{is_port, is_message, is_port_at, is_message_at, messages_in, messages_of_object, messages_of, is_queued, has_message, with_port, with_action, appended, taken_off}
@@ -300,6 +300,6 @@ pub taken_follow : (port request : ℕ) (heap : Heap) → is_port_at port heap �
 taken_follow port request heap is p =
     let new = without_reply port request heap in
     turned p port (Left request) (messages_of p heap) (messages_of p new)
-    (λ same. ap (λ a. messages_of a new) same ∙ port_there port _ (without request (messages_of port heap)) heap is
-    ∙ ap (λ a. without request (messages_of a heap)) (sym same))
-    (λ apart. port_elsewhere p port _ (without request (messages_of port heap)) heap apart)
+    (λ same. ap (λ a. messages_of a new) same ∙ port_there port _ (without_item request (messages_of port heap)) heap is
+    ∙ ap (λ a. without_item request (messages_of a heap)) (sym same))
+    (λ apart. port_elsewhere p port _ (without_item request (messages_of port heap)) heap apart)

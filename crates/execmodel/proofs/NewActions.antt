@@ -9,20 +9,20 @@ use Rattle.script.specs.declared.variable.Variable.TheVariants.{Private, Shared}
 use Rattle.script.specs.declared.event.Event.TheVariants.{Run, Tick, Irq}
 use Rattle.script.specs.{Commands.ArgumentData, Commands.number, Commands.variable, Commands.quoted, Commands.place, Commands.CommandData, File.TaskData, declared.variable.Variable.Variable, declared.event.Event.Event}
 use Rattle.forbid.specs.Nesting.{may_interrupt}
-use Rattle.scheduler.specs.{declared.Switch.Switch as Choice, Schedule.Schedule, Schedule.leaves, Schedule.name_of, Schedule.is_interrupting_allowed, Schedule.quantum_ticked, Sound.is_running, Dispatch.switch_of, Dispatch.rescheduled, Dispatch.added}
+use Rattle.scheduler.specs.{declared.Switch.Switch as Choice, Schedule.Schedule, Schedule.leaves, Schedule.task_name, Schedule.is_interrupting_allowed, Schedule.quantum_ticked, Sound.is_running, Dispatch.switch_of, Dispatch.rescheduled, Dispatch.added}
 use Rattle.scheduler.specs.declared.Switch.TheVariants as switch
 use Rattle.sigsem.specs.Semaphores.{is_last}
 use Rattle.softint.specs.Sources.{highest}
 use Rattle.softint.specs.declared.source.Source.{Source}
 use Rattle.softint.specs.declared.source.Source.TheVariants as source
 use Rattle.taskq.specs.Tasks.{is_ready}
-use Rattle.timerdev.specs.Timing.{ticked}
+use Rattle.timerdev.specs.Timing.{clock_ticked}
 use Rattle.memlist.proofs.Answered.{nat_eq-same}
-use Rattle.execmodel.specs.State.{Call, Scripts, Program, State, Outcome, quiet, says, andthen, unless_stopped, program_of, on_schedule, on_memory, on_pending, on_timer}
+use Rattle.execmodel.specs.State.{Call, Scripts, Program, State, Outcome, quiet, prints_line, andthen, unless_stopped, program_of, on_schedule, on_memory, on_pending, on_timer}
 use Rattle.execmodel.specs.Feeding.{joined_by}
 use Rattle.execmodel.specs.Calls.{content, evaluated, evaluated_in_body, call_of, call_at, call_after, next_call, call_in_body}
 use Rattle.execmodel.specs.Interrupts.{softint_at, runs_softint, server_at, chain_of, runs_server, runs_chain, serving_counted, finishes_for, serves, servings, interrupts}
-use Rattle.execmodel.specs.Step.{started, all_added, announced, switches, settle, ends, task_step, call_step, softint_or_task_step, acting, acts, step, steps, request, tick, ticks, event}
+use Rattle.execmodel.specs.Step.{started, all_added, announced, switches, settle, ends, task_step, call_step, softint_or_task_step, step_action, acts, step, steps, request, tick, ticks, event}
 use Rattle.execmodel.specs.{Pending.caused_no_more, Pending.with_latch_of, Pending.allows_interrupts, Pending.next_softint, Pending.next_source, Bodies.does_in_body, Bodies.body_step, Bodies.runs_body, Pending.softint_pri, Semaphores.heir, Semaphores.sem_of, Semaphores.waiters_of, Agreement.Agrees, Agreement.once_if}
 use Rattle.execmodel.proofs.NewTask.{Fits, Moves, stays_moves, added_moves, IsOut, nesting_same, name_same, absent_last, leaves_moves, ticked_moves, rescheduled_moves, switch_same, switch_to_other}
 use Rattle.execmodel.proofs.NewWords.{more, grown, Sized, IsWith, Both, Carries, NoHeir, program_same, from_with, scheduled, itself, quiet_with, andthen_with, in_body_with, all_due_with, does_with}
@@ -98,14 +98,14 @@ module _ (n : ℕ) (task : TaskData) where
       let one = unless_with (body_step name c) s sized (λ on. body_step_with name c s sized) (body_going name others r going) in
       andthen_with n task (unless_stopped (body_step name c)) (runs_body name others) s one (body_with name others r one.sized going)
 
-  says_with : (line : TraceLine) (s : State) → Sized n task s → Both n task (says line (grown n task s)) (says line s)
+  says_with : (line : TraceLine) (s : State) → Sized n task s → Both n task (prints_line line (grown n task s)) (prints_line line s)
   says_with line s sized = record { same = refl; sized = sized }
 
   says_body_with : (line : TraceLine) (name : List ℕ) (code : List CommandData) (s : State) → Sized n task s
-      → Carries n task (andthen (says line) (runs_body name code)) s
+      → Carries n task (andthen (prints_line line) (runs_body name code)) s
   unfolding andthen
   says_body_with line name code s sized going =
-      andthen_with n task (says line) (runs_body name code) s (says_with line s sized) (body_with name code s sized going)
+      andthen_with n task (prints_line line) (runs_body name code) s (says_with line s sized) (body_with name code s sized going)
 
   softint_with : (i : ℕ) (s : State) → Sized n task s → Carries n task (runs_softint i) s
   unfolding runs_softint
@@ -144,12 +144,12 @@ module _ (n : ℕ) (task : TaskData) where
   counted_with source.Exter s sized = itself n task s sized
 
   served_with : (asks : Source) (chain : List ℕ) (s : State) → Sized n task s
-      → Carries n task (andthen (says (Serve (source_text asks))) (andthen (finishes_for asks) (runs_chain chain))) s
+      → Carries n task (andthen (prints_line (Serve (source_text asks))) (andthen (finishes_for asks) (runs_chain chain))) s
   unfolding andthen
   served_with asks chain s sized going =
       let line = Serve (source_text asks) in
       let finished = finishing_with asks s sized in
-      andthen_with n task (says line) (andthen (finishes_for asks) (runs_chain chain)) s (says_with line s sized)
+      andthen_with n task (prints_line line) (andthen (finishes_for asks) (runs_chain chain)) s (says_with line s sized)
       (andthen_with n task (finishes_for asks) (runs_chain chain) s finished (chain_with chain (finishes_for asks s).state finished.sized going))
 
   serves_with : (asks : Source) (s : State) → Sized n task s → Carries n task (serves asks) s
@@ -158,7 +158,7 @@ module _ (n : ℕ) (task : TaskData) where
       let chain = chain_of asks s.bodies.servers in
       let cleared = on_pending (with_latch_of asks false) s in
       let counted = counted_with asks cleared sized in
-      from_with n task (andthen (says (Serve (source_text asks))) (andthen (finishes_for asks) (runs_chain chain))) _
+      from_with n task (andthen (prints_line (Serve (source_text asks))) (andthen (finishes_for asks) (runs_chain chain))) _
       (on_schedule (serving_counted asks) cleared) counted (served_with asks chain (on_schedule (serving_counted asks) cleared) counted.1 going)
 
   allowed_same : (s : Schedule) → allows_interrupts (joined_by task.pri task.name s) ≡ allows_interrupts s
@@ -319,9 +319,9 @@ module _ (n : ℕ) (task : TaskData) where
   ends_with t s sized apart =
       let left = scheduled n task (leaves t) (grown n task s) s (itself n task s sized) (leaves_moves n task.pri task.name t s.schedule sized.0 apart) in
       record {
-        same = ap (λ name. says (trace.Call name (codes "RemTask") (Value 0 ∷ []) trace.Done) (on_schedule (leaves t) (grown n task s)))
+        same = ap (λ name. prints_line (trace.Call name (codes "RemTask") (Value 0 ∷ []) trace.Done) (on_schedule (leaves t) (grown n task s)))
             (name_same n task.pri task.name t s.schedule sized.0 apart)
-            ∙ ap (says (trace.Call (name_of s.schedule t) (codes "RemTask") (Value 0 ∷ []) trace.Done)) left.0;
+            ∙ ap (prints_line (trace.Call (task_name s.schedule t) (codes "RemTask") (Value 0 ∷ []) trace.Done)) left.0;
         sized = left.1;
       }
 
@@ -344,15 +344,15 @@ module _ (n : ℕ) (task : TaskData) where
   either_with None s sound sized going = task_step_with s.schedule.running s (out_there s sound sized).running sound sized going
   either_with (Some i) s sound sized going = softint_with i s sized going
 
-  acting_with : (s : State) → IsSound s → Sized n task s → Carries n task acting s
-  unfolding acting
+  acting_with : (s : State) → IsSound s → Sized n task s → Carries n task step_action s
+  unfolding step_action
   acting_with s sound sized going =
       let both = either_with (next_softint s) s sound sized going in
       record { same = ap (λ softint. softint_or_task_step softint (grown n task s)) (softint_same s) ∙ both.same; sized = both.sized }
 
   acts_with : (s : State) → IsSound s → Sized n task s → Carries n task acts s
   unfolding acts
-  acts_with s sound sized going = unless_with acting s sized (λ on. acting_with s sound sized) going
+  acts_with s sound sized going = unless_with step_action s sized (λ on. acting_with s sound sized) going
 
   acted_sound : (s : State) → IsSound s → IsSound (acts s).state
   acted_sound s sound = (of_acts Waits waits s sound).0
@@ -379,7 +379,7 @@ module _ (n : ℕ) (task : TaskData) where
   pub tick_with : (s : State) → IsSound s → Sized n task s → Carries n task tick s
   unfolding tick
   tick_with s sound sized going =
-      unless_with (λ s. request source.Vertb (on_memory (on_timer ticked) s)) s sized
+      unless_with (λ s. request source.Vertb (on_memory (on_timer clock_ticked) s)) s sized
       (λ on. request_with source.Vertb (clock_gains s) (clocked s sound).0 sized) going
 
   -- ---- events

@@ -7,7 +7,7 @@ use Rattle.timerdev.specs.Timing.{due_next, looked_at, until_next, Timer as Cloc
 use Rattle.msgport.specs.Ports.{nt_freemsg, nt_message, nt_replymsg}
 use Rattle.forbid.specs.Nesting.{Nesting, after_disable, after_enable, after_forbid, after_permit}
 use Rattle.signals.specs.Signals.{SignalSets, grant, grant_number}
-use Rattle.scheduler.specs.Schedule.{Schedule, come_for, nested, status_of, after_wait, removed, waits_at_semaphore, allocates, frees, sets_signals, clears_and_waits, leaves, is_absent}
+use Rattle.scheduler.specs.Schedule.{Schedule, come_for, nested, status_of, after_wait, task_removed, waits_at_semaphore, allocates_signal, frees_signal, sets_signals, clears_and_waits, leaves, is_absent}
 use Rattle.scheduler.specs.Dispatch.{arrives, added, signalled, reprioritized}
 use Rattle.taskq.specs.Tasks.{is_live}
 use Rattle.sigsem.specs.declared.semaphore.Obtained.TheVariants.{Owner, Waits}
@@ -46,7 +46,7 @@ use Rattle.execmodel.specs.Pending.{causes}
 use Rattle.execmodel.specs.Plain.{jumps}
 use Rattle.execmodel.specs.Ports.{performed}
 use Rattle.execmodel.specs.Signals.{is_task}
-use Rattle.execmodel.specs.State.{says, with_program}
+use Rattle.execmodel.specs.State.{prints_line, with_program}
 use Rattle.execmodel.specs.Blocks.{Heap, MsgPort, Object, on_heap}
 use Rattle.execmodel.specs.Bodies.{does_in_body, does_interrupts_by, does_plain_by, does_ports_by, does_signals_by, does_word_by}
 use Rattle.execmodel.specs.Causing.{does_cause_by}
@@ -57,7 +57,7 @@ use Rattle.execmodel.specs.{Memory.makes_object, Memory.allocates_block, Loaded.
 use Rattle.msgport.specs.Port.{arrival_action, new_port}
 use Rattle.execmodel.specs.Nesting.{does_disable, does_enable, does_forbid, does_nesting, does_permit, gives_nesting, nest_alert}
 use Rattle.execmodel.specs.Objects.{place_for_object}
-use Rattle.execmodel.specs.Pending.{softint_named}
+use Rattle.execmodel.specs.Pending.{softint_number}
 use Rattle.execmodel.specs.Places.{freed, placed}
 use Rattle.execmodel.specs.Plain.{does_add, does_and, does_jump, does_jump_not_zero, does_jump_zero, does_or, does_plain, does_print, does_set, does_sub}
 use Rattle.execmodel.specs.Ports.{add_port_alert, after_asking_for_port, content_of, delete_alert, delivered, does_add_port, does_create_msg_port, does_delete_msg_port, does_find_port, does_free_msg, does_get_msg, does_get_msg_by, does_msg_type, does_msg_word, does_new_msg, does_port_cause, does_port_ignore, does_port_signal, does_ports, does_put_msg, does_put_msg_by, does_rem_port, does_reply_msg, does_reply_msg_by, does_set_msg_word, does_wait_port, found_port, is_message, is_port, looked, loose_alert, loses, made_private, made_public, makes_port, message_alert, message_size, messages_of, port_alert, port_created, port_of, port_size, posted, put_alert, rem_port_alert, reply_alert, reply_port_alert, taken_by, taken_off, typed, wait_alert, with_action, with_message_word}
@@ -156,9 +156,9 @@ module _ (n : ℕ) (task : TaskData) where
 
   -- one line is said, and the scripts change
   saying : (s : State) (one other : TraceLine) (scripts changed : Scripts) → one ≡ other → changed ≡ more scripts
-      → says one (record (grown s) { scripts = changed }) ≡ and_grown (says other (record s { scripts = scripts }))
+      → prints_line one (record (grown s) { scripts = changed }) ≡ and_grown (prints_line other (record s { scripts = scripts }))
   saying s one other scripts changed line e =
-      ap (λ said. says said (record (grown s) { scripts = changed })) line ∙ ap (λ (it : Scripts). says other (record (grown s) { scripts = it })) e
+      ap (λ said. prints_line said (record (grown s) { scripts = changed })) line ∙ ap (λ (it : Scripts). prints_line other (record (grown s) { scripts = it })) e
 
   done_here : (t : ℕ) (call : Call) (s : State) → Sized s → t ≢ n → Both (done t call (grown s)) (done t call s)
   unfolding done
@@ -359,7 +359,7 @@ module _ (n : ℕ) (task : TaskData) where
   cause_with : (c : Caller) (call : Call) (s : State) → Sized s → IsOther c → Carries (does_cause_by c call) s
   unfolding causes
   cause_with c call s sized apart going =
-      done_by_with c call _ (causes (softint_named (unwrap_or (name_argument 0 call) []) s.bodies.softints) s) (refl, sized) apart
+      done_by_with c call _ (causes (softint_number (unwrap_or (name_argument 0 call) []) s.bodies.softints) s) (refl, sized) apart
 
   pub quiet_with : (s : State) → Sized s → Both (quiet (grown s)) (quiet s)
   quiet_with s sized = record { same = refl; sized = sized }
@@ -418,13 +418,13 @@ module _ (n : ℕ) (task : TaskData) where
   signals_with signals.AllocSignal t call s sized apart going =
       let k = cast_signed w32 (argument 0 call) in
       answered_with t call _ _ _ _ (ap (λ (sets : SignalSets). cast_unsigned w32 (grant_number (grant k sets))) (signals_same n task.pri task.name t s.schedule))
-      (scheduled (allocates t k) (grown s) s (itself s sized) (allocates_moves n task.pri task.name t k s.schedule sized.0 apart)) apart
+      (scheduled (allocates_signal t k) (grown s) s (itself s sized) (allocates_moves n task.pri task.name t k s.schedule sized.0 apart)) apart
   signals_with signals.FreeSignal t call s sized apart going =
       let k = argument 0 call in
       either_way (nat_eq k 0xffffffff) (nat_eq k 0xffffffff) _ _ _ _ refl (λ on. done_here t call s sized apart)
       (λ on. refused_by (free_signal_alert k) _ (ByTask t) call _ (grown s) s (λ none. none)
       (λ none still. done_with t call _ _
-      (scheduled (frees t k) (grown s) s (itself s sized) (frees_moves n task.pri task.name t k s.schedule sized.0)) apart) on) going
+      (scheduled (frees_signal t k) (grown s) s (itself s sized) (frees_moves n task.pri task.name t k s.schedule sized.0)) apart) on) going
   signals_with signals.SetSignal t call s sized apart going =
       let mask = argument 1 call in
       refused_by (mask_alert mask) _ (ByTask t) call _ (grown s) s (λ none. none)
@@ -477,7 +477,7 @@ module _ (n : ℕ) (task : TaskData) where
   ends_with_task other t call s sized far apart =
       leaves_queue (awaited_by other s.memory.heap) _ _
       (done_with t call _ _
-      (scheduled (removed other) _ (on_memory (on_heap (dropped other)) s) (remembered (on_heap (dropped other)) (grown s) s (itself s sized) (λ m. refl))
+      (scheduled (task_removed other) _ (on_memory (on_heap (dropped other)) s) (remembered (on_heap (dropped other)) (grown s) s (itself s sized) (λ m. refl))
       (removed_moves n task.pri task.name other s.schedule sized.0 far)) apart)
     where
       leaves_queue : (semaphore : Option ℕ) (o p : Outcome) → Both o p → Both (leaving_queue semaphore other o) (leaving_queue semaphore other p)
@@ -580,7 +580,7 @@ module _ (n : ℕ) (task : TaskData) where
   created_with t call (Some bit) None s sized apart = answered_here t call 0 s sized apart
   created_with t call (Some bit) (Some address) s sized apart =
       answered_with t call address address _ _ refl
-      (scheduled (allocates t (negsuc 0)) _ (on_memory (placed port_size (MsgPort (new_port t bit) []) (Some address)) s)
+      (scheduled (allocates_signal t (negsuc 0)) _ (on_memory (placed port_size (MsgPort (new_port t bit) []) (Some address)) s)
       (remembered (placed port_size (MsgPort (new_port t bit) []) (Some address)) (grown s) s (itself s sized)
       (placed_blind (suc n) port_size (MsgPort (new_port t bit) []) (Some address)))
       (allocates_moves n task.pri task.name t (negsuc 0) s.schedule sized.0 apart)) apart
@@ -615,7 +615,7 @@ module _ (n : ℕ) (task : TaskData) where
       either_way (nat_eq port 0) (nat_eq port 0) _ _ _ _ refl (λ on. done_here t call s sized apart)
       (λ on. refused_by (delete_alert port s.memory) _ (ByTask t) call _ (grown s) s (λ none. none)
       (λ none still. done_with t call _ _
-      (scheduled (frees found.task found.bit) _ (on_memory (freed port) s) (remembered (freed port) (grown s) s (itself s sized) (λ m. refl))
+      (scheduled (frees_signal found.task found.bit) _ (on_memory (freed port) s) (remembered (freed port) (grown s) s (itself s sized) (λ m. refl))
       (frees_moves n task.pri task.name found.task found.bit s.schedule sized.0)) apart) on) going
   ports_with ports.AddPort t call s sized apart going =
       let port = argument 0 call in
@@ -829,7 +829,7 @@ module _ (n : ℕ) (task : TaskData) where
   unfolding finishes
   finishes_with request s sized =
       let ends = ended_with (pos 0) request s sized in
-      replies (answering_port request s.memory.heap) request _ _ (record { same = ap (says (Timer request)) ends.0; sized = ends.1 })
+      replies (answering_port request s.memory.heap) request _ _ (record { same = ap (prints_line (Timer request)) ends.0; sized = ends.1 })
 
   each_with : (next : Clock → Option ℕ) (m : ℕ) (s : State) → Sized s → Both (finishes_each next m (grown s)) (finishes_each next m s)
   unfolding finishes_each

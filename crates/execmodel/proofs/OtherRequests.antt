@@ -10,7 +10,7 @@ use Rattle.script.specs.declared.alert.Alert.{Alert}
 use Rattle.script.specs.declared.word.requests.RequestWord.{RequestWord}
 use Rattle.script.specs.declared.word.requests.RequestWord.TheVariants as requests
 use Rattle.timerdev.specs.Timing.{until_next, looked_at}
-use Rattle.execmodel.specs.State.{Call, Object, MsgPort, Request, Heap, Memory, Timer as Clock, State, Outcome, quiet, says, andthen, on_memory, on_schedule, on_timer}
+use Rattle.execmodel.specs.State.{Call, Object, MsgPort, Request, Heap, Memory, Timer as Clock, State, Outcome, quiet, prints_line, andthen, on_memory, on_schedule, on_timer}
 use Rattle.execmodel.specs.Ports.{is_port, is_port_at, is_queued, port_alert, with_port, appended, performed, loses}
 use Rattle.execmodel.specs.Semaphores.{is_tried_again}
 use Rattle.execmodel.specs.Requests.{is_request, is_request_at, request_of, with_request, request_alert, resting_alert, delete_request_alert, send_alert, do_alert, wait_io_alert, state_alert, set_io_alert, answering_port, appended_at, finished_at, acting_at, with_reply, ended, ends_with, under_way, heap_begun, outcome_at, begun_at, replying_port, request_size, does_create_io_request, does_delete_io_request, opened_for, does_open_device, closed_device, does_close_device, with_command, does_set_io, does_send_io, reply_taken, looks_for, does_wait_io, begins_and_looks, does_do_io, does_check_io, aborts, does_abort_io, does_io_secs, does_io_micros, does_io_error, does_io_flags, does_requests, finishes, finishes_each, finishes_set}
@@ -119,7 +119,7 @@ module _ (a : ℕ) (old : Heap) (apart : IsApart a old) where
   finishes_left : (request : ℕ) (s : State) → IsLeft s.memory.heap → IsLeft (finishes request s).state.memory.heap
   unfolding finishes
   finishes_left request s left =
-      reply_left (answering_port request s.memory.heap) request (says (TimerLine request) (ends_with (pos 0) request s))
+      reply_left (answering_port request s.memory.heap) request (prints_line (TimerLine request) (ends_with (pos 0) request s))
       (ends_left (pos 0) request s left)
 
   abbrev Leaves : (State → Outcome) → Type 0

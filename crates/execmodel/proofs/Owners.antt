@@ -2,7 +2,7 @@
 use Rattle.std.proofs.Common.{◌⊎◌, inl, inr, ◌≡◌, ◌≢◌, ℕ, Bool, true, false, List, [], ◌∷◌, Option, None, Some, refl, sym, ap, ◌∙◌, subst, not, if◌then◌else◌, nat_eq, map, drop, is_some, ◌==◌, ◌||◌, option_map}
 use Rattle.memlist.specs.{declared.region.Region.Region, Memory.IsWellFormed, Fit.round}
 use Rattle.memlist.proofs.Answered.{nat_eq-same, nat_eq-other, cases_eq}
-use Rattle.execlist.specs.{Order.first, Order.without, Lists.is_at}
+use Rattle.execlist.specs.{Order.first, Order.without_item, Lists.is_at}
 use Rattle.sigsem.specs.{declared.semaphore.Sem.Sem, Semaphores.is_free_for, Semaphores.is_owned, Semaphores.owned_next}
 use Rattle.iorequest.specs.declared.request.Request.{Request as TimerRequest}
 use Rattle.execmodel.specs.Semaphores.{sem_in, sem_of, sem_of_object, waiters_of, waiters_of_object, with_semaphore, left_by_task, entered, queued, dropped, handed_on, released_once}
@@ -43,7 +43,7 @@ left_idle node (ListHead nodes) idle = λ e. refl
 left_idle node _ idle = idle
 
 task_left_idle : (t : ℕ) (object : Object) → Idle (Some object) → Idle (Some (left_by_task t object))
-task_left_idle t (Semaphore sem waiters) idle = λ e. ap (λ q. without t q) (idle e)
+task_left_idle t (Semaphore sem waiters) idle = λ e. ap (λ q. without_item t q) (idle e)
 task_left_idle t _ idle = idle
 
 new_idle : (heap : Heap) (object : Object) → IsNew heap object → Idle (Some object)

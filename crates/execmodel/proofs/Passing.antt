@@ -3,7 +3,7 @@
 use Rattle.std.proofs.Common.{◌≡◌, ◌≢◌, ℕ, Bool, true, false, List, [], ◌∷◌, ◌++◌, Option, None, Some, refl, sym, ap, ◌∙◌, subst, not, cond, if◌then◌else◌, nat_eq, map, drop, option_map}
 use Rattle.memlist.specs.{declared.region.Region.Region, Memory.IsWellFormed, Fit.round}
 use Rattle.memlist.proofs.Answered.{nat_eq-same, nat_eq-other, cases_eq}
-use Rattle.execlist.specs.Order.{without}
+use Rattle.execlist.specs.Order.{without_item}
 use Rattle.iorequest.specs.declared.request.Request.{Request as TimerRequest}
 use Rattle.execmodel.specs.State.{Call, Object, Plain, ListHead, MsgPort, Message, Semaphore, Library, Request, Block, Heap, Waiting as Queued, Mark, out, State}
 use Rattle.execmodel.specs.Semaphores.{is_semaphore, is_semaphore_at, waiters_in, waiters_of, waiters_of_object, awaited_by, with_semaphore, left_by_task, entered, queued, dropped, handed_on, released_once}
@@ -87,17 +87,17 @@ left_same node _ = refl
 
 -- ---- tasks that leave
 
-without_away : (t : ℕ) (q : List ℕ) → IsAway t q → without t q ≡ q
+without_away : (t : ℕ) (q : List ℕ) → IsAway t q → without_item t q ≡ q
 without_away t [] away = refl
 without_away t (x ∷ q) away =
-    ap (λ test. cond (not test) (x ∷ without t q) (without t q)) (nat_eq-other x t (λ e. away.0 (sym e))) ∙ ap (λ r. x ∷ r) (without_away t q away.1)
+    ap (λ test. cond (not test) (x ∷ without_item t q) (without_item t q)) (nat_eq-other x t (λ e. away.0 (sym e))) ∙ ap (λ r. x ∷ r) (without_away t q away.1)
 
-task_left : (t : ℕ) (found : Option Object) → waiters_of_object (option_map (left_by_task t) found) ≡ without t (waiters_of_object found)
+task_left : (t : ℕ) (found : Option Object) → waiters_of_object (option_map (left_by_task t) found) ≡ without_item t (waiters_of_object found)
 task_left t (Some Plain) = refl
 task_left t None = refl
 task_left t (Some _) = refl
 
-pub dropped_left : (t p : ℕ) (heap : Heap) → waiters_of p (dropped t heap) ≡ without t (waiters_of p heap)
+pub dropped_left : (t p : ℕ) (heap : Heap) → waiters_of p (dropped t heap) ≡ without_item t (waiters_of p heap)
 unfolding waiters_of dropped
 dropped_left t p heap = ap (λ found. waiters_of_object found) (object_remade (left_by_task t) p heap) ∙ task_left t (object_at p heap)
 

@@ -7,7 +7,7 @@ use Rattle.execlist.specs.Disciplines.{by_arrival}
 use Rattle.signals.specs.Signals.{SignalSets, initial_sets, without_bits, taken_signals, after_free}
 use Rattle.forbid.specs.Nesting.{Nesting}
 use Rattle.taskq.specs.Tasks.{is_live, is_ready}
-use Rattle.scheduler.specs.Schedule.{Schedule, status_of, signals_of, allocates as allocates_signal, frees as frees_signal, sets_signals, takes as takes_signals, waits_for, waits_at_semaphore, departs, is_absent, leaves as leaves_for_good, removed, with_priority, with_signals}
+use Rattle.scheduler.specs.Schedule.{Schedule, status_of, signals_of, allocates_signal, frees_signal, sets_signals, takes_signals, waits_for, waits_at_semaphore, departs, is_absent, leaves as leaves_for_good, task_removed, with_priority, with_signals}
 use Rattle.scheduler.specs.Dispatch.{arrives}
 use Rattle.sigsem.specs.declared.semaphore.Obtained.TheVariants.{Owner, Waits}
 use Rattle.sigsem.specs.declared.semaphore.Obtained.{Obtained}
@@ -38,7 +38,7 @@ pub data Shifts (t : ℕ) (call : Call) (s : State) (o : Outcome) : Type 0 where
   asks : (semaphore : ℕ) → o.marks ≡ asked semaphore t ∷ [] → o.state.schedule ≡ waits_at_semaphore t s.schedule → Shifts t call s o
   wakes : (semaphore owner : ℕ) → o.marks ≡ passed semaphore owner ∷ [] → o.state.schedule ≡ arrives by_arrival owner s.schedule → Shifts t call s o
   leaves : IsCalm o.marks → o.state.schedule ≡ leaves_for_good t s.schedule → Shifts t call s o
-  removes : (other : ℕ) → other ≢ t → o.state.memory.heap ≡ dropped other s.memory.heap → o.state.schedule ≡ removed other s.schedule
+  removes : (other : ℕ) → other ≢ t → o.state.memory.heap ≡ dropped other s.memory.heap → o.state.schedule ≡ task_removed other s.schedule
       → Shifts t call s o
 
 -- an outcome makes such a thing of the schedule, and there are as many programs as before
@@ -170,7 +170,7 @@ added_shifts t call value number false s is e =
     (answered_count t call.next call.target value s.scripts, stays (λ p. refl) (same s.schedule))
 
 pub left_shifts : (semaphore : Option ℕ) (other t : ℕ) (call : Call) (s : State) → other ≢ t
-    → Shifted t call s (leaving_queue semaphore other (done t call (on_schedule (removed other) (on_memory (on_heap (dropped other)) s))))
+    → Shifted t call s (leaving_queue semaphore other (done t call (on_schedule (task_removed other) (on_memory (on_heap (dropped other)) s))))
 unfolding done
 left_shifts None other t call s apart = (goes_count t call.next s.scripts, removes other apart refl refl)
 left_shifts (Some semaphore) other t call s apart = (goes_count t call.next s.scripts, removes other apart refl refl)

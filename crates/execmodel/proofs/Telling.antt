@@ -6,7 +6,7 @@ use Rattle.execmodel.specs.{State.Call, State.State, State.Outcome, State.quiet,
 use Rattle.script.specs.declared.variable.Variable.TheVariants.{Private, Shared}
 use Rattle.script.specs.{declared.word.Word.Word, declared.word.task_signals.SignalWord.SignalWord, declared.word.ports.PortWord.PortWord, declared.word.interrupts.InterruptWord.InterruptWord, declared.word.plain.PlainWord.PlainWord, declared.variable.Variable.Variable, Words.word_text, Commands.CommandData}
 use Rattle.execlist.specs.Order.{first}
-use Rattle.scheduler.specs.Schedule.{name_of, nested}
+use Rattle.scheduler.specs.Schedule.{task_name, nested}
 use Rattle.forbid.specs.Nesting.{Nesting}
 use Rattle.iorequest.specs.declared.request.ReqState.TheVariants.{Idle, UnderWay, Quick, Replied}
 use Rattle.iorequest.specs.declared.request.ReqState.{ReqState}
@@ -74,7 +74,7 @@ shared_beside (Some (Shared k)) value scripts = refl
 
 -- the name under which a caller's lines are printed
 abbrev pub speaker : Caller → State → List ℕ
-speaker (ByTask t) s = name_of s.schedule t
+speaker (ByTask t) s = task_name s.schedule t
 speaker (ByBody name) s = name
 
 -- what a caller of that name may print at a call: the call's own line, or its alert
@@ -105,7 +105,7 @@ quiet_tells c call s = record { lines = All-nil _; others = refl; programs = λ 
 pub done_tells : (c : Caller) (call : Call) (s r : State) → r.scripts ≡ s.scripts → Tells c call s (done_by c call r)
 unfolding done
 done_tells (ByTask t) call s r same = record {
-  lines = one_line (IsOwn (name_of r.schedule t) call) _ (own Done);
+  lines = one_line (IsOwn (task_name r.schedule t) call) _ (own Done);
   others = goes_on_keeps t call.next r.scripts ∙ ap (without_progress_of t) same;
   programs = λ short all. goes_brief t call.next r.scripts (same_brief s r same all);
 }
@@ -118,7 +118,7 @@ done_tells (ByBody name) call s r same = record {
 pub answered_tells : (c : Caller) (call : Call) (value : ℕ) (s r : State) → r.scripts ≡ s.scripts → Tells c call s (answered_by c call value r)
 unfolding answered
 answered_tells (ByTask t) call value s r same = record {
-  lines = one_line (IsOwn (name_of r.schedule t) call) _ (own (Answers value));
+  lines = one_line (IsOwn (task_name r.schedule t) call) _ (own (Answers value));
   others = goes_on_keeps t call.next (stored t call.target value r.scripts) ∙ stored_keeps t call.target value r.scripts
       ∙ ap (without_progress_of t) same;
   programs = λ short all.
@@ -155,7 +155,7 @@ waiting_tells : (t awaited : ℕ) (call : Call) (s r : State) → r.scripts ≡ 
     → Tells (ByTask t) call s (waiting t (record call { awaited = awaited }) r)
 unfolding waiting
 waiting_tells t awaited call s r same = record {
-  lines = one_line (IsOwn (name_of r.schedule t) call) _ (own trace.Waits);
+  lines = one_line (IsOwn (task_name r.schedule t) call) _ (own trace.Waits);
   others = kept_keeps t (record call { awaited = awaited }) r.scripts ∙ ap (without_progress_of t) same;
   programs = λ has all.
       let old = same_brief s r same all in
@@ -175,7 +175,7 @@ pub alerted_tells : (code : Alert) → (c : Caller) (call : Call) (s r : State) 
     → Tells c call s (alerted_by code c call r)
 unfolding alerted
 alerted_tells code (ByTask t) call s r same = record {
-  lines = one_line (IsOwn (name_of r.schedule t) call) _ (refusing code);
+  lines = one_line (IsOwn (task_name r.schedule t) call) _ (refusing code);
   others = ap (without_progress_of t) same;
   programs = λ short all. same_brief s r same all;
 }

@@ -3,7 +3,7 @@ use Rattle.std.proofs.Common.{◌≡◌, ◌≢◌, ℕ, Bool, true, false, List
 use Rattle.std.specs.{List.list_any, Ordering.eq_by_cmp}
 use Rattle.memlist.specs.{declared.region.Region.Region, Fit.round, Memory.IsWellFormed}
 use Rattle.memlist.proofs.Answered.{nat_eq-same, cases_eq}
-use Rattle.execlist.specs.Order.{without}
+use Rattle.execlist.specs.Order.{without_item}
 use Rattle.iorequest.specs.{declared.request.Request.Request as TimerRequest, Request.is_under_way}
 use Rattle.execmodel.specs.State.{Call, Object, ListHead, MsgPort, Message, Semaphore, Library, Request, Block, Heap, Waiting as Queued, Mark, State}
 use Rattle.execmodel.specs.Semaphores.{is_semaphore, is_semaphore_at, with_semaphore, left_by_task, entered, queued, dropped, handed_on, released_once}
@@ -127,7 +127,7 @@ module _ (waiting : List Queued) where
       → AreInOrder (post_at (without_reply port request heap)) waiting
   unfolding with_port
   taken_order port request heap is order =
-      requeued port heap _ (without request (messages_of port heap)) is (post_here is_port port _ heap (unfold is_port_at in is))
+      requeued port heap _ (without_item request (messages_of port heap)) is (post_here is_port port _ heap (unfold is_port_at in is))
       (λ a apart. post_elsewhere a port _ heap apart) (λ who barred away. away_without who request (messages_of port heap) away) order
 
   -- a semaphore becomes another one

@@ -4,7 +4,7 @@ use Rattle.std.proofs.lemmas.{List.length-replicate, Grind.flat_map-append}
 use Rattle.signals.specs.Signals.{after_post}
 use Rattle.taskq.specs.declared.TaskState.TheVariants.{Absent, Running, Removed, Waiting}
 use Rattle.taskq.specs.{Tasks.Tasks, Tasks.is_live, declared.TaskState.TaskState, declared.Why.TheVariants.Signals}
-use Rattle.scheduler.specs.Schedule.{Schedule, status_of, signals_of, is_absent, awaits, begins, renewed, is_switching_allowed, is_quantum_over, leaves as leaves_for_good, removed, departs, quantum_ticked, ticked_for, waits_for, waits_at_semaphore, with_signals}
+use Rattle.scheduler.specs.Schedule.{Schedule, status_of, signals_of, is_absent, awaits, begins, renewed, is_switching_allowed, is_quantum_over, leaves as leaves_for_good, task_removed, departs, quantum_ticked, ticked_for, waits_for, waits_at_semaphore, with_signals}
 use Rattle.scheduler.specs.{declared.Switch.Switch, declared.Switch.TheVariants.To, declared.Switch.TheVariants.Idle, Dispatch.arrives, Dispatch.added, Dispatch.displaced, Dispatch.after_switch, Dispatch.rescheduled, Dispatch.switch_of, Dispatch.signalled}
 use Rattle.script.specs.{File.MachineData, Machines.IsMachine, declared.event.Event.Event, Commands.CommandData}
 use Rattle.execmodel.specs.{State.Call, State.Mark, State.State, State.Outcome, State.on_schedule, State.new_program, State.booted, State.andthen, Calls.next_call, Bodies.body_step, Semaphores.waiters_of, Step.switches, Step.ends, Step.starts, Step.events, Step.run, Marks.semaphore_turn, Marks.turns_at_semaphore, Laws.QueuesAgreeWithTheSchedule, Laws.SemaphoresPassInOrder, Laws.times_waiting, Requests.finishes}
@@ -69,7 +69,7 @@ reached_count marks s r (posts k mask calm e) = ap (λ q. length (states_of q)) 
 
 shifts_count : (t : ℕ) (call : Call) (s : State) (o : Outcome) → Shifts t call s o
     → length o.state.schedule.queue.states ≡ length s.schedule.queue.states
-unfolding waits_for waits_at_semaphore leaves_for_good removed
+unfolding waits_for waits_at_semaphore leaves_for_good task_removed
 shifts_count t call s o (reaches how) = reached_count o.marks s.schedule o.state.schedule how
 shifts_count t call s o (rearrives k calm e alike) = ap (λ l. length l) alike.states ∙ arrives_count k (departs k s.schedule)
 shifts_count t call s o (adds k calm range absent e) = ap (λ r. length (states_of r)) e ∙ arrives_count k s.schedule

@@ -6,7 +6,7 @@ use Rattle.memlist.proofs.{Answered.nat_eq-same, Answered.nat_eq-other, Answered
 use Rattle.scheduler.specs.Schedule.{Schedule}
 use Rattle.msgport.specs.declared.action.Action.{Action}
 use Rattle.iorequest.specs.declared.request.Begun.TheVariants.{Finish, Queue, Until, NewTime}
-use Rattle.iorequest.specs.Request.{idle_request, is_under_way, is_to_wait, is_until, is_open, asks_time, sets_time, told, begun, finished, done_state, outcome, reply_port}
+use Rattle.iorequest.specs.Request.{idle_request, is_under_way, is_to_wait, is_until, is_opened, asks_time, sets_time, told, in_progress, finished, done_state, outcome, reply_port}
 use Rattle.iorequest.specs.{declared.request.Request.Request as TimerRequest, declared.request.ReqState.ReqState, declared.request.ReqState.TheVariants.Replied, declared.request.Begun.Begun}
 use Rattle.execmodel.specs.State.{Call, Object, Request, Block, Heap, Due, AtClock, AtSystem, Memory, Mark, out, put, State, Outcome, on_schedule, on_memory}
 use Rattle.execmodel.specs.Requests.{is_request, is_request_at, request_size, request_of, request_of_object, with_request, is_command, resting_alert, delete_request_alert, set_io_alert, can_begin, begin_alert, send_alert, do_alert, state_alert, answering_port, where_port, acting_at, appended_at, finished_at, with_reply, ended, heap_begun, timer_begun, outcome_at, begun_at, answering_begun, replying_port, reply_taken, looks_for, begins_and_looks, aborts}
@@ -103,7 +103,7 @@ may_begin of_port request heap none port =
     let loose = passed_other (is_queued request heap) _ _ can.1 in
     record {
       there = there.0;
-      rests = both_true (not (is_under_way (request_of request heap))) (is_open (request_of request heap)) can.0
+      rests = both_true (not (is_under_way (request_of request heap))) (is_opened (request_of request heap)) can.0
           (λ one other. not_true (is_under_way (request_of request heap)) one);
       loose = loose.0;
       lives = port loose.1;
@@ -162,7 +162,7 @@ done_now now system q e =
 module _ (quick : Bool) (request : ℕ) (s : State) (may : MayBegin request s.memory.heap) where
   -- the request as it is begun, and the blocks with it
   abbrev fresh : TimerRequest
-  fresh = begun quick s.memory.timer.system (request_of request s.memory.heap)
+  fresh = in_progress quick s.memory.timer.system (request_of request s.memory.heap)
 
   abbrev mid : Heap
   mid = with_request request fresh s.memory.heap
@@ -231,7 +231,7 @@ is_replied _ = false
 
 module _ (request : ℕ) (s : State) (may : MayBegin request s.memory.heap) where
   abbrev asked : TimerRequest
-  asked = begun true s.memory.timer.system (request_of request s.memory.heap)
+  asked = in_progress true s.memory.timer.system (request_of request s.memory.heap)
 
   abbrev under : Heap
   under = with_request request asked s.memory.heap

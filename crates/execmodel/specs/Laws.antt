@@ -8,7 +8,7 @@ use Rattle.memlist.specs.{declared.region.Region.Region, Pieces.AreDisjoint, Pie
 use Rattle.execlist.specs.{Order.chosen, Disciplines.pri_at, Lists.times}
 use Rattle.signals.specs.Signals.{has_signal}
 use Rattle.taskq.specs.{declared.TaskState.TheVariants.Waiting, declared.Why.TheVariants.Signals}
-use Rattle.scheduler.specs.Schedule.{Schedule, name_of, priority_of, status_of, signals_of, is_switching_allowed}
+use Rattle.scheduler.specs.Schedule.{Schedule, task_name, priority_of, status_of, signals_of, is_switching_allowed}
 use Rattle.softint.specs.{declared.source.Source.Source, declared.source.Source.TheVariants.Vertb, Sources.is_latched}
 use Rattle.script.specs.declared.word.Word.TheVariants as group
 use Rattle.script.specs.declared.word.task_signals.SignalWord.TheVariants as signals
@@ -17,7 +17,7 @@ use Rattle.script.specs.declared.word.requests.RequestWord.TheVariants as reques
 use Rattle.execmodel.specs.State.{Call, Scripts, Object, Plain, Block, Heap, Memory, Waiting as Queued, Mark, State, Outcome, on_schedule, on_memory, on_pending, on_timer, booted}
 use Rattle.execmodel.specs.{Calls.argument, Calls.alerted, Calls.next_call, Calls.call_in_body, Keeping.without_blocks, GivingWay.gives_way, GivingWay.after_asking, GivingWay.after_asking_for_object, Libraries.is_library_at, Libraries.library_number_at, Libraries.count_of, Libraries.is_delayed, Libraries.ready_to_open, Memory.block_at, Memory.extents, Memory.place_for, Memory.does_memory, Objects.object_at, Ports.is_port_at, Ports.messages_of, Ports.after_asking_for_port, Requests.request_of, Semaphores.sem_of, Semaphores.waiters_of, Pending.allows_interrupts, Pending.next_softint, Pending.with_latch_of, Interrupts.interrupts, Interrupts.runs_softint, Interrupts.softint_at, Interrupts.server_at, Step.does, Step.ends, Step.acts, Step.step, Step.tick, Step.request, Step.settle, Step.switches, Step.all_added, Step.starts, Step.events, Step.run, Agreement.Agrees, Agreement.once_if, Queues.IsInOrder, Marks.turns_at_port, Marks.turns_at_semaphore}
 use Rattle.iorequest.specs.Request.{is_under_way, sets_time, time_of}
-use Rattle.timerdev.specs.Timing.{offset, ticked}
+use Rattle.timerdev.specs.Timing.{offset, clock_ticked}
 use Rattle.script.specs.declared.alert.Alert.TheVariants as an_alert
 
 -- Something holds in every state that a run comes to. A state in the midst of an event is the last one of the run of other events: of those
@@ -182,7 +182,7 @@ candidates s = s.queue.ready ++ (elim s.running as (λ x. List ℕ) [ None ↦ [
 abbrev pub SwitchesGoToTheChosen : Type 0
 SwitchesGoToTheChosen =
     (s : State) (name : List ℕ) → (switches s).lines ≡ Switch name ∷ []
-    → (t : ℕ) × (name ≡ name_of s.schedule t) × (chosen (pri_at s.schedule.queue.pris) (candidates s.schedule) ≡ Some t)
+    → (t : ℕ) × (name ≡ task_name s.schedule t) × (chosen (pri_at s.schedule.queue.pris) (candidates s.schedule) ≡ Some t)
     × ((switches s).state.schedule.running ≡ Some t)
     × ((r : ℕ) → s.schedule.running ≡ Some r → priority_of s.schedule t ≡ priority_of s.schedule r → s.schedule.left ≡ 0)
 
@@ -207,7 +207,7 @@ pub data ComesTo (machine : MachineData) : State → Type 0 where
 -- the state in which an action ends but for its switch
 abbrev pub before_switch : Action → State → State
 before_switch OneStep s = (interrupts (acts s).state).state
-before_switch OneTick s = (interrupts (on_pending (with_latch_of Vertb true) (on_memory (on_timer ticked) s))).state
+before_switch OneTick s = (interrupts (on_pending (with_latch_of Vertb true) (on_memory (on_timer clock_ticked) s))).state
 before_switch (OneRequest asks) s = (interrupts (on_pending (with_latch_of asks true) s)).state
 
 -- a run switches to a task of that name: at its start, or by an action in a state that it comes to

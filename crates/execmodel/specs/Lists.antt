@@ -4,7 +4,7 @@
 -- is the alert LINK (project rule).
 use Rattle.std.specs.Prelude.{ℕ, zero, suc, ℤ, Bool, true, false, not, ◌-◌, ◌==◌, if◌then◌else◌, nat_eq, is_some, length, map, take, drop, find, unwrap_or, codes, List, [], ◌∷◌, ◌++◌, Option, None, Some, ⊤}
 use Rattle.std.specs.{List.list_any, Int.cast_signed, Int.w32}
-use Rattle.execlist.specs.{Order.enqueue, Order.first, Order.without, Lists.KeyData, Lists.blank, Lists.last, Lists.name_is, Lists.part_after, Lists.part_before, Lists.put_after}
+use Rattle.execlist.specs.{Order.enqueue, Order.first, Order.without_item, Lists.KeyData, Lists.blank, Lists.last, Lists.name_is, Lists.part_after, Lists.part_before, Lists.put_after}
 use Rattle.script.specs.declared.word.lists.ListWord.{ListWord}
 use Rattle.script.specs.declared.word.lists.ListWord.TheVariants as word
 use Rattle.execmodel.specs.{State.Call, State.Object, State.ListHead, State.Node, State.Block, State.Heap, State.State, State.Outcome, Calls.argument, Calls.name_argument, Deeds.Deed, Deeds.performs, Deeds.changes, Deeds.answers_and_changes, Deeds.reads, Deeds.frees_block, Deeds.makes, Objects.object_at, Objects.is_kind, Tasks.is_priority}
@@ -83,7 +83,7 @@ with_nodes list nodes heap = map (relisted list nodes) heap
 
 -- a list without that node; another object stays as it is
 abbrev pub left_by : ℕ → Object → Object
-left_by node (ListHead nodes) = ListHead (without node nodes)
+left_by node (ListHead nodes) = ListHead (without_item node nodes)
 left_by node object = object
 
 -- a node leaves the list that it is in; the lists keep their other nodes in their order

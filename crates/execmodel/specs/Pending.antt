@@ -4,7 +4,7 @@
 -- by its latch: more requests before it is served change nothing.
 use Rattle.std.specs.Prelude.{ℕ, ℤ, Bool, not, ◌&&◌, ◌==◌, if◌then◌else◌, nat_lt, bytes_eq, length, map, List, Option, None}
 use Rattle.std.specs.List.{list_any, position_or_len}
-use Rattle.execlist.specs.{Order.without, Disciplines.Discipline, Disciplines.by_arrival, Disciplines.pri_at}
+use Rattle.execlist.specs.{Order.without_item, Disciplines.Discipline, Disciplines.by_arrival, Disciplines.pri_at}
 use Rattle.softint.specs.{Sources.with_latch, Sources.highest, declared.source.Source.Source}
 use Rattle.script.specs.File.{SoftintData}
 use Rattle.scheduler.specs.Schedule.{Schedule, is_interrupting_allowed}
@@ -21,8 +21,8 @@ abbrev pub softint_pri : List SoftintData → ℕ → ℤ
 softint_pri softints i = pri_at (map (λ (s : SoftintData). s.pri) softints) i
 
 -- the number of the software interrupt of that name; if none has the name, a number that none has
-abbrev pub softint_named : List ℕ → List SoftintData → ℕ
-softint_named name softints = position_or_len (bytes_eq name) (map (λ (s : SoftintData). s.name) softints)
+abbrev pub softint_number : List ℕ → List SoftintData → ℕ
+softint_number name softints = position_or_len (bytes_eq name) (map (λ (s : SoftintData). s.name) softints)
 
 -- software interrupt i was caused and has not run since
 abbrev pub is_caused : ℕ → Pending → Bool
@@ -44,7 +44,7 @@ causes i s = on_pending (with_caused by_arrival i s.bodies.softints) s
 
 -- software interrupt i is no longer caused (RKM Libraries, Exec Interrupts: software interrupts)
 abbrev pub caused_no_more : ℕ → Pending → Pending
-caused_no_more i pending = record pending { caused = without i pending.caused }
+caused_no_more i pending = record pending { caused = without_item i pending.caused }
 
 -- the software interrupt of the list that runs next, if interrupts are allowed and one is caused
 abbrev pub softint_next : Discipline → List SoftintData → Schedule → Pending → Option ℕ

@@ -8,7 +8,7 @@ use Rattle.std.specs.Prelude.{ℕ, ℤ, negsuc, ◌^◌, Bool, true, false, not,
 use Rattle.std.specs.{List.list_any, Int.cast_signed, Int.w32}
 use Rattle.execlist.specs.{Order.chosen, Order.first, Lists.name_is, Disciplines.by_arrival}
 use Rattle.signals.specs.Signals.{grant}
-use Rattle.scheduler.specs.{Schedule.Schedule, Schedule.signals_of, Schedule.allocates, Schedule.clears_and_waits, Schedule.frees, Schedule.sets_signals, Dispatch.signalled}
+use Rattle.scheduler.specs.{Schedule.Schedule, Schedule.signals_of, Schedule.allocates_signal, Schedule.clears_and_waits, Schedule.frees_signal, Schedule.sets_signals, Dispatch.signalled}
 use Rattle.msgport.specs.declared.action.PortAction.TheVariants.{Signal, Cause, Ignore}
 use Rattle.msgport.specs.{declared.action.Action.Action, declared.action.PortAction.PortAction, declared.message.Message.Message as Content, Port.Port, Port.arrival_action, Port.new_port, Port.wait_bit, Ports.new_message, Ports.nt_freemsg, Ports.nt_message, Ports.nt_replymsg}
 use Rattle.msgport.specs.declared.action.Action.TheVariants as action
@@ -16,7 +16,7 @@ use Rattle.iorequest.specs.Request.{is_under_way}
 use Rattle.script.specs.declared.word.ports.PortWord.{PortWord}
 use Rattle.script.specs.declared.word.ports.PortWord.TheVariants as word
 use Rattle.execmodel.specs.State.{Call, Object, MsgPort, Message, Request, Block, Heap, PublicPort, Memory, State, Outcome, put, got, leaving, on_schedule, on_memory, on_heap}
-use Rattle.execmodel.specs.{Calls.Caller, Calls.ByTask, Calls.argument, Calls.name_argument, Calls.done, Calls.done_by, Calls.answered, Calls.answered_by, Calls.waiting, Calls.unless, Calls.unless_by, Pending.causes, Pending.softint_named, GivingWay.after_asking_for_object, Memory.makes_object, Memory.freed, Memory.placed, Objects.object_at, Objects.is_kind, Objects.place_for_object, Objects.replaced, Tasks.is_priority}
+use Rattle.execmodel.specs.{Calls.Caller, Calls.ByTask, Calls.argument, Calls.name_argument, Calls.done, Calls.done_by, Calls.answered, Calls.answered_by, Calls.waiting, Calls.unless, Calls.unless_by, Pending.causes, Pending.softint_number, GivingWay.after_asking_for_object, Memory.makes_object, Memory.freed, Memory.placed, Objects.object_at, Objects.is_kind, Objects.place_for_object, Objects.replaced, Tasks.is_priority}
 use Rattle.script.specs.declared.alert.Alert.TheVariants as an_alert
 use Rattle.script.specs.declared.alert.Alert.{Alert}
 
@@ -160,7 +160,7 @@ port_created t call None place s = answered t call 0 s
 port_created t call (Some bit) None s = answered t call 0 s
 port_created t call (Some bit) (Some address) s =
     answered t call address
-    (on_schedule (allocates t (negsuc 0)) (on_memory (placed port_size (MsgPort (new_port t bit) []) (Some address)) s))
+    (on_schedule (allocates_signal t (negsuc 0)) (on_memory (placed port_size (MsgPort (new_port t bit) []) (Some address)) s))
 
 -- the memory after libraries were asked for memory for a port; if there is no signal for the port, none is asked
 -- (project rule)
@@ -199,7 +199,7 @@ delete_alert port memory =
 
 -- the signal of a port is no longer allocated by its task (autodoc DeleteMsgPort)
 abbrev pub gives_back : Port → Schedule → Schedule
-gives_back port s = frees port.task port.bit s
+gives_back port s = frees_signal port.task port.bit s
 
 -- DeleteMsgPort port: the port is freed, and its signal is given back to its task, whichever task calls; 0 does nothing
 -- (autodoc exec.library/DeleteMsgPort; the alerts: project rule)
@@ -263,7 +263,7 @@ does_port_signal t call s =
 unfoldable pub does_port_cause : ℕ → Call → State → Outcome
 does_port_cause t call s =
     let port = argument 0 call in
-    let i = softint_named (unwrap_or (name_argument 1 call) []) s.bodies.softints in
+    let i = softint_number (unwrap_or (name_argument 1 call) []) s.bodies.softints in
     unless (port_alert port s.memory.heap) t call (λ s. done t call (on_memory (on_heap (with_action (Cause i) port)) s)) s
 
 -- PortIgnore port: from now on the port does nothing when a message arrives (RKM Libraries, Exec Messages and Ports:

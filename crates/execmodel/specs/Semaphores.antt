@@ -4,7 +4,7 @@
 -- would be obtained too often, is the alert SEM (project rule).
 use Rattle.std.specs.Prelude.{ℕ, ◌==◌, Bool, true, false, not, if◌then◌else◌, is_some, drop, find, map, codes, List, [], ◌∷◌, ◌++◌, Option, None, Some, ⊤, option_map}
 use Rattle.std.specs.List.{list_any}
-use Rattle.execlist.specs.{Order.first, Order.without, Disciplines.by_arrival}
+use Rattle.execlist.specs.{Order.first, Order.without_item, Disciplines.by_arrival}
 use Rattle.scheduler.specs.{Schedule.waits_at_semaphore, Dispatch.arrives}
 use Rattle.sigsem.specs.declared.semaphore.Obtained.TheVariants.{Owner, Waits}
 use Rattle.sigsem.specs.Semaphores.{free_sem, is_last, is_free_for, is_owned, is_owner, is_too_deep, once_less, once_more, outcome_for, owned_next}
@@ -73,7 +73,7 @@ entered semaphore t heap = with_semaphore semaphore (once_more t (sem_of semapho
 
 -- task t no longer waits for a semaphore; another object stays as it is
 abbrev pub left_by_task : ℕ → Object → Object
-left_by_task t (Semaphore sem waiters) = Semaphore sem (without t waiters)
+left_by_task t (Semaphore sem waiters) = Semaphore sem (without_item t waiters)
 left_by_task t object = object
 
 -- task t waits for no semaphore; the other tasks keep their order

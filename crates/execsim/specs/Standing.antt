@@ -5,13 +5,13 @@ use Rattle.exectrace.specs.Trace.{Call as call_line, Waits, printed_line}
 use Rattle.script.specs.Words.{word_text}
 use Rattle.taskq.specs.declared.TaskState.TheVariants.{Absent, Ready, Running, Waiting, Removed}
 use Rattle.taskq.specs.declared.TaskState.{TaskState}
-use Rattle.scheduler.specs.Schedule.{Schedule, name_of, status_of, task_count}
+use Rattle.scheduler.specs.Schedule.{Schedule, task_name, status_of, task_count}
 use Rattle.execmodel.specs.State.{Call, Scripts, State, program_of}
 
 -- who runs
 abbrev pub runs_text : Option ℕ → Schedule → List ℕ
 runs_text None s = codes "idle\n"
-runs_text (Some t) s = name_of s t ++ codes " runs\n"
+runs_text (Some t) s = task_name s t ++ codes " runs\n"
 
 -- the line of a call that waits
 abbrev pub waits_line : List ℕ → Call → List ℕ
@@ -26,7 +26,7 @@ wait_in (Waiting why) name kept = option_map_or (waits_line name) kept []
 wait_in Removed name kept = []
 
 abbrev pub wait_text : ℕ → Schedule → Scripts → List ℕ
-wait_text t schedule scripts = wait_in (status_of schedule t) (name_of schedule t) (program_of scripts t).kept
+wait_text t schedule scripts = wait_in (status_of schedule t) (task_name schedule t) (program_of scripts t).kept
 
 -- of the first n tasks, in the order of the file
 abbrev pub waits_text : ℕ → Schedule → Scripts → List ℕ

@@ -2,7 +2,7 @@
 ghost use Rattle.std.specs.Prelude.{◌≡◌, ◌↔◌, ◌≢◌, ◌<◌, All, IfOk, length, map, slice_index_or, true, AllPairs};
 ghost use Rattle.script.specs.{Commands.command_view, Machines.softint_names, Names.texts};
 ghost use Rattle.script.specs.Records as records;
-ghost use Rattle.execmodel.specs.{Interrupts.no_server, Interrupts.no_softint, Interrupts.server_at, Pending.softint_named};
+ghost use Rattle.execmodel.specs.{Interrupts.no_server, Interrupts.no_softint, Interrupts.server_at, Pending.softint_number};
 ghost use Rattle.execsim.specs.Views.{code_of_body, interrupting, name_of_body, server_view, softint_view};
 ghost use Rattle.execsim.specs.Resetting.{AreShaped, server_shape, softint_shape};
 
@@ -366,7 +366,7 @@ impl Bodies {
     #[cold]
     #[inline(never)]
     fn softint_found(&self, name: &Name) -> usize
-        ensures { result ≡ softint_named name.now.bytes self.now.softints }
+        ensures { result ≡ softint_number name.now.bytes self.now.softints }
     {
         match self.names.get_index_of(name) {
             Some(index) => index,
@@ -377,7 +377,7 @@ impl Bodies {
     /// The number of the software interrupt of a name; if none has it, a number that none has. Mostly the hint for the name is right.
     #[inline(always)]
     pub fn softint_named(&self, name: &Name) -> usize
-        ensures { result ≡ softint_named name.now.bytes self.now.softints }
+        ensures { result ≡ softint_number name.now.bytes self.now.softints }
     {
         let hint = self.hints[mark_of(name)];
         if has_name(&self.softints, hint, name) {

@@ -3,7 +3,7 @@
 ghost use Rattle.std.specs.Prelude.{◌≡◌, ◌∷◌, [], map};
 ghost use Rattle.exectrace.specs.Short.{short_argument};
 ghost use Rattle.exectrace.specs.Trace as trace;
-ghost use Rattle.scheduler.specs.Schedule.{name_of};
+ghost use Rattle.scheduler.specs.Schedule.{task_name};
 ghost use Rattle.script.specs.Words.{word_text};
 ghost use Rattle.exectrace.specs.{Shown.shown_outcome};
 ghost use Rattle.execmodel.specs.Calls.{done, done_by, answered, answered_by, waiting, silent, silent_by, alerted, alerted_by};
@@ -47,7 +47,7 @@ impl<S: ListSpace> Kernel<S> {
     )
         requires { HasTask t self.now }
         ensures { W.hearing.hears (W.told out.old) (W.told out.new)
-            (trace.Call (name_of self.now.schedule t) (word_text word) (map (short_argument quoted.now.bytes) arguments.now) trace.Done ∷ []) }
+            (trace.Call (task_name self.now.schedule t) (word_text word) (map (short_argument quoted.now.bytes) arguments.now) trace.Done ∷ []) }
     {
         let by = self.name(t);
         out.hear(&Said::Call {

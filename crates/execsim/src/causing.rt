@@ -1,7 +1,7 @@
 //! The word Cause: a software interrupt is caused by its name.
 ghost use Rattle.std.specs.Prelude.{◌≡◌, [], ◌∷◌, option_copied, slice_get, take, true, option_map, unwrap_or};
 ghost use Rattle.exectrace.specs.Trace.{Quoted};
-ghost use Rattle.execmodel.specs.{Calls.ByTask, Calls.name_argument, Pending.softint_named, Causing.does_cause_by, Causing.does_interrupts};
+ghost use Rattle.execmodel.specs.{Calls.ByTask, Calls.name_argument, Pending.softint_number, Causing.does_cause_by, Causing.does_interrupts};
 ghost use Rattle.execsim.specs.{Callers.HasTask, Callers.HasCaller, Agreement.Follows, Views.call_view, Views.caller_view};
 
 use crate::body_calls::is_cause;
@@ -49,7 +49,7 @@ impl<S: ListSpace> Kernel<S> {
     /// The number of the software interrupt of the name that is the first argument of a call.
     #[inline(always)]
     fn softint_of_call(&self, call: &Call) -> IntId
-        ensures { result ≡ softint_named (unwrap_or (name_argument 0 (call_view call.now)) []) self.now.bodies.softints }
+        ensures { result ≡ softint_number (unwrap_or (name_argument 0 (call_view call.now)) []) self.now.bodies.softints }
     {
         match first_name(call) {
             Some(name) => self.softint_named(name),

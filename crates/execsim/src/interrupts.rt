@@ -3,7 +3,7 @@
 ghost use Rattle.std.specs.Prelude.{◌≡◌, is_some, true, slice_get, ◌∷◌, []};
 ghost use Rattle.exectrace.specs.Trace.{Serve};
 ghost use Rattle.softint.specs.Sources.{highest, source_text};
-ghost use Rattle.execmodel.specs.{Interrupts.chain_of, Interrupts.serving_counted, Interrupts.interrupts, Interrupts.runs_chain, Interrupts.runs_server, Pending.softint_named, Pending.with_latch_of};
+ghost use Rattle.execmodel.specs.{Interrupts.chain_of, Interrupts.serving_counted, Interrupts.interrupts, Interrupts.runs_chain, Interrupts.runs_server, Pending.softint_number, Pending.with_latch_of};
 ghost use Rattle.execsim.specs.{Actions.caused, Actions.served, Actions.softint_body, Actions.softint_seen, Actions.source_seen, Actions.without_request, Actions.without_softint, Agreement.Follows};
 
 use crate::bodies::Body;
@@ -34,7 +34,7 @@ impl<S: ListSpace> Kernel<S> {
     /// The number of the software interrupt of a name; if none has it, a number that none has.
     #[inline(always)]
     pub(crate) fn softint_named(&self, name: &Name) -> IntId
-        ensures { result ≡ softint_named name.now.bytes self.now.bodies.softints }
+        ensures { result ≡ softint_number name.now.bytes self.now.bodies.softints }
     {
         self.bodies.softint_named(name)
     }

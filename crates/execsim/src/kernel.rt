@@ -1,7 +1,7 @@
 //! The machine without its failure to write. The methods here touch its fields, and have one equation each.
 ghost use Rattle.std.specs.Prelude.{◌≡◌, ◌↔◌, ◌≤◌, ℕ, List, length, true, false, None, slice_index_or, slice_set, map, replicate, take, option_map};
 ghost use Rattle.exectrace.specs.Short.{short_argument};
-ghost use Rattle.scheduler.specs.Schedule.{name_of, task_count};
+ghost use Rattle.scheduler.specs.Schedule.{task_name, task_count};
 ghost use Rattle.execmodel.specs.{State.booted, State.program_of, State.shared_variables, Calls.content, Calls.evaluated, Calls.stored, Calls.goes_on, Calls.keeps, Signals.is_task};
 ghost use Rattle.script.specs.{Commands.argument_view, Machines.IsMachine};
 ghost use Rattle.execsim.specs.{Agreement.Agrees, Callers.HasTask, Resetting.HasRoomFor, Time.HasTimeFor, Views.IsFor, Views.call_view};
@@ -123,7 +123,7 @@ impl<S: ListSpace> Kernel<S> {
     /// The name of task t.
     pub(crate) fn name(&self, t: TaskId) -> &Name
         requires { HasTask t self.now }
-        ensures { result.now.bytes ≡ name_of self.now.schedule t }
+        ensures { result.now.bytes ≡ task_name self.now.schedule t }
     {
         self.sched.name(t)
     }

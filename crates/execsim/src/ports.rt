@@ -3,7 +3,7 @@
 ghost use Rattle.std.specs.Prelude.{◌≡◌, ◌^◌, ◌<◌, ◌≤◌, negsuc, [], find, true, IfOk, IfSome, IsTrue, OnErr, OnOk, None, Some, option_map, unwrap_or};
 ghost use Rattle.std.specs.Int.{cast_signed, w32};
 ghost use Rattle.execlist.specs.Disciplines.{by_priority};
-ghost use Rattle.scheduler.specs.{Schedule.clears_and_waits, Schedule.frees, Schedule.signals_of, Dispatch.signalled};
+ghost use Rattle.scheduler.specs.{Schedule.clears_and_waits, Schedule.frees_signal, Schedule.signals_of, Dispatch.signalled};
 ghost use Rattle.signals.specs.Signals.{grant, is_own_signal};
 ghost use Rattle.msgport.specs.Port.{new_port};
 ghost use Rattle.execmodel.specs.Ports.{add_port_alert, content_of, is_called, is_port, looked, loses, message_alert, port_or_none, port_size, does_ports, does_create_msg_port, does_delete_msg_port, does_add_port, does_rem_port, does_find_port, does_port_signal, does_port_cause, does_port_ignore, does_new_msg, does_free_msg, does_msg_word, does_set_msg_word, does_msg_type, does_put_msg_by, does_get_msg_by, does_wait_port, does_reply_msg_by};
@@ -83,7 +83,7 @@ impl<S: ListSpace> Kernel<S> {
     /// A signal of a task, if there is a task of that number, is not allocated any more.
     fn give_back(&mut self, task: TaskId, n: u32)
         requires { is_own_signal n ≡ true }
-        ensures { self.new ≡ record self.old { schedule = frees task n self.old.schedule } }
+        ensures { self.new ≡ record self.old { schedule = frees_signal task n self.old.schedule } }
     {
         if task < self.programs.len() {
             self.deallocate_signal(task, n);

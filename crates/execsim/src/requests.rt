@@ -6,7 +6,7 @@ ghost use Rattle.std.specs.Int.{cast_unsigned, w32};
 ghost use Rattle.iorequest.specs.{Request.is_under_way, Requests.unit_error};
 ghost use Rattle.execmodel.specs.Requests.{does_requests, finishes_all_due, finishes_set, opened_for, request_alert, request_of, resting_alert, timer_unit, does_create_io_request, does_delete_io_request, does_open_device, does_close_device, does_set_io, does_do_io, does_send_io, does_check_io, does_wait_io, does_abort_io, does_io_secs, does_io_micros, does_io_error, does_io_flags};
 ghost use Rattle.execmodel.specs.{State.on_heap, State.on_memory, State.on_timer, Interrupts.finishes_for};
-ghost use Rattle.timerdev.specs.Timing.{due_next, looked_at, ticked, until_next};
+ghost use Rattle.timerdev.specs.Timing.{due_next, looked_at, clock_ticked, until_next};
 ghost use Rattle.execheap.specs.{Listing.IsSignal, Listing.ended_if, Listing.finishing, Refusals.alert_of};
 ghost use Rattle.execsim.specs.{Callers.HasTask, Callers.Runs, Actions.aborts_or_alerted, Actions.finishes_all_until, Actions.finishes_with, Actions.tells_or_waits, Agreement.Follows, Time.HasTimeFor, Views.call_view};
 
@@ -372,7 +372,7 @@ impl<S: ListSpace> Kernel<S> {
     /// The clock and system time gain a tick.
     pub(crate) fn gain_tick(&mut self)
         requires { HasTimeFor 1 self.old }
-        ensures { self.new ≡ record self.old { memory = on_timer ticked self.old.memory } }
+        ensures { self.new ≡ record self.old { memory = on_timer clock_ticked self.old.memory } }
     {
         self.memory.tick();
     }

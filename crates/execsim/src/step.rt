@@ -4,7 +4,7 @@ ghost use Rattle.execlist.specs.Disciplines.{by_priority};
 ghost use Rattle.script.specs.Events.{event_ticks};
 ghost use Rattle.scheduler.specs.{Schedule.IsToOneOf, Dispatch.switch_of, Dispatch.rescheduled, Dispatch.added};
 ghost use Rattle.softint.specs.Sources.{highest};
-ghost use Rattle.execmodel.specs.Step.{announced, switches, settle, does, ends, acts, acting, step, steps, request, tick, ticks, starts, all_added, event, events, task_step};
+ghost use Rattle.execmodel.specs.Step.{announced, switches, settle, does, ends, acts, step_action, step, steps, request, tick, ticks, starts, all_added, event, events, task_step};
 ghost use Rattle.execmodel.specs.{State.andthen, State.on_schedule, State.program_of, State.unless_stopped, Calls.next_call, Interrupts.interrupts};
 ghost use Rattle.execsim.specs.{Callers.HasTask, Callers.Runs, Actions.running_task_step, Agreement.Follows, Agreement.FollowsWhileGood, Agreement.Moves, Reached.IsInOrder, Resting.IsSettled, Time.HasTimeFor, Time.IsInTime, Time.IsKnown, Views.call_view};
 
@@ -224,7 +224,7 @@ impl<S: ListSpace> Kernel<S> {
     /// A software interrupt that may run does so, or else the running task does one command.
     fn run_one<W: Witness>(&mut self, out: &mut W)
         requires { IsInOrder self.old }
-        ensures { Follows W.hearing acting self.old self.new (W.told out.old) (W.told out.new) }
+        ensures { Follows W.hearing step_action self.old self.new (W.told out.old) (W.told out.new) }
     {
         match self.take_softint() {
             Some(i) => self.run_softint(i, out),

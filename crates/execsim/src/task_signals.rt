@@ -2,7 +2,7 @@
 ghost use Rattle.std.specs.Prelude.{◌≡◌, ◌-◌, true, nat_eq};
 ghost use Rattle.std.specs.Int.{cast_signed, cast_unsigned, w32};
 ghost use Rattle.execlist.specs.Disciplines.{by_priority};
-ghost use Rattle.scheduler.specs.{Schedule.signals_of, Schedule.come_for, Schedule.after_wait, Schedule.allocates, Schedule.frees, Schedule.sets_signals, Dispatch.signalled};
+ghost use Rattle.scheduler.specs.{Schedule.signals_of, Schedule.come_for, Schedule.after_wait, Schedule.allocates_signal, Schedule.frees_signal, Schedule.sets_signals, Dispatch.signalled};
 ghost use Rattle.signals.specs.Signals.{grant, grant_number, is_own_signal};
 ghost use Rattle.execmodel.specs.Signals.{is_mask, does_alloc_signal, does_free_signal, does_set_signal, does_signal_by, does_wait, does_signals};
 ghost use Rattle.execsim.specs.{Callers.HasTask, Callers.Runs, Callers.HasCaller, Agreement.Follows, Views.call_view, Views.caller_view};
@@ -40,7 +40,7 @@ impl<S: ListSpace> Kernel<S> {
     pub(crate) fn allocate_signal(&mut self, t: TaskId, asked: u32) -> u32
         requires { Runs t self.old }
         ensures answer { result ≡ cast_unsigned w32 (grant_number (grant (cast_signed w32 asked) (signals_of self.old.schedule t))) }
-        ensures next { self.new ≡ record self.old { schedule = allocates t (cast_signed w32 asked) self.old.schedule } }
+        ensures next { self.new ≡ record self.old { schedule = allocates_signal t (cast_signed w32 asked) self.old.schedule } }
     {
         self.sched.alloc_signal(asked.cast_signed()).cast_unsigned()
     }
@@ -49,7 +49,7 @@ impl<S: ListSpace> Kernel<S> {
     pub(crate) fn deallocate_signal(&mut self, t: TaskId, n: u32)
         requires known { HasTask t self.old }
         requires own { is_own_signal n ≡ true }
-        ensures { self.new ≡ record self.old { schedule = frees t n self.old.schedule } }
+        ensures { self.new ≡ record self.old { schedule = frees_signal t n self.old.schedule } }
     {
         self.sched.free_signal(t, n);
     }

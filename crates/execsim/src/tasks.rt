@@ -3,7 +3,7 @@ ghost use Rattle.std.specs.Prelude.{◌≡◌, ◌≢◌, ◌<◌, ◌≤◌, �
 ghost use Rattle.std.specs.Int.{cast_signed, cast_unsigned, w32};
 ghost use Rattle.execlist.specs.{Lists.times, Disciplines.by_priority};
 ghost use Rattle.taskq.specs.Tasks.{is_live, is_ready};
-ghost use Rattle.scheduler.specs.{Schedule.status_of, Schedule.priority_of, Schedule.is_absent, Schedule.leaves, Schedule.removed, Dispatch.added, Dispatch.reprioritized};
+ghost use Rattle.scheduler.specs.{Schedule.status_of, Schedule.priority_of, Schedule.is_absent, Schedule.leaves, Schedule.task_removed, Dispatch.added, Dispatch.reprioritized};
 ghost use Rattle.execmodel.specs.{State.on_heap, Semaphores.dropped, Tasks.is_live_task, Tasks.is_priority, Tasks.is_caller, Tasks.found_number, Tasks.does_set_task_pri, Tasks.does_add_task, Tasks.does_rem_task, Tasks.does_find_task, Tasks.does_tasks};
 ghost use Rattle.execsim.specs.{Callers.HasTask, Callers.Runs, Agreement.Follows, Views.call_view};
 
@@ -81,7 +81,7 @@ impl<S: ListSpace> Kernel<S> {
         requires stopped { self.old.schedule.running ≢ Some t }
         requires room { t < self.old.memory.tasks }
         ensures { self.new ≡ record self.old {
-          schedule = removed t self.old.schedule;
+          schedule = task_removed t self.old.schedule;
           memory = on_heap (dropped t) self.old.memory;
         } }
     {

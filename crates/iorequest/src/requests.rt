@@ -3,7 +3,7 @@ ghost use Rattle.std.specs.Prelude.{◌≡◌, ◌+◌, ◌<◌, ◌^◌, ◌≤
 ghost use Rattle.std.specs.List.{list_any};
 ghost use Rattle.execlist.specs.{Pool.IsStocked, Pool.all_free, Pool.next_number, Answers.fault_or, Answers.kept_or};
 ghost use Rattle.iorequest.specs.Requests.{is_request, request_at, request_made, request_freed, with_request, in_use_fault, begin_fault, unit_error, opened, closed, written_with, is_under_way_at};
-ghost use Rattle.iorequest.specs.{Counting.key_of, Request.is_under_way, Request.is_open, Request.time_of, Request.begun, Request.outcome, Request.finished, Request.reply_port};
+ghost use Rattle.iorequest.specs.{Counting.key_of, Request.is_under_way, Request.is_opened, Request.time_of, Request.in_progress, Request.outcome, Request.finished, Request.reply_port};
 
 use crate::fault::ReqFault;
 use crate::request::{Begun, ReqState, Request, UNIT_WAITUNTIL};
@@ -188,7 +188,7 @@ impl Requests {
         requires clock { now + time_of (request_at r self.old) < 2 ^ 64 }
         ensures answer { result ≡ fault_or (begin_fault r self.old) (outcome now sys (request_at r self.old)) }
         ensures next { self.new ≡ kept_or (begin_fault r self.old) self.old
-            (with_request r (begun quick sys (request_at r self.old)) self.old) }
+            (with_request r (in_progress quick sys (request_at r self.old)) self.old) }
     {
         let request = self.request(r);
         if request.is_under_way() {
@@ -250,7 +250,7 @@ impl Requests {
     /// Answers whether a request is open. Project rule: Exec cannot say.
     pub fn is_open(&self, r: ReqId) -> bool
         requires { IsTrue (is_request r self.now) }
-        ensures { result ≡ is_open (request_at r self.now) }
+        ensures { result ≡ is_opened (request_at r self.now) }
     {
         self.request(r).is_open()
     }

@@ -2,7 +2,7 @@
 -- is freed leaves nothing after.
 use Rattle.std.proofs.Common.{◌≡◌, ◌≢◌, ℕ, zero, suc, ◌<◌, ◌≤◌, true, false, cond, not, eqb, List, [], ◌∷◌, ◌++◌, length, refl, sym, ◌∙◌, ap, subst, arith, inl, inr, Option, Some, None, is_some, slice_set, IsTrue, drop, replicate, length-append, ◌⊎◌, ◌||◌, Bool, nat_lt, unwrap_or, IsSome, eq-eqb, ne_eqb, lt-ltb, length-set, length-drop}
 use Rattle.std.proofs.lemmas.{Bool.cond-true, Bool.cond-false, Bool.cases_eq, Bool.cases_lt, List.length-replicate}
-use Rattle.execlist.specs.{Order.first, Order.without, Lists.sequence, Lists.home, Lists.is_at, Lists.times, Pool.slot, Pool.Pooled, Pool.free_below}
+use Rattle.execlist.specs.{Order.first, Order.without_item, Lists.sequence, Lists.home, Lists.is_at, Lists.times, Pool.slot, Pool.Pooled, Pool.free_below}
 use Rattle.msgport.specs.declared.fault.PortFault.TheVariants.{Unknown, Link}
 use Rattle.msgport.specs.Ports.{MessagePorts, IsHeld, is_port, is_message, is_queued, is_linked, loose_fault, reply_fault, messages_of, appended, port_freed, message_freed, no_ports}
 use Rattle.msgport.specs.{Port.Port, declared.message.Message.Message}
@@ -68,10 +68,10 @@ none_or None never = refl
 none_or (Some p) never = absurd (never p refl)
 
 -- what is not in a sequence leaves it as it is
-pub without_absent : (n : ℕ) (xs : List ℕ) → nat_lt 0 (times n xs) ≡ false → without n xs ≡ xs
+pub without_absent : (n : ℕ) (xs : List ℕ) → nat_lt 0 (times n xs) ≡ false → without_item n xs ≡ xs
 without_absent n [] none = refl
 without_absent n (x ∷ xs) none = by_case (eqb x n) none (without_absent n xs) where
-  by_case : (b : Bool) → nat_lt 0 (cond b (suc (times n xs)) (times n xs)) ≡ false → (nat_lt 0 (times n xs) ≡ false → without n xs ≡ xs) → cond (not b) (x ∷ without n xs) (without n xs) ≡ x ∷ xs
+  by_case : (b : Bool) → nat_lt 0 (cond b (suc (times n xs)) (times n xs)) ≡ false → (nat_lt 0 (times n xs) ≡ false → without_item n xs ≡ xs) → cond (not b) (x ∷ without_item n xs) (without_item n xs) ≡ x ∷ xs
   by_case true z rest = absurd (let bad : true ≡ false = sym (lt-ltb 0 (suc (times n xs)) (omega arith)) ∙ z in cc)
   by_case false z rest = ap (λ l. x ∷ l) (rest z)
 

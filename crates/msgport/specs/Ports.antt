@@ -1,7 +1,7 @@
 -- What calls on ports see: the ports and the messages by number, the messages of each port, those that are held, and the public ports
 -- (RKM Libraries, Exec Messages and Ports).
 use Rattle.std.specs.Prelude.{◌≡◌, ℕ, nat_lt, ℤ, Bool, not, ◌||◌, is_some, IsTrue, if◌then◌else◌, List, [], ◌∷◌, ◌++◌, length, drop, replicate, slice_set, Option, Some, None, unwrap_or}
-use Rattle.execlist.specs.{Order.enqueue, Order.first, Order.without, Lists.KeyData, Lists.blank, Lists.sequence, Lists.home, Lists.is_at, Lists.pri_of, Lists.times, Pool.Pooled, Pool.all_free, Pool.free_below, Pool.given, Pool.released, Pool.slot, Pool.written}
+use Rattle.execlist.specs.{Order.enqueue, Order.first, Order.without_item, Lists.KeyData, Lists.blank, Lists.sequence, Lists.home, Lists.is_at, Lists.pri_of, Lists.times, Pool.Pooled, Pool.all_free, Pool.free_below, Pool.given, Pool.released, Pool.slot, Pool.written}
 use Rattle.msgport.specs.declared.fault.PortFault.TheVariants.{NotEmpty, Link, Unknown}
 use Rattle.msgport.specs.{declared.fault.PortFault.PortFault, declared.message.Message.Message, Port.Port, Port.new_port}
 
@@ -176,12 +176,12 @@ held m s = record s { holding = s.holding ++ m ∷ [] }
 
 -- message m is not held any more
 abbrev pub let_go : ℕ → MessagePorts → MessagePorts
-let_go m s = record s { holding = without m s.holding }
+let_go m s = record s { holding = without_item m s.holding }
 
 -- message m is in no port any more
 abbrev pub left_port : ℕ → Option ℕ → MessagePorts → MessagePorts
 left_port m None s = s
-left_port m (Some p) s = record s { queues = slice_set s.queues p (without m (messages_of p s)); places = slice_set s.places m None }
+left_port m (Some p) s = record s { queues = slice_set s.queues p (without_item m (messages_of p s)); places = slice_set s.places m None }
 
 abbrev pub taken_out : ℕ → MessagePorts → MessagePorts
 taken_out m s = left_port m (home s.places m) s
@@ -200,7 +200,7 @@ made_public p name pri s = record s { keys = keyed p name pri s.keys; public = e
 
 -- port p is not public any more (autodoc exec.library/RemPort)
 abbrev pub made_private : ℕ → MessagePorts → MessagePorts
-made_private p s = record s { public = without p s.public }
+made_private p s = record s { public = without_item p s.public }
 
 -- ---- what always holds
 

@@ -6,7 +6,7 @@
 ghost use Rattle.std.specs.Prelude.{◌≡◌, ◌≢◌, ℕ, ◌<◌, ◌≤◌, length, slice_set, map, if◌then◌else◌, Some, None, IsTrue, IsSome, IfSome, IfOk};
 ghost use Rattle.execlist.specs.{Lists.times, Order.enqueue, Disciplines.by_priority, Disciplines.pri_at};
 ghost use Rattle.taskq.specs.Tasks.{state_at, is_live, is_ready};
-ghost use Rattle.scheduler.specs.Schedule.{task_count, name_of, priority_of, status_of, unstarted, is_absent, leaves, removed, found, switch_for, IsToOneOf, takes_over, begins, renewed, quantum_ticked, waits_at_semaphore, is_at_semaphore};
+ghost use Rattle.scheduler.specs.Schedule.{task_count, task_name, priority_of, status_of, unstarted, is_absent, leaves, task_removed, found, switch_for, IsToOneOf, takes_over, begins, renewed, quantum_ticked, waits_at_semaphore, is_at_semaphore};
 ghost use Rattle.scheduler.specs.{Dispatch.arrives, Dispatch.displaced, Dispatch.switch_of, Dispatch.after_switch, Dispatch.rescheduled, Dispatch.added, Dispatch.reprioritized, Sound.is_stopped, Sound.IsToReady, Settled.begins_anew, Settled.stays};
 
 mod nesting;
@@ -179,7 +179,7 @@ impl<S: ListSpace> Sched<S> {
     /// Source: RKM Libraries, Exec Tasks: `ln_Name`.
     pub fn name(&self, t: TaskId) -> &Name
         requires { t < task_count self.now }
-        ensures { result.now.bytes ≡ name_of self.now t }
+        ensures { result.now.bytes ≡ task_name self.now t }
     {
         self.queue.name(t)
     }
@@ -260,7 +260,7 @@ impl<S: ListSpace> Sched<S> {
     pub fn remove(&mut self, t: TaskId)
         requires live { IsTrue (is_live (status_of self.old t)) }
         requires stopped { self.old.running ≢ Some t }
-        ensures next { self.new ≡ removed t self.old }
+        ensures next { self.new ≡ task_removed t self.old }
         ensures tasks { task_count self.new ≡ task_count self.old }
     {
         self.settled = false;

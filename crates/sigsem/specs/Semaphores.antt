@@ -1,7 +1,7 @@
 -- What calls on signal semaphores see: the semaphores by number, the tasks that wait at each, and where each task waits
 -- (RKM Libraries, Exec Semaphores).
 use Rattle.std.specs.Prelude.{◌≡◌, ℕ, ◌+◌, ◌-◌, ◌≤◌, ◌==◌, ◌&&◌, ◌||◌, nat_lt, Bool, not, is_some, IsTrue, MatchOption, if◌then◌else◌, List, [], ◌∷◌, ◌++◌, length, drop, replicate, slice_set, Option, Some, None, unwrap_or}
-use Rattle.execlist.specs.{Order.first, Order.without, Lists.sequence, Lists.home, Lists.is_at, Lists.times, Pool.Pooled, Pool.all_free, Pool.given, Pool.released, Pool.slot, Pool.written}
+use Rattle.execlist.specs.{Order.first, Order.without_item, Lists.sequence, Lists.home, Lists.is_at, Lists.times, Pool.Pooled, Pool.all_free, Pool.given, Pool.released, Pool.slot, Pool.written}
 use Rattle.sigsem.specs.declared.fault.SemFault.TheVariants.{NotOwner, TooDeep, Busy}
 use Rattle.sigsem.specs.declared.semaphore.Obtained.TheVariants.{Owner, Waits}
 use Rattle.sigsem.specs.{declared.fault.SemFault.SemFault, declared.semaphore.Sem.Sem, declared.semaphore.Obtained.Obtained}
@@ -157,7 +157,7 @@ let_go s m =
 -- task t waits at the semaphore no more, if it waits at one; the others keep their order (project rule)
 abbrev pub dropped_from : Option ℕ → ℕ → Semaphores → Semaphores
 dropped_from None t m = m
-dropped_from (Some s) t m = record m { queues = slice_set m.queues s (without t (waiters_of s m)); places = slice_set m.places t None }
+dropped_from (Some s) t m = record m { queues = slice_set m.queues s (without_item t (waiters_of s m)); places = slice_set m.places t None }
 
 abbrev pub dropped : ℕ → Semaphores → Semaphores
 dropped t m = dropped_from (waits_at t m) t m

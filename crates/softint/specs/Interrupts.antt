@@ -2,7 +2,7 @@
 -- (RKM Libraries, Exec Interrupts).
 use Rattle.std.specs.Prelude.{◌≡◌, ℕ, ℤ, pos, negsuc, ◌-ℤ◌, ◌*◌, ◌⊎◌, ◌==◌, Bool, true, false, not, if◌then◌else◌, List, [], ◌∷◌, ◌++◌, length, map, filter, slice_index_or, Option, Some, None, All}
 use Rattle.std.specs.List.{range_with_len}
-use Rattle.execlist.specs.{Order.enqueue, Order.order, Order.without, Disciplines.pri_at, Lists.home, Lists.times}
+use Rattle.execlist.specs.{Order.enqueue, Order.order, Order.without_item, Disciplines.pri_at, Lists.home, Lists.times}
 use Rattle.softint.specs.declared.source.Source.TheVariants.{Ports, Vertb, Exter}
 use Rattle.softint.specs.{declared.source.Source.Source, declared.latches.Latches.Latches, declared.interrupt.Soft.Soft, declared.interrupt.Server.Server, Sources.is_source, Sources.with_latch, Sources.no_latches}
 
@@ -34,7 +34,7 @@ causes i m = if is_caused i m then m else record m { caused = enqueue (pri_at m.
 -- a software interrupt is not caused any more
 abbrev pub taken_off : Option ℕ → Interrupts → Interrupts
 taken_off None m = m
-taken_off (Some i) m = record m { caused = without i m.caused }
+taken_off (Some i) m = record m { caused = without_item i m.caused }
 
 -- ---- sources
 

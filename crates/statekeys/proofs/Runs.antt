@@ -6,7 +6,7 @@ use Rattle.script.specs.declared.event.Event.TheVariants.{Run, Tick, Irq}
 use Rattle.script.specs.{declared.event.Event.Event, File.MachineData, File.TaskData, File.SoftintData, File.ServerData}
 use Rattle.softint.specs.declared.source.Source.{Source}
 use Rattle.softint.specs.declared.source.Source.TheVariants as source
-use Rattle.timerdev.specs.Timing.{ticked as clock_ticked}
+use Rattle.timerdev.specs.Timing.{clock_ticked}
 use Rattle.execmodel.specs.State.{Memory, Program, State, Outcome, quiet, andthen, unless_stopped, on_memory, on_timer, on_pending, no_program, new_program, booted}
 use Rattle.execmodel.specs.Interrupts.{no_softint, no_server, interrupts}
 use Rattle.execmodel.specs.Pending.{with_latch_of}

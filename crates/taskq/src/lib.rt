@@ -4,7 +4,7 @@
 
 ghost use Rattle.std.specs.Prelude.{◌≡◌, ◌≢◌, ℕ, ◌<◌, ◌≤◌, List, [], ◌∷◌, Option, Some, None, length, replicate, slice_set, map, find, true, IfOk, IfSome, IsTrue, if◌then◌else◌};
 ghost use Rattle.std.specs.List.{range_with_len};
-ghost use Rattle.execlist.specs.{Order.enqueue, Order.first, Order.without, Lists.part_after, Lists.part_from, Lists.times, Disciplines.pri_at};
+ghost use Rattle.execlist.specs.{Order.enqueue, Order.first, Order.without_item, Lists.part_after, Lists.part_from, Lists.times, Disciplines.pri_at};
 ghost use Rattle.taskq.specs.Tasks.{state_at, name_at, is_ready, is_live, is_live_named, pris_of};
 
 mod names;
@@ -168,7 +168,7 @@ impl<S: ListSpace> TaskQ<S> {
     /// at a time. RKM Libraries, Exec Tasks: scheduling.
     pub fn run(&mut self, t: TaskId)
         requires ready { state_at self.old.states t ≡ TaskState.Ready }
-        ensures ready { self.new.ready ≡ without t self.old.ready }
+        ensures ready { self.new.ready ≡ without_item t self.old.ready }
         ensures states { self.new.states ≡ slice_set self.old.states t TaskState.Running }
         ensures pris { self.new.pris ≡ self.old.pris }
         ensures names { self.new.names ≡ self.old.names }
@@ -195,7 +195,7 @@ impl<S: ListSpace> TaskQ<S> {
         requires { t < length self.old.states }
         ensures value { result ≡ pri_at self.old.pris t }
         ensures ready { self.new.ready ≡ (if is_ready (state_at self.old.states t)
-            then enqueue (pri_at self.new.pris) (without t self.old.ready) t
+            then enqueue (pri_at self.new.pris) (without_item t self.old.ready) t
             else self.old.ready) }
         ensures states { self.new.states ≡ self.old.states }
         ensures pris { self.new.pris ≡ slice_set self.old.pris t pri }
@@ -216,7 +216,7 @@ impl<S: ListSpace> TaskQ<S> {
     /// Autodoc exec.library/RemTask.
     pub fn remove(&mut self, t: TaskId)
         requires live { IsTrue (is_live (state_at self.old.states t)) }
-        ensures ready { self.new.ready ≡ without t self.old.ready }
+        ensures ready { self.new.ready ≡ without_item t self.old.ready }
         ensures states { self.new.states ≡ slice_set self.old.states t TaskState.Removed }
         ensures pris { self.new.pris ≡ self.old.pris }
         ensures names { self.new.names ≡ self.old.names }

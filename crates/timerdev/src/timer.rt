@@ -1,6 +1,6 @@
 //! The clock, system time, and the requests that wait.
 ghost use Rattle.std.specs.Prelude.{◌≡◌, ◌<◌, ◌≤◌, ◌+◌, ◌^◌, false, not, IfOk, IfSome, IsTrue};
-ghost use Rattle.timerdev.specs.Timing.{AtClock, AtSystem, begins_to_wait, due_next, is_waiting, looked_at, new_timer, system_set, ticked, until_next, waits_no_more};
+ghost use Rattle.timerdev.specs.Timing.{AtClock, AtSystem, begins_to_wait, due_next, is_waiting, looked_at, new_timer, system_set, clock_ticked, until_next, waits_no_more};
 ghost use Rattle.timerdev.specs.Held.{due_for, on_timer, taken_off};
 
 mod readers;
@@ -111,7 +111,7 @@ impl<S: ListSpace> Timer<S> {
     pub fn tick(&mut self)
         requires clock { self.old.timer.clock + self.old.timer.tick_micros < 2 ^ 64 }
         requires system { self.old.timer.system + self.old.timer.tick_micros < 2 ^ 64 }
-        ensures { self.new ≡ on_timer ticked self.old }
+        ensures { self.new ≡ on_timer clock_ticked self.old }
     {
         self.clock += u64::from(self.tick_micros);
         self.system += u64::from(self.tick_micros);

@@ -2,9 +2,9 @@
 //! by address (RKM Devices, Introduction to Amiga System Devices; Devices, timer device).
 ghost use Rattle.std.specs.Prelude.{◌≡◌, ◌<◌, ◌≤◌, ◌+◌, ◌^◌, false, negsuc, None, Some, IfSome, IsSome, IsTrue, length, option_map, IfOk, true, OnErr, OnOk};
 ghost use Rattle.execlist.specs.{Lists.home, Pool.slot};
-ghost use Rattle.iorequest.specs.{declared.request.ReqState.TheVariants.Replied, Request.finished, Request.idle_request, Request.is_open, Request.is_under_way, Request.reply_port, Request.time_of, Requests.closed, Requests.is_request, Requests.opened, Requests.request_at, Requests.unit_error, Requests.with_request, Requests.written_with};
+ghost use Rattle.iorequest.specs.{declared.request.ReqState.TheVariants.Replied, Request.finished, Request.idle_request, Request.is_opened, Request.is_under_way, Request.reply_port, Request.time_of, Requests.closed, Requests.is_request, Requests.opened, Requests.request_at, Requests.unit_error, Requests.with_request, Requests.written_with};
 ghost use Rattle.msgport.specs.Ports.{is_message, is_port, is_queued};
-ghost use Rattle.timerdev.specs.Timing.{due_next, looked_at, ticked, until_next};
+ghost use Rattle.timerdev.specs.Timing.{due_next, looked_at, clock_ticked, until_next};
 ghost use Rattle.execmodel.specs.{State.Request, State.on_heap, State.on_timer, Memory.freed, Memory.placed, GivingWay.after_asking_for_object, Objects.place_for_object, Ports.port_of, Ports.port_alert};
 ghost use Rattle.execheap.specs.{Changes.reserved, Numbered.IsKnown, Numbered.message_of_request, Numbered.places, Numbered.shown_memory, Numbered.shown_heap, Requesting.on_requests, Requesting.on_timing, Refusals.alert_of, Listing.IsSignal, Listing.aborted, Listing.aborting, Listing.acting_begun, Listing.awaited_for, Listing.ended_if, Listing.finishing, Listing.taken_if_replied};
 ghost use Rattle.execmodel.specs.Requests as model;
@@ -129,7 +129,7 @@ impl<S: ListSpace> Objects<S> {
     pub fn begin_request(&mut self, r: ReqId, quick: bool) -> Action
         requires live { IsTrue (is_request r self.old.requests) }
         requires rests { is_under_way (request_at r self.old.requests) ≡ false }
-        requires open { IsTrue (is_open (request_at r self.old.requests)) }
+        requires open { IsTrue (is_opened (request_at r self.old.requests)) }
         requires loose { home self.old.ports.places (message_of_request r self.old) ≡ None }
         ensures answer { result ≡ next.acting_so (next.goes_on r self.old) quick r self.old }
         ensures next { self.new ≡ next.begun_now quick r self.old }
@@ -297,7 +297,7 @@ impl<S: ListSpace> Objects<S> {
     /// Source: RKM Devices, timer device: UNIT_VBLANK; that ticks alone move the clock is a project rule.
     pub fn tick(&mut self)
         requires { self.old.timing.timer.clock + self.old.timing.timer.tick_micros + 2 ^ 54 ≤ 2 ^ 64 }
-        ensures { self.new ≡ on_timing ticked self.old }
+        ensures { self.new ≡ on_timing clock_ticked self.old }
     {
         self.timer.tick();
     }
@@ -362,7 +362,7 @@ impl<S: ListSpace> Objects<S> {
         ensures live { IfOk result (λ r. IsTrue (is_request r self.now.requests)) }
         ensures content { IfOk result (λ r. request_at r self.now.requests ≡ model.request_of request (shown_heap self.now)) }
         ensures rests { IfOk result (λ r. is_under_way (request_at r self.now.requests) ≡ false) }
-        ensures open { IfOk result (λ r. IsTrue (is_open (request_at r self.now.requests))) }
+        ensures open { IfOk result (λ r. IsTrue (is_opened (request_at r self.now.requests))) }
         ensures loose { IfOk result (λ r. home self.now.ports.places (message_of_request r self.now) ≡ None) }
         ensures known { IsKnown self.now }
     {
@@ -385,7 +385,7 @@ impl<S: ListSpace> Objects<S> {
         ensures live { IfOk result (λ r. IsTrue (is_request r self.now.requests)) }
         ensures content { IfOk result (λ r. request_at r self.now.requests ≡ model.request_of request (shown_heap self.now)) }
         ensures rests { IfOk result (λ r. is_under_way (request_at r self.now.requests) ≡ false) }
-        ensures open { IfOk result (λ r. IsTrue (is_open (request_at r self.now.requests))) }
+        ensures open { IfOk result (λ r. IsTrue (is_opened (request_at r self.now.requests))) }
         ensures loose { IfOk result (λ r. home self.now.ports.places (message_of_request r self.now) ≡ None) }
         ensures known { IsKnown self.now }
     {
@@ -402,7 +402,7 @@ impl<S: ListSpace> Objects<S> {
         ensures live { IfOk result (λ pair. IsTrue (is_request pair.0 self.now.requests)) }
         ensures content { IfOk result (λ pair. request_at pair.0 self.now.requests ≡ model.request_of request (shown_heap self.now)) }
         ensures rests { IfOk result (λ pair. is_under_way (request_at pair.0 self.now.requests) ≡ false) }
-        ensures open { IfOk result (λ pair. IsTrue (is_open (request_at pair.0 self.now.requests))) }
+        ensures open { IfOk result (λ pair. IsTrue (is_opened (request_at pair.0 self.now.requests))) }
         ensures loose { IfOk result (λ pair. home self.now.ports.places (message_of_request pair.0 self.now) ≡ None) }
         ensures bit { IfOk result (λ pair. pair.1 ≡ (port_of (model.request_of request (shown_heap self.now)).port (shown_heap self.now)).bit) }
         ensures signal { IfOk result (λ pair. pair.1 < 32) }
@@ -692,7 +692,7 @@ impl<S: ListSpace> Heap<S> {
     /// and the longest time of a request can be added. Devices, timer device; project rule: both count ticks alone.
     pub fn tick(&mut self)
         requires { self.old.timer.clock + self.old.timer.tick_micros + 2 ^ 54 ≤ 2 ^ 64 }
-        ensures { self.new ≡ on_timer ticked self.old }
+        ensures { self.new ≡ on_timer clock_ticked self.old }
     {
         self.objects.tick();
     }

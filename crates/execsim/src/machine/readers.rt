@@ -2,7 +2,7 @@
 //! machine, and nothing takes memory. Each call may be made between any two events.
 ghost use Rattle.std.specs.Prelude.{◌≡◌, IfSome, is_some, length, nat_lt, option_copied, slice_get, option_map};
 ghost use Rattle.execlist.specs.{Lists.part_from, Order.first};
-ghost use Rattle.scheduler.specs.Schedule.{name_of};
+ghost use Rattle.scheduler.specs.Schedule.{task_name};
 ghost use Rattle.execheap.specs.BlockViews.{block_view};
 ghost use Rattle.execmodel.specs.{Memory.block_at, State.program_of};
 ghost use Rattle.execsim.specs.{Actions.softint_seen, Readers.actor_seen, Readers.machine_view, Readers.task_seen, Views.call_view};
@@ -87,7 +87,7 @@ impl<S: ListSpace> Machine<S> {
     /// Source: RKM Libraries, Exec Tasks: `ln_Name`.
     pub fn task_name(&self, t: TaskId) -> Option<&str>
         ensures known { is_some result ≡ nat_lt t (length self.now.seen.scripts.programs) }
-        ensures name { IfSome result (λ name. name.now ≡ name_of self.now.seen.schedule t) }
+        ensures name { IfSome result (λ name. name.now ≡ task_name self.now.seen.schedule t) }
     {
         if t < self.kernel.programs.len() {
             Some(self.kernel.sched.name(t).as_str())
