@@ -6,7 +6,7 @@ use Rattle.execlist.proofs.Pools.{item_of, slot_known, slot_other, slot_same}
 use Rattle.iorequest.specs.Request.{asks_time, in_progress, done_state, finished, idle_request, is_under_way, is_way, reply_port, second}
 use Rattle.iorequest.specs.{declared.request.Request.Request as TimerRequest, declared.fault.ReqFault.TheVariants.InUse, Requests.in_use_fault, Requests.is_request, Requests.request_at, Requests.with_request}
 use Rattle.msgport.specs.declared.fault.PortFault.TheVariants.{Link, Unknown}
-use Rattle.msgport.specs.{Port.Port, Ports.MessagePorts, Ports.is_held, Ports.is_message, Ports.is_port, Ports.is_queued as is_in_port, Ports.let_go, Ports.loose_fault, Ports.nt_replymsg, Ports.posted, Ports.queued_fault, Ports.taken_out}
+use Rattle.msgport.specs.{Port.Port, Ports.MessagePorts, Ports.is_held, Ports.is_message, Ports.is_port, Ports.is_queued as is_in_port, Ports.let_go, Ports.linked_fault, Ports.nt_replymsg, Ports.posted, Ports.queued_fault, Ports.taken_out}
 use Rattle.msgport.specs.Ports as ports
 use Rattle.timerdev.specs.{Held.Held, Held.on_timer, Timing.Due, Timing.begins_to_wait, Timing.is_waiting, Timing.waits_no_more}
 use Rattle.execheap.specs.Numbered.{Numbered, Fits, IsInTime, IsKept, IsSound, is_way_at, message_of_request, own_shape, places, shape}
@@ -181,9 +181,9 @@ module _ {s : Numbered} (sound : IsSound s) where
 
   -- it may be held if the request is idle and its reply is in no port
   pub request_loose : (r m : ℕ) → IsTrue (is_request r s.requests) → is_under_way (request_at r s.requests) ≡ false
-      → home s.ports.places (message_of_request r s) ≡ None → m ≡ message_of_request r s → loose_fault m s.ports ≡ None
+      → home s.ports.places (message_of_request r s) ≡ None → m ≡ message_of_request r s → linked_fault m s.ports ≡ None
   request_loose r m lives rests loose is =
-      ap (λ n. loose_fault n s.ports) is
+      ap (λ n. linked_fault n s.ports) is
       ∙ (λ i. if not (message_there r (message_of_request r s) lives refl i) then Some Unknown
       else (if is_some (loose i) || (kept.in_time.held r ∙ not_way r s.requests rests) i then Some Link else None))
 

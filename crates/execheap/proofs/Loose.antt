@@ -3,14 +3,14 @@ use Rattle.std.proofs.Common.{◌≡◌, ℕ, ◌+◌, ◌<◌, false, ap, sym, 
 use Rattle.execlist.specs.{Lists.home, Order.without_item, Pool.slot, Pool.written}
 use Rattle.msgport.proofs.Linking.{without_absent}
 use Rattle.msgport.specs.declared.fault.PortFault.TheVariants.{Link, Unknown}
-use Rattle.msgport.specs.{declared.message.Message.Message, Ports.MessagePorts, Ports.is_held, Ports.is_message, Ports.is_port, Ports.let_go, Ports.loose_fault, Ports.nt_replymsg, Ports.post_fault, Ports.posted, Ports.reply_fault}
+use Rattle.msgport.specs.{declared.message.Message.Message, Ports.MessagePorts, Ports.is_held, Ports.is_message, Ports.is_port, Ports.let_go, Ports.linked_fault, Ports.nt_replymsg, Ports.post_fault, Ports.posted, Ports.reply_fault}
 use Rattle.execheap.specs.declared.tag.Kind.TheVariants as variant
 use Rattle.execheap.specs.Table as table
 use Rattle.execheap.specs.{Changes.on_ports, Numbered.Numbered, Numbered.IsInTime, Numbered.IsKept, Numbered.places}
 use Rattle.execheap.proofs.{Front.message_live, Front.message_small, KeptPorts.kept_message_set, KeptPorts.kept_posted}
 
 pub unheld_loose : {s : Numbered} → IsInTime s → (n : ℕ) → n < s.table.pool → IsTrue (is_message n s.ports) → home s.ports.places n ≡ None
-    → loose_fault n s.ports ≡ None
+    → linked_fault n s.ports ≡ None
 unheld_loose t n small lives loose =
     λ i. if not (lives i) then Some Unknown else (if is_some (loose i) || t.none_held n small i then Some Link else None)
 
@@ -20,7 +20,7 @@ module _ {s : Numbered} (kept : IsKept s) (sound : table.IsSound s.table) (m : �
 
   -- ---- it is not refused
 
-  pub none_loose : home s.ports.places m ≡ None → loose_fault m s.ports ≡ None
+  pub none_loose : home s.ports.places m ≡ None → linked_fault m s.ports ≡ None
   none_loose loose = unheld_loose kept.in_time m (message_small kept sound m has) (message_live kept sound m has) loose
 
   pub none_posted : (p : ℕ) → IsTrue (is_port p s.ports) → home s.ports.places m ≡ None → post_fault p m s.ports ≡ None

@@ -64,7 +64,7 @@ module _ {s : Numbered} {n a : ℕ} {t : Tabled} (q : MessagePorts) where
     below = message_small gone.kept gone.sound n (ap is_some gone.live)
 
     -- one that is in no port may be freed
-    pub message_loose : home s.ports.places n ≡ None → ports.loose_fault n s.ports ≡ None
+    pub message_loose : home s.ports.places n ≡ None → ports.linked_fault n s.ports ≡ None
     message_loose loose = unheld_loose gone.kept.in_time n below message_lives loose
 
     module _ (is : q ≡ message_freed n s.ports) where

@@ -1,6 +1,6 @@
 //! Why a call on an object is refused.
 ghost use Rattle.std.specs.Prelude.{◌≡◌};
-ghost use Rattle.execheap.specs.Refusals.{code_of, told};
+ghost use Rattle.execheap.specs.Refusals.{code_of, as_refusal};
 
 use script::Alert;
 use sigsem::fault::SemFault;
@@ -48,8 +48,8 @@ impl Refusal {
 }
 
 /// What a call on a semaphore answers by address: any fault of the semaphores is the refusal Sem.
-pub(crate) fn told<A>(answer: Result<A, SemFault>) -> Result<A, Refusal>
-    ensures { result ≡ told answer }
+pub(crate) fn as_refusal<A>(answer: Result<A, SemFault>) -> Result<A, Refusal>
+    ensures { result ≡ as_refusal answer }
 {
     match answer {
         Ok(answer) => Ok(answer),

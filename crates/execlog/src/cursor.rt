@@ -47,7 +47,7 @@ impl Cursor {
     }
 
     /// Behind the line of the task's command.
-    pub(crate) fn behind_task() -> Cursor {
+    pub(crate) fn after_task() -> Cursor {
         Cursor {
             actor: None,
             body: None,

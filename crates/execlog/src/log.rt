@@ -73,7 +73,7 @@ impl<'a, F: Form> Log<'a, F> {
             self.text.bytes.as_slice(),
             &mut self.page,
         )?;
-        self.page.turn(out);
+        self.page.flush_if_full(out);
         Ok(())
     }
 }

@@ -27,7 +27,7 @@ pub struct Page {
     cells: Vec<u8>,
     len: usize,
     /// At how many bytes the first ones are put.
-    due: usize,
+    flush_at: usize,
 }
 
 impl Model for Page {
@@ -63,7 +63,7 @@ impl Page {
         Page {
             cells: Vec::new(alloc),
             len: 0,
-            due: MOST_KEPT - HEADING,
+            flush_at: MOST_KEPT - HEADING,
         }
     }
 
@@ -76,10 +76,10 @@ impl Page {
 
     /// Puts the first bytes if there are many, and keeps the others.
     #[inline(always)]
-    pub(crate) fn turn<W: Sink>(&mut self, out: &mut W)
+    pub(crate) fn flush_if_full<W: Sink>(&mut self, out: &mut W)
         ensures { Adds (W.tape out.old) (W.tape out.new) self.old self.new [] }
     {
-        if self.len >= self.due {
+        if self.len >= self.flush_at {
             self.put_first(out);
         }
     }
@@ -91,11 +91,15 @@ impl Page {
         ensures { Adds (W.tape out.old) (W.tape out.new) self.old self.new [] }
     {
         let len = self.len;
-        let first = if self.due < len { self.due } else { len };
+        let first = if self.flush_at < len {
+            self.flush_at
+        } else {
+            len
+        };
         put(&self.cells[..first], out);
         self.cells.copy_within(first..len, 0);
         self.len = len - first;
-        self.due = MOST_KEPT;
+        self.flush_at = MOST_KEPT;
     }
 
     /// Adds bytes.

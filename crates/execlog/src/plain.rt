@@ -174,11 +174,11 @@ impl Plain<'_> {
             None => self.push_first_other(heading, Cursor::new(Some(actor)), line, page),
             Some(place) => {
                 if place.is_silent {
-                    self.push_first_other(heading, Cursor::behind_task(), line, page)
+                    self.push_first_other(heading, Cursor::after_task(), line, page)
                 } else {
                     let spot = Spot::Task(actor.task, actor.place);
                     self.push_command(heading, spot, place, line, page)?;
-                    Ok(Cursor::behind_task())
+                    Ok(Cursor::after_task())
                 }
             }
         }
@@ -195,7 +195,7 @@ impl Plain<'_> {
         ensures { OnOk result (Gains (IsRow (ShowsAll self.now.filter) heading.entry.moment (line_at self.now.book.now heading.entry.moment.actor) line.now) page.old page.new) }
     {
         match heading.moment.actor {
-            None => self.push_first_other(heading, Cursor::behind_task(), line, page),
+            None => self.push_first_other(heading, Cursor::after_task(), line, page),
             Some(actor) => self.push_first_of_step(heading, actor, line, page),
         }
     }

@@ -216,14 +216,14 @@ impl<S: ListSpace> Kernel<S> {
     }
 
     /// The call answers nothing, and the body goes on.
-    pub(crate) fn done_in_body<W: Witness>(&mut self, name: &Name, call: &Call, out: &mut W)
+    pub(crate) fn end_call_in_body<W: Witness>(&mut self, name: &Name, call: &Call, out: &mut W)
         ensures { Follows W.hearing (done_by (ByBody name.now.bytes) (call_view call.now)) self.old self.new (W.told out.old) (W.told out.new) }
     {
         self.say_in_body(name, call, CallOutcome::Done, out);
     }
 
     /// The call answers, into its target if it has one, and the body goes on.
-    pub(crate) fn answered_in_body<W: Witness>(
+    pub(crate) fn answer_in_body<W: Witness>(
         &mut self,
         name: &Name,
         call: &Call,
@@ -238,7 +238,7 @@ impl<S: ListSpace> Kernel<S> {
 
     /// A word that is no call of Exec answers, into its target if it has one, and prints nothing, in the body of any name.
     #[inline(always)]
-    pub(crate) fn silent_in_body(&mut self, target: Option<Variable>, value: u32)
+    pub(crate) fn end_silently_in_body(&mut self, target: Option<Variable>, value: u32)
         ensures { (name : List ℕ) (call : model.Call) → call.target ≡ target
             → Quietly (silent_by (ByBody name) call value) self.old self.new }
     {
@@ -246,7 +246,7 @@ impl<S: ListSpace> Kernel<S> {
     }
 
     /// The call is refused: it changes nothing, and the machine stops for good.
-    pub(crate) fn alerted_in_body<W: Witness>(
+    pub(crate) fn alert_in_body<W: Witness>(
         &mut self,
         code: Alert,
         name: &Name,
@@ -280,7 +280,7 @@ impl<S: ListSpace> Kernel<S> {
             PlainWord::Sub => self.sub_words(&Caller::Body(*name), call),
             PlainWord::And => self.and_words(&Caller::Body(*name), call),
             PlainWord::Or => self.or_words(&Caller::Body(*name), call),
-            PlainWord::Print => self.done_in_body(name, call, out),
+            PlainWord::Print => self.end_call_in_body(name, call, out),
             PlainWord::Jump | PlainWord::JumpZ | PlainWord::JumpNZ => {}
         }
     }
@@ -561,7 +561,7 @@ impl<S: ListSpace> Kernel<S> {
             Some(command) => match self.value_in_body(command) {
                 Some(value) => {
                     let target = command.target;
-                    self.silent_in_body(target, value);
+                    self.end_silently_in_body(target, value);
                 }
                 None => {
                     if is_print(command.word) {

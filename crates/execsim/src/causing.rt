@@ -65,7 +65,7 @@ impl<S: ListSpace> Kernel<S> {
     {
         let i = self.softint_of_call(call);
         self.cause(i);
-        self.done_by(caller, call, out);
+        self.end_call_by(caller, call, out);
     }
 
     /// Cause name, of task t, as `cause_named` does it. The line of a call with a name alone is built here.

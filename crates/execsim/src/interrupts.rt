@@ -155,7 +155,7 @@ impl<S: ListSpace> Kernel<S> {
     }
 
     /// Whether any source asks to be served.
-    pub(crate) fn any_asks(&self) -> bool
+    pub(crate) fn any_latched(&self) -> bool
         ensures { result ≡ is_some (highest self.now.pending.latches) }
     {
         self.ints.any_raised()
@@ -184,7 +184,7 @@ impl<S: ListSpace> Kernel<S> {
     pub(crate) fn interrupt<W: Witness>(&mut self, out: &mut W)
         ensures { Follows W.hearing interrupts self.old self.new (W.told out.old) (W.told out.new) }
     {
-        if self.any_asks() {
+        if self.any_latched() {
             self.serve_all(out);
         }
     }

@@ -32,7 +32,7 @@ impl<S: ListSpace> Kernel<S> {
     {
         let name = name_or_empty(call.name(0));
         let base = self.open(name, call.number(1));
-        self.answered(t, call, base.unwrap_or(0), out);
+        self.answer(t, call, base.unwrap_or(0), out);
     }
 
     /// CloseLibrary base: the library is open one time less, and is freed if it is to be expunged and is no longer open; 0 does nothing.
@@ -43,10 +43,10 @@ impl<S: ListSpace> Kernel<S> {
     {
         let base = call.number(0);
         if base == 0 {
-            self.done(t, call, out);
+            self.end_call(t, call, out);
         } else {
             let tried = self.memory.close_library(base);
-            self.concluded(tried, t, call, out);
+            self.conclude(tried, t, call, out);
         }
     }
 
@@ -58,7 +58,7 @@ impl<S: ListSpace> Kernel<S> {
     {
         let base = call.number(0);
         let tried = self.memory.remove_library(base);
-        self.concluded(tried, t, call, out);
+        self.conclude(tried, t, call, out);
     }
 
     /// LibOpenCnt base: answers how often the library is open. HANDLE if no loaded library begins there (RKM Libraries, Exec Libraries:
@@ -69,7 +69,7 @@ impl<S: ListSpace> Kernel<S> {
     {
         let base = call.number(0);
         let tried = self.memory.library_count(base);
-        self.concluded_with(tried, t, call, out);
+        self.conclude_with(tried, t, call, out);
     }
 
     /// A call of task t on libraries, by its word.

@@ -49,7 +49,7 @@ impl<S: ListSpace> Kernel<S> {
         ensures { Follows W.hearing (does_lists lists.NewList t (call_view call.now)) self.old self.new (W.told out.old) (W.told out.new) }
     {
         let list = self.make_list();
-        self.answered(t, call, list.unwrap_or(0), out);
+        self.answer(t, call, list.unwrap_or(0), out);
     }
 
     /// FreeList list: frees an empty list. HANDLE if no list begins there, LINK if it has nodes (project rule).
@@ -59,7 +59,7 @@ impl<S: ListSpace> Kernel<S> {
     {
         let list = call.number(0);
         let tried = self.memory.free_list(list);
-        self.concluded(tried, t, call, out);
+        self.conclude(tried, t, call, out);
     }
 
     /// NewNode pri name: answers the address of a new node, which is not linked, or 0. VALUE if the priority, read as a signed word, is
@@ -70,10 +70,10 @@ impl<S: ListSpace> Kernel<S> {
     {
         let pri = call.number(0);
         if !is_priority(pri) {
-            self.alerted(Alert::Value, t, call, out);
+            self.alert(Alert::Value, t, call, out);
         } else {
             let node = self.make_node(pri, call.name(1));
-            self.answered(t, call, node.unwrap_or(0), out);
+            self.answer(t, call, node.unwrap_or(0), out);
         }
     }
 
@@ -84,7 +84,7 @@ impl<S: ListSpace> Kernel<S> {
     {
         let node = call.number(0);
         let tried = self.memory.free_node(node);
-        self.concluded(tried, t, call, out);
+        self.conclude(tried, t, call, out);
     }
 
     // ---- linked
@@ -98,7 +98,7 @@ impl<S: ListSpace> Kernel<S> {
         let list = call.number(0);
         let node = call.number(1);
         let tried = self.memory.add_head(list, node);
-        self.concluded(tried, t, call, out);
+        self.conclude(tried, t, call, out);
     }
 
     /// AddTail list node: puts the node last. The alerts are those of AddHead (autodoc exec.library/AddTail).
@@ -109,7 +109,7 @@ impl<S: ListSpace> Kernel<S> {
         let list = call.number(0);
         let node = call.number(1);
         let tried = self.memory.add_tail(list, node);
-        self.concluded(tried, t, call, out);
+        self.conclude(tried, t, call, out);
     }
 
     /// Enqueue list node: puts the node before the first one of lower priority, or last. The alerts are those of AddHead (autodoc
@@ -121,7 +121,7 @@ impl<S: ListSpace> Kernel<S> {
         let list = call.number(0);
         let node = call.number(1);
         let tried = self.memory.enqueue(list, node);
-        self.concluded(tried, t, call, out);
+        self.conclude(tried, t, call, out);
     }
 
     /// Insert list node pred: puts the node after pred, or first if pred is 0. HANDLE if one of them is none, LINK if the node is
@@ -134,7 +134,7 @@ impl<S: ListSpace> Kernel<S> {
         let node = call.number(1);
         let pred = call.number(2);
         let tried = self.memory.insert(list, node, pred);
-        self.concluded(tried, t, call, out);
+        self.conclude(tried, t, call, out);
     }
 
     // ---- unlinked
@@ -147,7 +147,7 @@ impl<S: ListSpace> Kernel<S> {
     {
         let node = call.number(0);
         let tried = self.memory.remove(node);
-        self.concluded(tried, t, call, out);
+        self.conclude(tried, t, call, out);
     }
 
     /// RemHead list: takes the first node out and answers it, or 0 for an empty list. HANDLE if no list begins there (autodoc
@@ -158,7 +158,7 @@ impl<S: ListSpace> Kernel<S> {
     {
         let list = call.number(0);
         let tried = self.memory.rem_head(list);
-        self.concluded_with(tried, t, call, out);
+        self.conclude_with(tried, t, call, out);
     }
 
     /// RemTail list: takes the last node out and answers it, or 0 for an empty list. HANDLE if no list begins there (autodoc
@@ -169,7 +169,7 @@ impl<S: ListSpace> Kernel<S> {
     {
         let list = call.number(0);
         let tried = self.memory.rem_tail(list);
-        self.concluded_with(tried, t, call, out);
+        self.conclude_with(tried, t, call, out);
     }
 
     // ---- scanned
@@ -182,7 +182,7 @@ impl<S: ListSpace> Kernel<S> {
     {
         let list = call.number(0);
         let tried = self.memory.first(list);
-        self.concluded_with(tried, t, call, out);
+        self.conclude_with(tried, t, call, out);
     }
 
     /// Last list: answers the last node, or 0 for an empty list. HANDLE if no list begins there (RKM Libraries, Exec Lists and
@@ -193,7 +193,7 @@ impl<S: ListSpace> Kernel<S> {
     {
         let list = call.number(0);
         let tried = self.memory.last(list);
-        self.concluded_with(tried, t, call, out);
+        self.conclude_with(tried, t, call, out);
     }
 
     /// Succ node: answers the node after a linked one, or 0. HANDLE if none begins there, LINK if it is not linked (RKM Libraries,
@@ -204,7 +204,7 @@ impl<S: ListSpace> Kernel<S> {
     {
         let node = call.number(0);
         let tried = self.memory.succ(node);
-        self.concluded_with(tried, t, call, out);
+        self.conclude_with(tried, t, call, out);
     }
 
     /// Pred node: answers the node before a linked one, or 0. HANDLE if none begins there, LINK if it is not linked (RKM Libraries,
@@ -215,7 +215,7 @@ impl<S: ListSpace> Kernel<S> {
     {
         let node = call.number(0);
         let tried = self.memory.pred(node);
-        self.concluded_with(tried, t, call, out);
+        self.conclude_with(tried, t, call, out);
     }
 
     /// The address of the first node of that name in a list, or after a linked node, or 0. If no name is given it is the empty one.
@@ -237,7 +237,7 @@ impl<S: ListSpace> Kernel<S> {
     {
         let start = call.number(0);
         let tried = self.find(start, call.name(1));
-        self.concluded_with(tried, t, call, out);
+        self.conclude_with(tried, t, call, out);
     }
 
     /// A call of task t on lists and nodes, by its word.

@@ -57,7 +57,7 @@ fn flow_for(stopped: bool) -> Flow
 }
 
 /// Answers whether a machine goes on, or notes that it has failed if the sink has failed.
-fn finish<W: Sink>(stopped: bool, failed: &mut bool, out: &W) -> Result<Flow, WriteFault>
+fn flow_or_fault<W: Sink>(stopped: bool, failed: &mut bool, out: &W) -> Result<Flow, WriteFault>
     requires { failed.old ≡ false }
     ensures { Finishes stopped failed.new (W.tape out.now) result }
 {
@@ -71,7 +71,7 @@ fn finish<W: Sink>(stopped: bool, failed: &mut bool, out: &W) -> Result<Flow, Wr
 }
 
 /// Answers how many steps were done, or notes that a machine has failed if the sink has failed.
-fn end<W: Sink>(steps: u32, failed: &mut bool, out: &W) -> Result<u32, WriteFault>
+fn steps_or_fault<W: Sink>(steps: u32, failed: &mut bool, out: &W) -> Result<u32, WriteFault>
     requires { failed.old ≡ false }
     ensures { Ends steps failed.new (W.tape out.now) result }
 {
@@ -149,7 +149,7 @@ impl<S: ListSpace> Machine<S> {
         self.rests = false;
         self.kernel.start(out);
         let stopped = self.kernel.is_stopped();
-        finish(stopped, &mut self.failed, out)
+        flow_or_fault(stopped, &mut self.failed, out)
     }
 
     /// Does one event: that many steps or ticks, each followed by a settle, or a request of an interrupt, followed by one. After an alert nothing
@@ -177,7 +177,7 @@ impl<S: ListSpace> Machine<S> {
         self.rests = false;
         self.kernel.event(one, out);
         let stopped = self.kernel.is_stopped();
-        finish(stopped, &mut self.failed, out)
+        flow_or_fault(stopped, &mut self.failed, out)
     }
 
     /// Does a step, and after it steps that print nothing: plain words of the running task, or those of an idle machine; at most `more` of
@@ -197,7 +197,7 @@ impl<S: ListSpace> Machine<S> {
         ensures good { IsOk result → (W.tape out.new).state ≡ SinkState.Good }
     {
         let silent = self.kernel.advance(&mut self.rests, more, out);
-        end(silent, &mut self.failed, out)
+        steps_or_fault(silent, &mut self.failed, out)
     }
 
     /// Does nothing: its clause is what always holds of a machine that has not failed. Just the running task has the state of one, and it
@@ -237,6 +237,6 @@ impl<S: ListSpace> Machine<S> {
         self.kernel.start(out);
         self.kernel.events(list, out);
         let stopped = self.kernel.is_stopped();
-        finish(stopped, &mut self.failed, out)
+        flow_or_fault(stopped, &mut self.failed, out)
     }
 }

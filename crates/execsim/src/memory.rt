@@ -69,10 +69,10 @@ impl<S: ListSpace> Kernel<S> {
         let size = call.number(0);
         let reqs = call.number(1);
         if !has_only(ALLOC_BITS, reqs) {
-            self.alerted(Alert::Value, t, call, out);
+            self.alert(Alert::Value, t, call, out);
         } else {
             let place = self.allocate(size, reqs);
-            self.answered(t, call, place.unwrap_or(0), out);
+            self.answer(t, call, place.unwrap_or(0), out);
         }
     }
 
@@ -84,9 +84,9 @@ impl<S: ListSpace> Kernel<S> {
         let address = call.number(0);
         let size = call.number(1);
         if self.free(address, size) {
-            self.done(t, call, out);
+            self.end_call(t, call, out);
         } else {
-            self.alerted(Alert::Mem, t, call, out);
+            self.alert(Alert::Mem, t, call, out);
         }
     }
 
@@ -97,10 +97,10 @@ impl<S: ListSpace> Kernel<S> {
     {
         let reqs = call.number(0);
         if !can_be_asked(reqs) {
-            self.alerted(Alert::Value, t, call, out);
+            self.alert(Alert::Value, t, call, out);
         } else {
             let answer = self.available(reqs);
-            self.answered(t, call, answer, out);
+            self.answer(t, call, answer, out);
         }
     }
 

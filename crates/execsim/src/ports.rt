@@ -69,12 +69,12 @@ impl<S: ListSpace> Kernel<S> {
         ensures { Follows W.hearing (does_create_msg_port t (call_view call.now)) self.old self.new (W.told out.old) (W.told out.new) }
     {
         match self.next_signal(t) {
-            None => self.answered(t, call, 0, out),
+            None => self.answer(t, call, 0, out),
             Some(bit) => match self.make_port(t, bit) {
-                None => self.answered(t, call, 0, out),
+                None => self.answer(t, call, 0, out),
                 Some(port) => {
                     self.allocate_signal(t, ANY_SIGNAL);
-                    self.answered(t, call, port, out);
+                    self.answer(t, call, port, out);
                 }
             },
         }
@@ -91,7 +91,7 @@ impl<S: ListSpace> Kernel<S> {
     }
 
     /// A call that frees a port: its signal is given back to its task, or the call is refused by its alert.
-    fn given_back<W: Witness>(
+    fn end_freeing<W: Witness>(
         &mut self,
         tried: Result<(TaskId, u32), Refusal>,
         t: TaskId,
@@ -106,9 +106,9 @@ impl<S: ListSpace> Kernel<S> {
         match tried {
             Ok((task, bit)) => {
                 self.give_back(task, bit);
-                self.done(t, call, out);
+                self.end_call(t, call, out);
             }
-            Err(why) => self.refused(why, t, call, out),
+            Err(why) => self.refuse(why, t, call, out),
         }
     }
 
@@ -120,10 +120,10 @@ impl<S: ListSpace> Kernel<S> {
     {
         let port = call.number(0);
         if port == 0 {
-            self.done(t, call, out);
+            self.end_call(t, call, out);
         } else {
             let tried = self.memory.delete_port(port);
-            self.given_back(tried, t, call, out);
+            self.end_freeing(tried, t, call, out);
         }
     }
 
@@ -152,11 +152,11 @@ impl<S: ListSpace> Kernel<S> {
         let pri = call.number(2);
         if is_priority(pri) {
             let tried = self.make_public(port, call.name(1), pri);
-            self.concluded(tried, t, call, out);
+            self.conclude(tried, t, call, out);
         } else if self.memory.is_port(port) {
-            self.alerted(Alert::Value, t, call, out);
+            self.alert(Alert::Value, t, call, out);
         } else {
-            self.alerted(Alert::Handle, t, call, out);
+            self.alert(Alert::Handle, t, call, out);
         }
     }
 
@@ -168,7 +168,7 @@ impl<S: ListSpace> Kernel<S> {
     {
         let port = call.number(0);
         let tried = self.memory.rem_port(port);
-        self.concluded(tried, t, call, out);
+        self.conclude(tried, t, call, out);
     }
 
     /// The address of the public port of a name, or 0. If no name is given it is the empty one.
@@ -188,7 +188,7 @@ impl<S: ListSpace> Kernel<S> {
         ensures { Follows W.hearing (does_find_port t (call_view call.now)) self.old self.new (W.told out.old) (W.told out.new) }
     {
         let port = self.public_port(call.name(0));
-        self.answered(t, call, port, out);
+        self.answer(t, call, port, out);
     }
 
     // ---- the action of a port
@@ -201,7 +201,7 @@ impl<S: ListSpace> Kernel<S> {
     {
         let port = call.number(0);
         let tried = self.memory.set_action(port, PortAction::Signal);
-        self.concluded(tried, t, call, out);
+        self.conclude(tried, t, call, out);
     }
 
     /// PortCause port name: the port causes the software interrupt of that name. HANDLE if no port begins there (RKM Libraries, Exec
@@ -213,7 +213,7 @@ impl<S: ListSpace> Kernel<S> {
         let port = call.number(0);
         let i = self.softint_named(&name_or_empty(call.name(1)));
         let tried = self.memory.set_action(port, PortAction::Cause(i));
-        self.concluded(tried, t, call, out);
+        self.conclude(tried, t, call, out);
     }
 
     /// PortIgnore port: the port does nothing when a message arrives. HANDLE if no port begins there (RKM Libraries, Exec Messages and
@@ -224,7 +224,7 @@ impl<S: ListSpace> Kernel<S> {
     {
         let port = call.number(0);
         let tried = self.memory.set_action(port, PortAction::Ignore);
-        self.concluded(tried, t, call, out);
+        self.conclude(tried, t, call, out);
     }
 
     // ---- messages made and freed
@@ -238,8 +238,8 @@ impl<S: ListSpace> Kernel<S> {
         let reply = call.number(0);
         let word = call.number(1);
         match self.memory.new_message(reply, word) {
-            Ok(message) => self.answered(t, call, message.unwrap_or(0), out),
-            Err(why) => self.refused(why, t, call, out),
+            Ok(message) => self.answer(t, call, message.unwrap_or(0), out),
+            Err(why) => self.refuse(why, t, call, out),
         }
     }
 
@@ -250,7 +250,7 @@ impl<S: ListSpace> Kernel<S> {
     {
         let message = call.number(0);
         let tried = self.memory.free_message(message);
-        self.concluded(tried, t, call, out);
+        self.conclude(tried, t, call, out);
     }
 
     // ---- what a message holds
@@ -262,7 +262,7 @@ impl<S: ListSpace> Kernel<S> {
     {
         let message = call.number(0);
         let tried = self.memory.word(message);
-        self.concluded_with(tried, t, call, out);
+        self.conclude_with(tried, t, call, out);
     }
 
     /// SetMsgWord message word: gives the message another word. HANDLE if no message begins there (project rule).
@@ -273,7 +273,7 @@ impl<S: ListSpace> Kernel<S> {
         let message = call.number(0);
         let word = call.number(1);
         let tried = self.memory.set_word(message, word);
-        self.concluded(tried, t, call, out);
+        self.conclude(tried, t, call, out);
     }
 
     /// The type of a message.
@@ -295,7 +295,7 @@ impl<S: ListSpace> Kernel<S> {
     {
         let message = call.number(0);
         let tried = self.kind(message);
-        self.concluded_with(tried, t, call, out);
+        self.conclude_with(tried, t, call, out);
     }
 
     // ---- putting and replying
@@ -321,7 +321,7 @@ impl<S: ListSpace> Kernel<S> {
     }
 
     /// A call that puts a message, of a task or of a body: what is to be done for it is done, or the call is refused by its alert.
-    pub(crate) fn performed<W: Witness>(
+    pub(crate) fn end_putting<W: Witness>(
         &mut self,
         tried: Result<Action, Refusal>,
         caller: &Caller,
@@ -334,9 +334,9 @@ impl<S: ListSpace> Kernel<S> {
         match tried {
             Ok(action) => {
                 self.perform(action);
-                self.done_by(caller, call, out);
+                self.end_call_by(caller, call, out);
             }
-            Err(why) => self.refused_by(why, caller, call, out),
+            Err(why) => self.refuse_by(why, caller, call, out),
         }
     }
 
@@ -349,7 +349,7 @@ impl<S: ListSpace> Kernel<S> {
         let port = call.number(0);
         let message = call.number(1);
         let tried = self.memory.put_message(port, message);
-        self.performed(tried, caller, call, out);
+        self.end_putting(tried, caller, call, out);
     }
 
     /// ReplyMsg message: puts a message at its reply port; one without gets the type NT_FREEMSG. HANDLE if no message begins there,
@@ -361,7 +361,7 @@ impl<S: ListSpace> Kernel<S> {
     {
         let message = call.number(0);
         let tried = self.memory.reply_message(message);
-        self.performed(tried, caller, call, out);
+        self.end_putting(tried, caller, call, out);
     }
 
     // ---- taking and waiting
@@ -374,7 +374,7 @@ impl<S: ListSpace> Kernel<S> {
     {
         let port = call.number(0);
         let tried = self.memory.take_message(port);
-        self.concluded_by(tried, caller, call, out);
+        self.conclude_by(tried, caller, call, out);
     }
 
     /// The running task clears its signals of the mask, and waits for new ones.
@@ -425,7 +425,7 @@ impl<S: ListSpace> Kernel<S> {
         ensures { Follows W.hearing (looked message (2 ^ bit) t (call_view call.now)) self.old self.new (W.told out.old) (W.told out.new) }
     {
         match message {
-            Some(message) => self.answered(t, call, message, out),
+            Some(message) => self.answer(t, call, message, out),
             None => self.wait_for_message(1 << bit, t, call, out),
         }
     }
@@ -444,7 +444,7 @@ impl<S: ListSpace> Kernel<S> {
                 self.lose(t, call.awaited);
                 self.look(message, bit, t, call, out);
             }
-            Err(why) => self.refused(why, t, call, out),
+            Err(why) => self.refuse(why, t, call, out),
         }
     }
 

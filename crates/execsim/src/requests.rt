@@ -66,11 +66,11 @@ impl<S: ListSpace> Kernel<S> {
     {
         let port = call.number(0);
         if port == 0 {
-            self.answered(t, call, 0, out);
+            self.answer(t, call, 0, out);
         } else {
             match self.memory.new_request(port) {
-                Ok(request) => self.answered(t, call, request.unwrap_or(0), out),
-                Err(why) => self.refused(why, t, call, out),
+                Ok(request) => self.answer(t, call, request.unwrap_or(0), out),
+                Err(why) => self.refuse(why, t, call, out),
             }
         }
     }
@@ -83,10 +83,10 @@ impl<S: ListSpace> Kernel<S> {
     {
         let request = call.number(0);
         if request == 0 {
-            self.done(t, call, out);
+            self.end_call(t, call, out);
         } else {
             let tried = self.memory.delete_request(request);
-            self.concluded(tried, t, call, out);
+            self.conclude(tried, t, call, out);
         }
     }
 
@@ -114,7 +114,7 @@ impl<S: ListSpace> Kernel<S> {
     {
         let unit = timer_unit(name_or_empty(call.name(0)), call.number(1));
         let tried = self.open_request(call.number(2), unit);
-        self.concluded_with(tried, t, call, out);
+        self.conclude_with(tried, t, call, out);
     }
 
     /// CloseDevice request: the request is not open. HANDLE if none begins there, IO if it is in progress (autodoc
@@ -126,7 +126,7 @@ impl<S: ListSpace> Kernel<S> {
     {
         let request = call.number(0);
         let tried = self.memory.close_device(request);
-        self.concluded(tried, t, call, out);
+        self.conclude(tried, t, call, out);
     }
 
     /// SetIO request cmd secs micros: gives a request a command and a time in seconds and microseconds. HANDLE if no request begins
@@ -142,11 +142,11 @@ impl<S: ListSpace> Kernel<S> {
             let tried = self
                 .memory
                 .set_request(request, command as u16, call.number(2), call.number(3));
-            self.concluded(tried, t, call, out);
+            self.conclude(tried, t, call, out);
         } else if self.memory.is_request(request) {
-            self.alerted(Alert::Value, t, call, out);
+            self.alert(Alert::Value, t, call, out);
         } else {
-            self.alerted(Alert::Handle, t, call, out);
+            self.alert(Alert::Handle, t, call, out);
         }
     }
 
@@ -161,7 +161,7 @@ impl<S: ListSpace> Kernel<S> {
     {
         let request = call.number(0);
         let tried = self.memory.send_request(request);
-        self.performed(tried, &Caller::Task(t), call, out);
+        self.end_putting(tried, &Caller::Task(t), call, out);
     }
 
     /// The call that looks for a request answers its error, or waits for its reply port's signal.
@@ -172,7 +172,7 @@ impl<S: ListSpace> Kernel<S> {
         ensures { Follows W.hearing (tells_or_waits found t (call_view call.now)) self.old self.new (W.told out.old) (W.told out.new) }
     {
         match found {
-            Awaited::Done(error) => self.answered(t, call, error_word(error), out),
+            Awaited::Done(error) => self.answer(t, call, error_word(error), out),
             Awaited::UnderWay(bit) => self.wait_for_message(1 << bit, t, call, out),
         }
     }
@@ -192,7 +192,7 @@ impl<S: ListSpace> Kernel<S> {
                 self.lose(t, call.awaited);
                 self.look_for(found, t, call, out);
             }
-            Err(why) => self.refused(why, t, call, out),
+            Err(why) => self.refuse(why, t, call, out),
         }
     }
 
@@ -210,7 +210,7 @@ impl<S: ListSpace> Kernel<S> {
             let request = call.number(0);
             match self.memory.do_request(t, request) {
                 Ok(found) => self.look_for(found, t, call, out),
-                Err(why) => self.refused(why, t, call, out),
+                Err(why) => self.refuse(why, t, call, out),
             }
         }
     }
@@ -234,7 +234,7 @@ impl<S: ListSpace> Kernel<S> {
     {
         let request = call.number(0);
         let tried = self.check(request);
-        self.concluded_with(tried, t, call, out);
+        self.conclude_with(tried, t, call, out);
     }
 
     /// A call that aborts a request: one that was in progress is replied, and 0 is answered, for any other the word of -1; or the call is
@@ -253,11 +253,11 @@ impl<S: ListSpace> Kernel<S> {
             Ok(found) => match found {
                 Some(action) => {
                     self.perform(action);
-                    self.answered(t, call, 0, out);
+                    self.answer(t, call, 0, out);
                 }
-                None => self.answered(t, call, NOT_ABORTED, out),
+                None => self.answer(t, call, NOT_ABORTED, out),
             },
-            Err(why) => self.refused(why, t, call, out),
+            Err(why) => self.refuse(why, t, call, out),
         }
     }
 
@@ -281,7 +281,7 @@ impl<S: ListSpace> Kernel<S> {
         ensures { Follows W.hearing (does_io_secs t (call_view call.now)) self.old self.new (W.told out.old) (W.told out.new) }
     {
         let tried = self.memory.secs(call.number(0));
-        self.concluded_with(tried, t, call, out);
+        self.conclude_with(tried, t, call, out);
     }
 
     /// IOMicros request: answers the microseconds of its time. HANDLE if no request begins there (Devices, timer device: tr_time; that
@@ -291,7 +291,7 @@ impl<S: ListSpace> Kernel<S> {
         ensures { Follows W.hearing (does_io_micros t (call_view call.now)) self.old self.new (W.told out.old) (W.told out.new) }
     {
         let tried = self.memory.micros(call.number(0));
-        self.concluded_with(tried, t, call, out);
+        self.conclude_with(tried, t, call, out);
     }
 
     /// The error of a request as a word.
@@ -313,7 +313,7 @@ impl<S: ListSpace> Kernel<S> {
         ensures { Follows W.hearing (does_io_error t (call_view call.now)) self.old self.new (W.told out.old) (W.told out.new) }
     {
         let tried = self.error(call.number(0));
-        self.concluded_with(tried, t, call, out);
+        self.conclude_with(tried, t, call, out);
     }
 
     /// IOF_QUICK of a request as a word: 1 if it is set, and else 0.
@@ -334,7 +334,7 @@ impl<S: ListSpace> Kernel<S> {
         ensures { Follows W.hearing (does_io_flags t (call_view call.now)) self.old self.new (W.told out.old) (W.told out.new) }
     {
         let tried = self.flags(call.number(0));
-        self.concluded_with(tried, t, call, out);
+        self.conclude_with(tried, t, call, out);
     }
 
     /// A call of task t on requests, by its word.

@@ -46,7 +46,7 @@ impl<S: ListSpace> Kernel<S> {
         ensures { Follows W.hearing (does_new_sem t (call_view call.now)) self.old self.new (W.told out.old) (W.told out.new) }
     {
         let semaphore = self.make_semaphore();
-        self.answered(t, call, semaphore.unwrap_or(0), out);
+        self.answer(t, call, semaphore.unwrap_or(0), out);
     }
 
     /// FreeSem semaphore: frees a semaphore. HANDLE if none begins there, SEM if a task owns it (project rule).
@@ -56,7 +56,7 @@ impl<S: ListSpace> Kernel<S> {
     {
         let semaphore = call.number(0);
         let tried = self.memory.free_semaphore(semaphore);
-        self.concluded(tried, t, call, out);
+        self.conclude(tried, t, call, out);
     }
 
     // ---- obtaining
@@ -91,13 +91,13 @@ impl<S: ListSpace> Kernel<S> {
     {
         match tried {
             Ok(how) => match how {
-                Obtained::Owner => self.done(t, call, out),
+                Obtained::Owner => self.end_call(t, call, out),
                 Obtained::Waits => {
                     self.wait_at_semaphore(t);
                     self.waiting(t, call, out);
                 }
             },
-            Err(why) => self.refused(why, t, call, out),
+            Err(why) => self.refuse(why, t, call, out),
         }
     }
 
@@ -112,7 +112,7 @@ impl<S: ListSpace> Kernel<S> {
         ensures { Follows W.hearing (does_obtain_semaphore t (call_view call.now)) self.old self.new (W.told out.old) (W.told out.new) }
     {
         if self.is_tried_again(t) {
-            self.done(t, call, out);
+            self.end_call(t, call, out);
         } else {
             let semaphore = call.number(0);
             let tried = self.memory.obtain_semaphore(t, semaphore);
@@ -129,8 +129,8 @@ impl<S: ListSpace> Kernel<S> {
     {
         let semaphore = call.number(0);
         match self.memory.attempt_semaphore(t, semaphore) {
-            Ok(has) => self.answered(t, call, attempted(has), out),
-            Err(why) => self.refused(why, t, call, out),
+            Ok(has) => self.answer(t, call, attempted(has), out),
+            Err(why) => self.refuse(why, t, call, out),
         }
     }
 
@@ -160,11 +160,11 @@ impl<S: ListSpace> Kernel<S> {
             Ok(heir) => match heir {
                 Some(owner) => {
                     self.wake(owner);
-                    self.done(t, call, out);
+                    self.end_call(t, call, out);
                 }
-                None => self.done(t, call, out),
+                None => self.end_call(t, call, out),
             },
-            Err(why) => self.refused(why, t, call, out),
+            Err(why) => self.refuse(why, t, call, out),
         }
     }
 

@@ -81,23 +81,23 @@ impl<S: ListSpace> Kernel<S> {
 
     /// What follows each step, as `settle`. The answer is whether nothing was due, so that the machine is settled.
     #[inline(always)]
-    fn settle_again<W: Witness>(&mut self, out: &mut W) -> bool
+    fn settle_after_step<W: Witness>(&mut self, out: &mut W) -> bool
         ensures follows { Follows W.hearing settle self.old self.new (W.told out.old) (W.told out.new) }
         ensures settled { IsTrue result → IsSettled self.new }
     {
         if self.stopped {
             return false;
         }
-        if self.any_asks() {
+        if self.any_latched() {
             self.settle(out);
             return false;
         }
-        self.switch_again(out)
+        self.switch_if_due(out)
     }
 
     /// The switch of a machine that goes on and in which no source asks. The answer is whether none was due.
     #[inline(always)]
-    fn switch_again<W: Witness>(&mut self, out: &mut W) -> bool
+    fn switch_if_due<W: Witness>(&mut self, out: &mut W) -> bool
         requires going { self.old.stopped ≡ false }
         requires unasked { is_some (highest self.old.pending.latches) ≡ false }
         ensures follows { Follows W.hearing settle self.old self.new (W.told out.old) (W.told out.new) }
@@ -155,7 +155,7 @@ impl<S: ListSpace> Kernel<S> {
 
     /// Task t, which runs, makes this call, which is its next one.
     #[inline(always)]
-    fn make<W: Witness>(&mut self, t: TaskId, call: &Call, out: &mut W)
+    fn do_call<W: Witness>(&mut self, t: TaskId, call: &Call, out: &mut W)
         requires known { HasTask t self.old }
         requires runs { Runs t self.old }
         requires agree { IsInOrder self.old }
@@ -167,7 +167,7 @@ impl<S: ListSpace> Kernel<S> {
 
     /// Task t, which runs and has no call left to make, ends.
     #[inline(always)]
-    fn make_none<W: Witness>(&mut self, t: TaskId, out: &mut W)
+    fn end_task<W: Witness>(&mut self, t: TaskId, out: &mut W)
         requires known { HasTask t self.old }
         requires runs { Runs t self.old }
         requires next { next_call t self.old.scripts ≡ None }
@@ -178,7 +178,7 @@ impl<S: ListSpace> Kernel<S> {
 
     /// Task t, which runs, tries the call again that it waits in, or makes that of its next command, or ends.
     #[inline(never)]
-    fn make_call<W: Witness>(&mut self, t: TaskId, out: &mut W)
+    fn next_call<W: Witness>(&mut self, t: TaskId, out: &mut W)
         requires known { HasTask t self.old }
         requires runs { Runs t self.old }
         requires agree { IsInOrder self.old }
@@ -188,7 +188,7 @@ impl<S: ListSpace> Kernel<S> {
         match program.kept() {
             Some(kept) => {
                 let call = *kept;
-                self.make(t, &call, out);
+                self.do_call(t, &call, out);
             }
             None => match program.command() {
                 Some(command) => {
@@ -203,9 +203,9 @@ impl<S: ListSpace> Kernel<S> {
                     };
                     let count = command.count as usize;
                     self.evaluate_all(t, &command.arguments, count, &mut call.arguments);
-                    self.make(t, &call, out);
+                    self.do_call(t, &call, out);
                 }
-                None => self.make_none(t, out),
+                None => self.end_task(t, out),
             },
         }
     }
@@ -217,7 +217,7 @@ impl<S: ListSpace> Kernel<S> {
     {
         match self.running() {
             None => {}
-            Some(t) => self.make_call(t, out),
+            Some(t) => self.next_call(t, out),
         }
     }
 
@@ -256,7 +256,7 @@ impl<S: ListSpace> Kernel<S> {
         ensures settled { IsTrue result → IsSettled self.new }
     {
         self.act(out);
-        self.settle_again(out)
+        self.settle_after_step(out)
     }
 
     /// One step, and those after it that ask nothing of Exec; at most that many, of which there is one. The answer is how many.

@@ -71,7 +71,7 @@ impl<S: ListSpace> Kernel<S> {
         ensures { Follows W.hearing (does_alloc_signal t (call_view call.now)) self.old self.new (W.told out.old) (W.told out.new) }
     {
         let signal = self.allocate_signal(t, call.number(0));
-        self.answered(t, call, signal, out);
+        self.answer(t, call, signal, out);
     }
 
     /// FreeSignal a (autodoc exec.library/FreeSignal).
@@ -81,12 +81,12 @@ impl<S: ListSpace> Kernel<S> {
     {
         let n = call.number(0);
         if is_no_signal(n) {
-            self.done(t, call, out);
+            self.end_call(t, call, out);
         } else if !is_own_signal(n) {
-            self.alerted(Alert::Mask, t, call, out);
+            self.alert(Alert::Mask, t, call, out);
         } else {
             self.deallocate_signal(t, n);
-            self.done(t, call, out);
+            self.end_call(t, call, out);
         }
     }
 
@@ -99,10 +99,10 @@ impl<S: ListSpace> Kernel<S> {
         let new = call.number(0);
         let mask = call.number(1);
         if !is_mask(mask) {
-            self.alerted(Alert::Mask, t, call, out);
+            self.alert(Alert::Mask, t, call, out);
         } else {
             let received = self.change_signals(t, new, mask);
-            self.answered(t, call, received, out);
+            self.answer(t, call, received, out);
         }
     }
 
@@ -132,12 +132,12 @@ impl<S: ListSpace> Kernel<S> {
         let other = call.number(0);
         let mask = call.number(1);
         if !self.is_task(other) {
-            self.alerted_by(Alert::Handle, caller, call, out);
+            self.alert_by(Alert::Handle, caller, call, out);
         } else if !is_mask(mask) {
-            self.alerted_by(Alert::Mask, caller, call, out);
+            self.alert_by(Alert::Mask, caller, call, out);
         } else {
             self.signal_task(other as usize - 1, mask);
-            self.done_by(caller, call, out);
+            self.end_call_by(caller, call, out);
         }
     }
 
@@ -149,10 +149,10 @@ impl<S: ListSpace> Kernel<S> {
     {
         let mask = call.number(0);
         if !is_mask(mask) {
-            self.alerted(Alert::Mask, t, call, out);
+            self.alert(Alert::Mask, t, call, out);
         } else {
             match self.wait_for(t, mask) {
-                Some(common) => self.answered(t, call, common, out),
+                Some(common) => self.answer(t, call, common, out),
                 None => self.waiting(t, call, out),
             }
         }

@@ -97,12 +97,12 @@ impl<S: ListSpace> Kernel<S> {
         let other = call.number(0);
         let pri = call.number(1);
         if !self.is_live_task(other) {
-            self.alerted(Alert::Handle, t, call, out);
+            self.alert(Alert::Handle, t, call, out);
         } else if !is_priority(pri) {
-            self.alerted(Alert::Value, t, call, out);
+            self.alert(Alert::Value, t, call, out);
         } else {
             let old = self.set_pri(other as usize - 1, pri);
-            self.answered(t, call, old, out);
+            self.answer(t, call, old, out);
         }
     }
 
@@ -113,10 +113,10 @@ impl<S: ListSpace> Kernel<S> {
     {
         let other = call.number(0);
         if !self.is_task(other) {
-            self.alerted(Alert::Handle, t, call, out);
+            self.alert(Alert::Handle, t, call, out);
         } else {
             let begins = self.add(other as usize - 1);
-            self.answered(t, call, begun(begins, other), out);
+            self.answer(t, call, begun(begins, other), out);
         }
     }
 
@@ -130,12 +130,12 @@ impl<S: ListSpace> Kernel<S> {
         let other = call.number(0);
         if is_caller(t, other) {
             self.leave(t);
-            self.done(t, call, out);
+            self.end_call(t, call, out);
         } else if !self.is_live_task(other) {
-            self.alerted(Alert::Handle, t, call, out);
+            self.alert(Alert::Handle, t, call, out);
         } else {
             self.remove_task(other as usize - 1);
-            self.done(t, call, out);
+            self.end_call(t, call, out);
         }
     }
 
@@ -160,7 +160,7 @@ impl<S: ListSpace> Kernel<S> {
         ensures { Follows W.hearing (does_find_task t (call_view call.now)) self.old self.new (W.told out.old) (W.told out.new) }
     {
         let answer = self.found_number(t, call.name(0));
-        self.answered(t, call, answer, out);
+        self.answer(t, call, answer, out);
     }
 
     /// A call of task t on tasks, by its word.

@@ -4,7 +4,7 @@ use Rattle.std.proofs.Common.{◌≡◌, ◌≢◌, ℕ, zero, suc, ◌<◌, ◌
 use Rattle.std.proofs.lemmas.{Bool.cond-true, Bool.cond-false, Bool.cases_eq, Bool.cases_lt, List.length-replicate}
 use Rattle.execlist.specs.{Order.first, Order.without_item, Lists.sequence, Lists.home, Lists.is_at, Lists.times, Pool.slot, Pool.Pooled, Pool.free_below}
 use Rattle.msgport.specs.declared.fault.PortFault.TheVariants.{Unknown, Link}
-use Rattle.msgport.specs.Ports.{MessagePorts, IsHeld, is_port, is_message, is_queued, is_linked, loose_fault, reply_fault, messages_of, appended, port_freed, message_freed, no_ports}
+use Rattle.msgport.specs.Ports.{MessagePorts, IsHeld, is_port, is_message, is_queued, is_linked, linked_fault, reply_fault, messages_of, appended, port_freed, message_freed, no_ports}
 use Rattle.msgport.specs.{Port.Port, declared.message.Message.Message}
 use Rattle.execlist.proofs.{Pools.item_of, Pools.slot_known, Pools.slot_other, Pools.slot_same, Pools.slot_new, LinkLemmas.none-there}
 
@@ -86,7 +86,7 @@ no_home None none = refl
 no_home (Some h) none = absurd cc
 
 -- a message that may be put anywhere is in no port and not held
-pub loose_of : (m : ℕ) (s : MessagePorts) → loose_fault m s ≡ None → IsTrue (not (is_linked m s))
+pub loose_of : (m : ℕ) (s : MessagePorts) → linked_fault m s ≡ None → IsTrue (not (is_linked m s))
 loose_of m s none = by_case (is_message m s) (is_linked m s) none where
   by_case : (a b : Bool) → cond (not a) (Some Unknown) (cond b (Some Link) None) ≡ None → IsTrue (not b)
   by_case false b e = absurd cc

@@ -89,12 +89,12 @@ is_public p s = nat_lt 0 (times p s.public)
 -- ---- refusals
 
 -- message m is to be there, in no port and not held
-abbrev pub loose_fault : ℕ → MessagePorts → Option PortFault
-loose_fault m s = if not (is_message m s) then Some Unknown else (if is_linked m s then Some Link else None)
+abbrev pub linked_fault : ℕ → MessagePorts → Option PortFault
+linked_fault m s = if not (is_message m s) then Some Unknown else (if is_linked m s then Some Link else None)
 
 -- port p is to be there, and message m too, in no port and not held
 abbrev pub post_fault : ℕ → ℕ → MessagePorts → Option PortFault
-post_fault p m s = if not (is_port p s) then Some Unknown else loose_fault m s
+post_fault p m s = if not (is_port p s) then Some Unknown else linked_fault m s
 
 -- port p is to be there, and message m too, and in no port
 abbrev pub reply_fault : ℕ → ℕ → MessagePorts → Option PortFault

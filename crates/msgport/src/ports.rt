@@ -1,7 +1,7 @@
 //! The ports and the messages of a machine, by number.
 ghost use Rattle.std.specs.Prelude.{◌≡◌, ℕ, ◌<◌, ◌≤◌, [], length, replicate, false, not, find, is_ok, Some, None, IfOk, IfSome, IsSome, IsTrue, ok_or};
 ghost use Rattle.execlist.specs.{Order.first, Lists.blank, Lists.home, Lists.is_named, Pool.IsStocked, Pool.all_free, Pool.next_number, Answers.fault_or, Answers.kept_or};
-ghost use Rattle.msgport.specs.Ports.{IsSound, is_port, is_message, is_queued, is_held, is_linked, is_public, has_messages, port_at, message_at, messages_of, loose_fault, post_fault, reply_fault, queued_fault, private_fault, public_fault, delete_fault, no_ports, all_freed, port_made, message_made, port_freed, message_freed, with_port, with_message, typed, appended, posted, held, let_go, taken_out, taken_off, made_public, made_private, nt_message, nt_freemsg, nt_replymsg};
+ghost use Rattle.msgport.specs.Ports.{IsSound, is_port, is_message, is_queued, is_held, is_linked, is_public, has_messages, port_at, message_at, messages_of, linked_fault, post_fault, reply_fault, queued_fault, private_fault, public_fault, delete_fault, no_ports, all_freed, port_made, message_made, port_freed, message_freed, with_port, with_message, typed, appended, posted, held, let_go, taken_out, taken_off, made_public, made_private, nt_message, nt_freemsg, nt_replymsg};
 ghost use Rattle.msgport.specs.Port.{arrival_action, wait_bit};
 
 mod readers;
@@ -225,10 +225,10 @@ impl<S: ListSpace> Ports<S> {
     ///
     /// It is Unknown if there is no such message, and else Link if a port has it or it is held. Project rule, as `make_msg`.
     pub fn free_msg(&mut self, m: MsgId) -> Result<(), PortFault>
-        ensures answer { result ≡ fault_or (loose_fault m self.old) tt }
-        ensures next { self.new ≡ kept_or (loose_fault m self.old) self.old (message_freed m self.old) }
+        ensures answer { result ≡ fault_or (linked_fault m self.old) tt }
+        ensures next { self.new ≡ kept_or (linked_fault m self.old) self.old (message_freed m self.old) }
     {
-        match self.loose_fault(m) {
+        match self.linked_fault(m) {
             Some(fault) => Err(fault),
             None => {
                 self.free_message(m);
@@ -275,10 +275,10 @@ impl<S: ListSpace> Ports<S> {
     ///
     /// It is Unknown if there is no such message, and else Link if a port has it or it is held. Autodoc exec.library/ReplyMsg.
     pub fn reply_none(&mut self, m: MsgId) -> Result<(), PortFault>
-        ensures answer { result ≡ fault_or (loose_fault m self.old) tt }
-        ensures next { self.new ≡ kept_or (loose_fault m self.old) self.old (typed nt_freemsg m self.old) }
+        ensures answer { result ≡ fault_or (linked_fault m self.old) tt }
+        ensures next { self.new ≡ kept_or (linked_fault m self.old) self.old (typed nt_freemsg m self.old) }
     {
-        match self.loose_fault(m) {
+        match self.linked_fault(m) {
             Some(fault) => Err(fault),
             None => {
                 self.set_kind(m, NT_FREEMSG);
@@ -330,10 +330,10 @@ impl<S: ListSpace> Ports<S> {
     /// It is Unknown if there is no such message, and else Link if a port has it or it is held. Project rule: a device holds a request that
     /// is in progress.
     pub fn hold(&mut self, m: MsgId) -> Result<(), PortFault>
-        ensures answer { result ≡ fault_or (loose_fault m self.old) tt }
-        ensures next { self.new ≡ kept_or (loose_fault m self.old) self.old (held m self.old) }
+        ensures answer { result ≡ fault_or (linked_fault m self.old) tt }
+        ensures next { self.new ≡ kept_or (linked_fault m self.old) self.old (held m self.old) }
     {
-        match self.loose_fault(m) {
+        match self.linked_fault(m) {
             Some(fault) => Err(fault),
             None => {
                 self.held.add_tail(HELD, m);
@@ -521,8 +521,8 @@ impl<S: ListSpace> Ports<S> {
     // ---- refusals
 
     // Why a message may not be freed or put anywhere, if it may not.
-    fn loose_fault(&self, m: MsgId) -> Option<PortFault>
-        ensures { result ≡ loose_fault m self.now }
+    fn linked_fault(&self, m: MsgId) -> Option<PortFault>
+        ensures { result ≡ linked_fault m self.now }
     {
         if !self.is_message(m) {
             Some(PortFault::Unknown)
@@ -540,7 +540,7 @@ impl<S: ListSpace> Ports<S> {
         if !self.is_port(p) {
             Some(PortFault::Unknown)
         } else {
-            self.loose_fault(m)
+            self.linked_fault(m)
         }
     }
 

@@ -4,7 +4,7 @@ ghost use Rattle.execlist.specs.{Order.first, Lists.part_from, Disciplines.pri_a
 ghost use Rattle.softint.specs.Interrupts.{IsPriority, quiet, hushed, causes, taken_off, raised, served, chain, header_pri};
 ghost use Rattle.softint.specs.Sources.{highest};
 
-use crate::caused::{IntId, PRIORITIES, caused_behind, first_caused, header_of};
+use crate::caused::{IntId, PRIORITIES, first_caused, header_of, next_caused};
 use crate::chain::{Chains, ServerId, server_at};
 use crate::interrupt::{Server, Soft};
 use crate::latches::Latches;
@@ -113,7 +113,7 @@ impl<S: ListSpace> Ints<S> {
             None => first_caused(&self.caused),
             Some(i) => {
                 if i < self.softs.len() {
-                    caused_behind(&self.caused, i)
+                    next_caused(&self.caused, i)
                 } else {
                     None
                 }

@@ -133,12 +133,12 @@ impl<S: ListSpace> TaskQ<S> {
     {
         match after {
             None => self.pick(),
-            Some(t) => self.ready_behind(t),
+            Some(t) => self.next_ready(t),
         }
     }
 
     // The ready task after this one, if it is ready and not the last.
-    fn ready_behind(&self, t: TaskId) -> Option<TaskId>
+    fn next_ready(&self, t: TaskId) -> Option<TaskId>
         ensures value { result ≡ first (part_after t self.now.ready) }
         ensures ready { IfSome result (λ t. state_at self.now.states t ≡ TaskState.Ready) }
     {

@@ -316,7 +316,7 @@ impl<S: ListSpace> Objects<S> {
     }
 
     /// The message that begins at an address, which is in no port.
-    pub fn loose_message_at(&self, message: u32) -> Result<MsgId, Refusal>
+    pub fn unqueued_message_at(&self, message: u32) -> Result<MsgId, Refusal>
         ensures alert { alert_of result ≡ model.loose_alert message (shown_heap self.now) }
         ensures found { IfOk result (λ m. slot (places variant.Message self.now) m ≡ Some message) }
         ensures live { IfOk result (λ m. IsTrue (is_message m self.now.ports)) }
@@ -339,7 +339,7 @@ impl<S: ListSpace> Objects<S> {
         ensures known { IsKnown self.now }
     {
         let p = self.port_at(port)?;
-        let m = self.loose_message_at(message)?;
+        let m = self.unqueued_message_at(message)?;
         Ok((p, m))
     }
 
@@ -355,7 +355,7 @@ impl<S: ListSpace> Objects<S> {
         ensures live_port { IfOk result (λ pair. ForSome pair.1 (λ p. IsTrue (is_port p self.now.ports))) }
         ensures known { IsKnown self.now }
     {
-        let m = self.loose_message_at(message)?;
+        let m = self.unqueued_message_at(message)?;
         let p = self.reply_port_at(self.ports().reply_port(m))?;
         Ok((m, p))
     }
@@ -489,7 +489,7 @@ impl<S: ListSpace> Heap<S> {
         ensures next { OnOk result (self.new ≡ freed message self.old) }
         ensures kept { OnErr result (self.new ≡ self.old) }
     {
-        let m = self.objects.loose_message_at(message)?;
+        let m = self.objects.unqueued_message_at(message)?;
         self.objects.free_message(m, message);
         Ok(())
     }

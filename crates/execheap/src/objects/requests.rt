@@ -329,7 +329,7 @@ impl<S: ListSpace> Objects<S> {
     }
 
     /// The request that begins at an address, which is not in progress.
-    pub fn resting_request_at(&self, request: u32) -> Result<ReqId, Refusal>
+    pub fn idle_request_at(&self, request: u32) -> Result<ReqId, Refusal>
         ensures alert { alert_of result ≡ model.resting_alert request (shown_heap self.now) }
         ensures found { IfOk result (λ r. slot (places variant.Request self.now) r ≡ Some request) }
         ensures live { IfOk result (λ r. IsTrue (is_request r self.now.requests)) }
@@ -350,7 +350,7 @@ impl<S: ListSpace> Objects<S> {
         ensures loose { IfOk result (λ r. home self.now.ports.places (message_of_request r self.now) ≡ None) }
         ensures known { IsKnown self.now }
     {
-        let r = self.resting_request_at(request)?;
+        let r = self.idle_request_at(request)?;
         let queued = self.is_reply_queued(r);
         if queued { Err(Refusal::Link) } else { Ok(r) }
     }
@@ -366,7 +366,7 @@ impl<S: ListSpace> Objects<S> {
         ensures loose { IfOk result (λ r. home self.now.ports.places (message_of_request r self.now) ≡ None) }
         ensures known { IsKnown self.now }
     {
-        let r = self.resting_request_at(request)?;
+        let r = self.idle_request_at(request)?;
         let open = self.requests().is_open(r);
         let queued = self.is_reply_queued(r);
         if !open {
@@ -535,7 +535,7 @@ impl<S: ListSpace> Heap<S> {
         ensures next { OnOk result (self.new ≡ on_heap (model.opened_for unit request) self.old) }
         ensures kept { OnErr result (self.new ≡ self.old) }
     {
-        let r = self.objects.resting_request_at(request)?;
+        let r = self.objects.idle_request_at(request)?;
         Ok(self.objects.open_request(r, unit))
     }
 
@@ -546,7 +546,7 @@ impl<S: ListSpace> Heap<S> {
         ensures next { OnOk result (self.new ≡ on_heap (model.closed_device request) self.old) }
         ensures kept { OnErr result (self.new ≡ self.old) }
     {
-        let r = self.objects.resting_request_at(request)?;
+        let r = self.objects.idle_request_at(request)?;
         self.objects.close_request(r);
         Ok(())
     }
@@ -565,7 +565,7 @@ impl<S: ListSpace> Heap<S> {
         ensures next { OnOk result (self.new ≡ on_heap (model.with_command command secs micros request) self.old) }
         ensures kept { OnErr result (self.new ≡ self.old) }
     {
-        let r = self.objects.resting_request_at(request)?;
+        let r = self.objects.idle_request_at(request)?;
         self.objects.set_request(r, command, secs, micros);
         Ok(())
     }

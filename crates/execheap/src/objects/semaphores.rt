@@ -9,7 +9,7 @@ ghost use Rattle.execmodel.specs.Semaphores as model;
 
 use crate::heap::Heap;
 use crate::objects::Objects;
-use crate::refusal::{Refusal, told};
+use crate::refusal::{Refusal, as_refusal};
 use crate::tag::Kind;
 use execlist::space::ListSpace;
 use sigsem::fault::SemFault;
@@ -162,7 +162,7 @@ impl<S: ListSpace> Heap<S> {
         ensures kept { OnErr result (self.new ≡ self.old) }
     {
         let n = self.objects.semaphore_at(semaphore)?;
-        told(self.objects.obtain(n, task))
+        as_refusal(self.objects.obtain(n, task))
     }
 
     /// Asks for a semaphore for a task that is not to wait, and answers whether it has it: if it would have to wait, nothing changes. It
@@ -175,7 +175,7 @@ impl<S: ListSpace> Heap<S> {
         ensures kept { OnErr result (self.new ≡ self.old) }
     {
         let n = self.objects.semaphore_at(semaphore)?;
-        told(self.objects.attempt(n, task))
+        as_refusal(self.objects.attempt(n, task))
     }
 
     /// Releases a semaphore once, for its owner. The last release hands it on: the first of the tasks that wait there waits no more and is
@@ -193,7 +193,7 @@ impl<S: ListSpace> Heap<S> {
         ensures kept { OnErr result (self.new ≡ self.old) }
     {
         let n = self.objects.semaphore_at(semaphore)?;
-        told(self.objects.release(n, task))
+        as_refusal(self.objects.release(n, task))
     }
 
     /// One of the tasks waits for no semaphore any more; the others keep their order. Project rule: a task that waits may be removed.

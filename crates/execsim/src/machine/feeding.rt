@@ -93,7 +93,7 @@ impl<S: ListSpace> Kernel<S> {
     fn at_end(&self) -> Option<TaskId>
         ensures { result ≡ end_seen self.now }
     {
-        if self.stopped || self.is_softint_due() {
+        if self.stopped || self.softint_runs_next() {
             None
         } else {
             self.running_at_end()

@@ -139,7 +139,7 @@ impl<S: ListSpace> Machine<S> {
     pub fn next_actor(&self) -> Option<TaskId>
         ensures { result ≡ actor_seen self.now.seen }
     {
-        if self.kernel.stopped || self.kernel.is_softint_due() {
+        if self.kernel.stopped || self.kernel.softint_runs_next() {
             None
         } else {
             self.kernel.sched.running()
@@ -208,7 +208,7 @@ impl<S: ListSpace> Machine<S> {
 
 impl<S: ListSpace> Kernel<S> {
     /// Whether a software interrupt runs before any task's command.
-    pub(super) fn is_softint_due(&self) -> bool
+    pub(super) fn softint_runs_next(&self) -> bool
         ensures { result ≡ is_some (softint_seen self.now) }
     {
         if self.sched.may_interrupt() {

@@ -8,4 +8,4 @@ pub returns : goal.returns
 unfolding does_free_msg
 returns g c = rw (← c.self.view_is) (heap_changed _ _ (loose_alert _) (freed _) (λ y. refl) _ _
     (rw c.number-message.ensures at c.free_message-tried.ensures.alert)
-    (rw c.number-message.ensures at c.free_message-tried.ensures.next) c.free_message-tried.ensures.kept c.concluded.ensures)
+    (rw c.number-message.ensures at c.free_message-tried.ensures.next) c.free_message-tried.ensures.kept c.conclude.ensures)

@@ -7,4 +7,4 @@ pub returns : goal.returns
 unfolding does_rem_library
 returns g c = rw (← c.self.view_is) (heap_changed _ _ (library_alert _) (after_expunge _) (removed-in_order _) _ _
     (rw c.number-base.ensures at c.remove_library-tried.ensures.alert)
-    (rw c.number-base.ensures at c.remove_library-tried.ensures.next) c.remove_library-tried.ensures.kept c.concluded.ensures)
+    (rw c.number-base.ensures at c.remove_library-tried.ensures.next) c.remove_library-tried.ensures.kept c.conclude.ensures)
