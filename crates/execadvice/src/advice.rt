@@ -6,6 +6,7 @@ use crate::calculations::{Wordless, asks, is_operator, name_of_operator, without
 use crate::escaped::shown_name;
 use crate::events::is_event;
 use crate::foreign::{Instead, instead_of, is_type, number_of_constants, place_of};
+use crate::interrupt_lines::lacked_in_interrupt;
 use crate::made::Made;
 use crate::members::position_named;
 use crate::mending::{Mending, takes_task};
@@ -16,7 +17,6 @@ use crate::reads::is_number;
 use crate::said::cut;
 use crate::show::{Advice, Fix, Span, field_span, width_of};
 use crate::spacing::spacing_advice;
-use crate::stands::lacked_in_interrupt;
 use crate::values::{base_sixteen, has_point, is_constant, is_value, number_meant};
 use crate::variables::is_variable;
 use crate::words::{word_meant, word_near, words_begun};

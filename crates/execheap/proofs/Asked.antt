@@ -7,8 +7,8 @@ use Rattle.execlist.specs.Pool.{IsStocked, next_number}
 use Rattle.execlib.specs.Libraries.{Lent, asked_each, asked_one, fits, gives_way, lent, loaded_at, memory_after_removal, numbers, removed}
 use Rattle.execlib.specs.declared.library.Loaded.{Loaded}
 use Rattle.execlib.specs.Libraries as library
-use Rattle.execmodel.specs.GivingWay as model
-use Rattle.execmodel.specs.{GivingWay.after_asking_for_object, GivingWay.gives_way_at, Memory.place_for, Memory.placed, State.Object, State.Plain, Objects.is_allowed, Objects.place_for_object}
+use Rattle.execmodel.specs.LowMemory as model
+use Rattle.execmodel.specs.{LowMemory.after_asking_for_object, LowMemory.gives_way_at, Memory.place_for, Memory.placed, State.Object, State.Plain, Objects.is_allowed, Objects.place_for_object}
 use Rattle.execheap.specs.{declared.tag.Kind.Kind, Tags.size_of, Table.Tabled, Table.IsSound, Table.after_asking, Table.library_removed, Table.next_object, Table.pool_of, Table.ready_for, Table.ready_for_number, Table.with_lent, Table.with_object, Numbered.Numbered, Numbered.Fits, Numbered.IsKept, Numbered.own_shape, Numbered.shown_library, Numbered.shown_memory, Numbered.test_of}
 use Rattle.execheap.specs.declared.tag.Kind.TheVariants as variant
 use Rattle.execheap.proofs.{Asking.IsSettled, Asking.settled_after, Asking.settled_now, Asking.settled_one, Blocks.fit_shown, Libraries.base_shown, LibraryCalls.removed_shown, Made.IsMade, Made.made_at, Plain.plain_placed, Showing.address_of, Showing.allowed_shown, Showing.place_shown}

@@ -3,7 +3,7 @@ use Rattle.std.proofs.Common.{◌≡◌, ℕ, List, refl, ap, sym, ◌∙◌, So
 use Rattle.memlist.specs.Memory.{IsWellFormed}
 use Rattle.execlib.specs.{declared.library.Loaded.Loaded, Libraries.Lent, Libraries.lent, Libraries.library_to_open, Libraries.loaded_at, Libraries.opened_base}
 use Rattle.execlib.specs.Libraries as library
-use Rattle.execmodel.specs.GivingWay as asking
+use Rattle.execmodel.specs.LowMemory as asking
 use Rattle.execmodel.specs.Libraries as model
 use Rattle.execmodel.specs.Libraries.{base_opened}
 use Rattle.execheap.specs.{Table.Tabled, Table.IsSound, Table.library_opened, Table.ready_to_open, Numbered.Numbered, Numbered.IsKept, Numbered.shown_heap, Numbered.shown_memory}

@@ -5,7 +5,7 @@ ghost use Rattle.std.specs.Prelude.{◌≡◌, ◌≤◌, ◌↔◌, [], true, f
 ghost use Rattle.execlib.specs.Libraries.{description_of};
 ghost use Rattle.memlist.specs.Fit.{avail};
 ghost use Rattle.script.specs.Records.{library_view};
-ghost use Rattle.execmodel.specs.{State.Plain, Memory.block_at, Memory.can_be_asked, Memory.extents, Memory.freed, Memory.is_named, Memory.place_for, Memory.placed, GivingWay.after_asking};
+ghost use Rattle.execmodel.specs.{State.Plain, Memory.block_at, Memory.can_be_asked, Memory.extents, Memory.freed, Memory.is_named, Memory.place_for, Memory.placed, LowMemory.after_asking};
 ghost use Rattle.timerdev.specs.Timing.{new_timer};
 ghost use Rattle.execheap.specs.{Numbered.shown_library, Resetting.IsAsLarge};
 

@@ -3,7 +3,7 @@ ghost use Rattle.std.specs.Prelude.{◌≡◌, ◌≤◌, not, ◌&&◌, true, f
 ghost use Rattle.execlib.specs.Libraries.{description_of};
 ghost use Rattle.memlist.specs.{Fit.asks, Fit.avail, Memory.can_free, Memory.without_block};
 ghost use Rattle.execlist.specs.Pool.{slot};
-ghost use Rattle.execmodel.specs.{State.Plain, Memory.freed, Memory.place_for, Memory.placed, GivingWay.after_asking};
+ghost use Rattle.execmodel.specs.{State.Plain, Memory.freed, Memory.place_for, Memory.placed, LowMemory.after_asking};
 ghost use Rattle.execheap.specs.declared.tag.Kind.TheVariants as variant;
 ghost use Rattle.execheap.specs.{Table.number_at, Numbered.IsKnown, Numbered.places, Numbered.shown_memory, Changes.unused};
 

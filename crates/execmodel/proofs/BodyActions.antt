@@ -11,7 +11,7 @@ use Rattle.execmodel.specs.{State.Call, State.State, State.Timer as Clock, State
 use Rattle.softint.specs.declared.source.Source.TheVariants as source
 use Rattle.timerdev.specs.Timing.{due_next, looked_at, until_next}
 use Rattle.std.proofs.lemmas.List.Elements.{All-head, All-tail}
-use Rattle.execmodel.proofs.{Commands.performed_fixed, Telling.IsOwn, Telling.own, Telling.refusing, Telling.body_commanded, Keeping.finishes_found}
+use Rattle.execmodel.proofs.{Commands.performed_fixed, LinesOf.IsOwn, LinesOf.own, LinesOf.refusing, LinesOf.body_commanded, Keeping.finishes_found}
 
 -- ---- what bodies leave
 

@@ -11,7 +11,7 @@ use Rattle.scheduler.specs.{declared.Switch.Switch as Choice, Schedule.task_name
 use Rattle.scheduler.specs.declared.Switch.TheVariants as choice
 use Rattle.execmodel.specs.Step.{announced, switches, settle, call_step, task_step, softint_or_task_step, step_action, acts, step, steps, request, tick, ticks, all_added, starts, event, events, run}
 use Rattle.execmodel.specs.{State.Call as TaskCall, State.State, State.Outcome, State.quiet, State.andthen, State.unless_stopped, State.on_schedule, State.on_memory, State.on_pending, State.on_timer, State.booted, Calls.next_call, Pending.with_latch_of, Pending.next_softint, Interrupts.interrupts, Laws.OneStep, Laws.OneTick, Laws.OneRequest, Laws.says_switch, Laws.ComesTo, Laws.begins, Laws.goes_on, Laws.SwitchesTo, Laws.at_start, Laws.by_action, Laws.EachSwitchLineIsAChoice}
-use Rattle.execmodel.proofs.{Heaps.true_is_not_false, Saying.only_switches_say_so}
+use Rattle.execmodel.proofs.{Heaps.true_is_not_false, LinesOfBodies.only_switches_say_so}
 
 -- ---- what says no switch
 

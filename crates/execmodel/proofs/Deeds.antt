@@ -1,7 +1,7 @@
 -- Facts about every call that is a value of what refuses it, what it makes of the blocks, and what it answers.
 use Rattle.std.proofs.Common.{◌≡◌, ℕ, Bool, Option, None, Some, refl, sym, ap, ◌∙◌, List, unwrap_or}
-use Rattle.execmodel.specs.{State.Call, State.Object, State.Memory, State.State, State.Outcome, State.on_memory, Calls.answered, Calls.unless, Deeds.allots, Deeds.makes, Deeds.performs, GivingWay.after_asking_for_object, Keeping.without_blocks, Memory.allocates_block, Memory.makes_object, Objects.place_for_object, Places.placed}
-use Rattle.execmodel.proofs.GivingWay.{asking_for_object_keeps}
+use Rattle.execmodel.specs.{State.Call, State.Object, State.Memory, State.State, State.Outcome, State.on_memory, Calls.answered, Calls.unless, Deeds.allots, Deeds.makes, Deeds.performs, LowMemory.after_asking_for_object, Keeping.without_blocks, Memory.allocates_block, Memory.makes_object, Objects.place_for_object, Places.placed}
+use Rattle.execmodel.proofs.LowMemory.{asking_for_object_keeps}
 use Rattle.script.specs.declared.alert.Alert.{Alert}
 
 -- a memory that differs in its blocks alone

@@ -11,8 +11,8 @@ use Rattle.execmodel.specs.Libraries.{is_library, is_library_at, library_number,
 use Rattle.execmodel.specs.{Requests.is_request, Requests.is_request_at, Requests.with_request, Requests.finishes, Calls.next_call, Pending.next_softint, Bodies.body_step, Objects.object_at, Objects.is_kind, Objects.replaced, Memory.extents, Memory.block_at, Lists.is_list, Lists.is_list_at, Lists.with_nodes, Lists.unlinked, Lists.left_by, Ports.is_port, Ports.is_message, Ports.is_port_at, Ports.is_message_at, Ports.with_port, Ports.with_action, Ports.appended, Ports.taken_off, Step.switches, Step.settle, Step.ends, Step.call_step, Step.task_step, Step.softint_or_task_step, Step.step_action, Step.acts, Step.step, Step.tick, Step.run, Laws.Action, Laws.OneStep, Laws.OneTick, Laws.OneRequest, Laws.outcome_of, Laws.IsToCall, Laws.IsLastClose, Laws.StaysLoaded, Laws.OpenLibrariesStay}
 use Rattle.scheduler.specs.Dispatch.{rescheduled}
 use Rattle.execmodel.proofs.Stretches.{Relation, HoldsOfInterrupts, of_softint, of_set, of_settle, of_request, ticked}
-use Rattle.execmodel.proofs.Moves.{MayExpunge, MayGo, Moves, is_of_libraries, touches, takes, frees, relists, unlinks, sets, enters, queues, hands, opens, releases, counts, expunges, drops}
-use Rattle.execmodel.proofs.{Heaps.block_remade, Heaps.found_rid, Heaps.rid, Heaps.filled, Heaps.true_is_not_false, Itself.does_itself, Itself.ends_followed, Itself.call_works, Formed.placed_fresh, Formed.counted_formed, Formed.rid_formed, Commands.Touches, Commands.remains, Commands.fills, Commands.puts, Commands.gets, Telling.body_alters, Taking.Takes, Taking.nothing, Taking.places, Taking.recounts, Taking.yields, Posts.IsTidy, Asking.Asks, Asking.writes, Asking.answers, Asking.written, Asking.without_reply, Asking.finishing, Works.Works, Works.by_moves, Works.by_asking, Works.by_taking, TidyLaw.quietly, TidyLaw.switches_quiet, TidyLaw.tidy_in_every_state}
+use Rattle.execmodel.proofs.BlocksAfter.{MayExpunge, MayGo, Moves, is_of_libraries, touches, takes, frees, relists, unlinks, sets, enters, queues, hands, opens, releases, counts, expunges, drops}
+use Rattle.execmodel.proofs.{Heaps.block_remade, Heaps.found_rid, Heaps.rid, Heaps.filled, Heaps.true_is_not_false, WithoutFinishing.does_itself, WithoutFinishing.ends_followed, WithoutFinishing.call_works, WellFormed.placed_fresh, WellFormed.counted_formed, WellFormed.rid_formed, Commands.Touches, Commands.remains, Commands.fills, Commands.puts, Commands.gets, LinesOf.body_alters, Taking.Takes, Taking.nothing, Taking.places, Taking.recounts, Taking.yields, Posts.IsTidy, Asking.Asks, Asking.writes, Asking.answers, Asking.written, Asking.without_reply, Asking.finishing, RequestsAfter.Works, RequestsAfter.by_moves, RequestsAfter.by_asking, RequestsAfter.by_taking, NoStraysLaw.quietly, NoStraysLaw.switches_quiet, NoStraysLaw.tidy_in_every_state}
 
 -- ---- a library is nothing else
 

@@ -19,7 +19,7 @@ use Rattle.execmodel.specs.Step.{announced, switches, settle, does, ends, task_s
 use Rattle.execmodel.specs.{Calls.next_call, Calls.call_in_body, Pending.caused_no_more, Pending.with_latch_of, Pending.next_softint, Pending.next_source, Bodies.body_step, Bodies.runs_body, Requests.does_requests, Requests.finishes, Requests.finishes_each, Requests.finishes_all_due, Requests.finishes_set, Laws.FitsItsWord, Laws.CallsFitTheirWords, Laws.LinesAreShort}
 use Rattle.execmodel.proofs.ShortLines.{IsShort, IsShortText, switch_short, idle_short, serve_short, server_short, softint_short, call_short}
 use Rattle.execmodel.proofs.ShortTexts.{IsShortBody, HasShortTexts, Says, all_stays, named_alike, quiet_says, line_says, then_says, either_says, going_says, itself_says, next_has, either_names, command_says, finished_says}
-use Rattle.execmodel.proofs.{Keeping.finishes_found, Itself.followed, ShortCalls.IsBrief, ShortCalls.HasArguments, ShortCalls.name_is_short, ShortCalls.body_call_has, Telling.IsBriefProgram}
+use Rattle.execmodel.proofs.{Keeping.finishes_found, WithoutFinishing.followed, ShortCalls.IsBrief, ShortCalls.HasArguments, ShortCalls.name_is_short, ShortCalls.body_call_has, LinesOf.IsBriefProgram}
 
 -- ---- interrupts
 

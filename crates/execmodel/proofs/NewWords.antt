@@ -36,7 +36,7 @@ use Rattle.execmodel.specs.State.{Call, Scripts, Program, Memory, Mark, State, O
 use Rattle.execmodel.specs.Calls.{Caller, ByTask, ByBody, argument, name_argument, done, answered, waiting, silent, alerted, done_by, answered_by, silent_by, unless_by}
 use Rattle.execmodel.proofs.NewTask.{Fits, Moves, name_same, pri_same, status_same, signals_same, nesting_same, allocates_moves, sets_moves, frees_moves, leaves_moves, removed_moves, waits_at_semaphore_moves, after_wait_moves, clears_moves, nested_moves, arrives_moves, added_moves, signalled_moves, reprioritized_moves, found_same, set_last, get_last}
 use Rattle.execmodel.proofs.NewMemory.{IsBlind, placed_blind, place_same, removed_blind, asking_for_object_blind, asking_for_port_blind, opening_same, opened_blind, closed_blind, BlindDeed, list_blind, memory_blind}
-use Rattle.execmodel.proofs.{Heaps.true_is_not_false, Commands.passed_first, Commands.goes_count, Commands.answered_count, Commands.stored_count, Commands.shared_count, Shifts.number_in_range}
+use Rattle.execmodel.proofs.{Heaps.true_is_not_false, Commands.passed_first, Commands.goes_count, Commands.answered_count, Commands.stored_count, Commands.shared_count, StatesAfter.number_in_range}
 use Rattle.std.proofs.lemmas.Bool.Decides.{nat_tests}
 use Rattle.exectrace.specs.Trace.{TraceLine, Done, Answers}
 use Rattle.exectrace.specs.Trace as trace
@@ -51,7 +51,7 @@ use Rattle.execmodel.specs.Blocks.{Heap, MsgPort, Object, on_heap}
 use Rattle.execmodel.specs.Bodies.{does_in_body, does_interrupts_by, does_plain_by, does_ports_by, does_signals_by, does_word_by}
 use Rattle.execmodel.specs.Causing.{does_cause_by}
 use Rattle.execmodel.specs.Deeds.{Deed, concluded, performs}
-use Rattle.execmodel.specs.GivingWay.{after_asking_for_object}
+use Rattle.execmodel.specs.LowMemory.{after_asking_for_object}
 use Rattle.execmodel.specs.Libraries.{close_alert, closed, does_close_library, does_lib_open_cnt, does_libraries, does_open_library, does_rem_library, library_alert, opened}
 use Rattle.execmodel.specs.{Memory.makes_object, Memory.allocates_block, Loaded.after_expunge}
 use Rattle.msgport.specs.Port.{arrival_action, new_port}

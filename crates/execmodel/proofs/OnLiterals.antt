@@ -2,7 +2,7 @@
 use Rattle.std.specs.Prelude.{⊤}
 use Rattle.execmodel.specs.Interrupts.{by_choice, chain_of, interrupts, runs_chain, runs_server, runs_softint, serves, servings}
 use Rattle.execmodel.specs.Step.{step_action, acts, all_added, does, ends, event, events, request, run, settle, starts, step, steps, switches, tick, ticks}
-use Rattle.execmodel.specs.{Calls.alerted, Calls.answered, Calls.call_of, Calls.done, Calls.next_call, Calls.silent, Calls.waiting, Bodies.body_step, Bodies.does_in_body, Bodies.runs_body, Causing.does_cause, Pending.causes, Pending.next_softint, Pending.next_source, Deeds.performs, Lists.list_rules, Libraries.library_rules, GivingWay.after_asking, GivingWay.after_asking_for_object, GivingWay.gives_way, Memory.memory_deed, Nesting.nesting_rules, Objects.place_for_object, Plain.plain_rules, Ports.port_rules, Requests.request_rules, Semaphores.semaphore_rules, Signals.signal_rules, State.andthen, State.booted, Tasks.task_rules}
+use Rattle.execmodel.specs.{Calls.alerted, Calls.answered, Calls.call_of, Calls.done, Calls.next_call, Calls.silent, Calls.waiting, Bodies.body_step, Bodies.does_in_body, Bodies.runs_body, Causing.does_cause, Pending.causes, Pending.next_softint, Pending.next_source, Deeds.performs, Lists.list_rules, Libraries.library_rules, LowMemory.after_asking, LowMemory.after_asking_for_object, LowMemory.gives_way, Memory.memory_deed, Nesting.nesting_rules, Objects.place_for_object, Plain.plain_rules, Ports.port_rules, Requests.request_rules, Semaphores.semaphore_rules, Signals.signal_rules, State.andthen, State.booted, Tasks.task_rules}
 use Rattle.scheduler.specs.Schedule.{allocates_signal, begins, found, frees_signal, leaves, task_removed, sets_signals, takes_signals, quantum_ticked, waits_at_semaphore, waits_for}
 use Rattle.scheduler.specs.Dispatch.{added, arrives, reprioritized, rescheduled, signalled, switch_of}
 use Rattle.memlist.specs.{Blocks.gaps, Fit.avail, Fit.fit}

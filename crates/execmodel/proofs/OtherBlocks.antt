@@ -11,9 +11,9 @@ use Rattle.script.specs.declared.word.memory.MemoryWord.TheVariants as memory
 use Rattle.execlib.specs.Libraries.{public_memory}
 use Rattle.execmodel.specs.State.{Call, Object, Plain, Library, Block, Heap, Memory, State, Outcome}
 use Rattle.execmodel.specs.Libraries.{is_library, is_library_at, count_of, is_delayed, with_library, after_expunge, base_of, library_at, library_to_open, entered_or_loaded, library_opened, ready_to_load, ready_to_open, opened, closed, close_alert, library_alert, does_libraries, does_open_library, does_close_library, does_rem_library, does_lib_open_cnt}
-use Rattle.execmodel.specs.{Calls.argument, Calls.name_argument, Calls.answered, Calls.alerted, Calls.done, Calls.unless, Deeds.performs, GivingWay.after_asking, GivingWay.after_asking_for_object, Memory.memory_deed, Memory.is_plain, Memory.is_named, Memory.free_alert, Memory.alloc_alert, Memory.avail_alert, Memory.does_memory, Objects.object_at, Objects.is_kind, Objects.is_allowed, Objects.place_for_object, Places.block_at, Places.extents, Places.freed, Places.place_for, Places.placed, Step.run, OtherBlocks.LeavesOtherBlocks, OtherBlocks.LibraryWordsLeaveOtherBlocks, OtherBlocks.MemoryWordsLeaveOtherBlocks}
+use Rattle.execmodel.specs.{Calls.argument, Calls.name_argument, Calls.answered, Calls.alerted, Calls.done, Calls.unless, Deeds.performs, LowMemory.after_asking, LowMemory.after_asking_for_object, Memory.memory_deed, Memory.is_plain, Memory.is_named, Memory.free_alert, Memory.alloc_alert, Memory.avail_alert, Memory.does_memory, Objects.object_at, Objects.is_kind, Objects.is_allowed, Objects.place_for_object, Places.block_at, Places.extents, Places.freed, Places.place_for, Places.placed, Step.run, OtherBlocks.LeavesOtherBlocks, OtherBlocks.LibraryWordsLeaveOtherBlocks, OtherBlocks.MemoryWordsLeaveOtherBlocks}
 use Rattle.execmodel.proofs.Libraries.{block_elsewhere, block_rid_there, block_placed_there}
-use Rattle.execmodel.proofs.{Heaps.rid, Heaps.true_is_not_false, Heaps.object_placed_here, Commands.none_some, Commands.passed_first, Formed.placed_fresh, Formed.counted_formed, Formed.rid_formed, GivingWay.asking_keeps, GivingWayLaw.asking_leaves_others, Loaded.base_is_loaded, Moves.is_library_there, Posts.IsTidy, Taking.HoldsBefore, Taking.asking_before, TidyLaw.tidy_in_every_state}
+use Rattle.execmodel.proofs.{Heaps.rid, Heaps.true_is_not_false, Heaps.object_placed_here, Commands.none_some, Commands.passed_first, WellFormed.placed_fresh, WellFormed.counted_formed, WellFormed.rid_formed, LowMemory.asking_keeps, LowMemoryLaw.asking_leaves_others, Loaded.base_is_loaded, BlocksAfter.is_library_there, Posts.IsTidy, Taking.HoldsBefore, Taking.asking_before, NoStraysLaw.tidy_in_every_state}
 
 -- ---- an address with another object
 

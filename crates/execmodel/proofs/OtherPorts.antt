@@ -13,7 +13,7 @@ use Rattle.execmodel.specs.Ports.{is_port, is_message, is_port_at, is_message_at
 use Rattle.execmodel.specs.{Calls.argument, Calls.done, Calls.answered, Calls.waiting, Libraries.is_library_at, Memory.placed, Objects.object_at, Objects.is_kind, Objects.replaced, Objects.place_for_object, Places.block_at, Step.run, OtherBlocks.is_of_ports, OtherBlocks.PortWordsLeaveOtherBlocks}
 use Rattle.execmodel.proofs.Libraries.{block_elsewhere, block_rid_there}
 use Rattle.execmodel.proofs.OtherBlocks.{apart_by, Becomes, BecomesIn, refused_leaves, either_leaves, asked_for, placed_object_leaves, made_leaves}
-use Rattle.execmodel.proofs.{Heaps.true_is_not_false, Commands.passed_first, Commands.passed_other, Commands.is_port_there, Commands.is_loose_there, Commands.performed_memory, Posts.IsTidy, TidyLaw.tidy_in_every_state}
+use Rattle.execmodel.proofs.{Heaps.true_is_not_false, Commands.passed_first, Commands.passed_other, Commands.is_port_there, Commands.is_loose_there, Commands.performed_memory, Posts.IsTidy, NoStraysLaw.tidy_in_every_state}
 
 port_is : (found : Option Object) → is_kind is_port found ≡ true → is_kind is_of_ports found ≡ true
 port_is None is = is

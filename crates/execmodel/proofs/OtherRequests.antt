@@ -17,7 +17,7 @@ use Rattle.execmodel.specs.Requests.{is_request, is_request_at, request_of, with
 use Rattle.execmodel.specs.{Calls.argument, Calls.done, Calls.answered, Calls.waiting, Calls.unless, Libraries.is_library_at, Objects.object_at, Objects.is_kind, Objects.replaced, Step.run, OtherBlocks.is_of_requests, OtherBlocks.RequestWordsLeaveOtherBlocks}
 use Rattle.execmodel.proofs.Libraries.{block_elsewhere, block_rid_there}
 use Rattle.execmodel.proofs.OtherBlocks.{alike_kind, apart_by, Becomes, BecomesIn, refused_leaves, either_leaves, made_leaves}
-use Rattle.execmodel.proofs.{Heaps.instead, Heaps.object_replaced, Heaps.true_is_not_false, Asking.written, Asking.ports_written, Asking.answering, Commands.passed_first, Commands.performed_memory, Posts.IsTidy, TidyLaw.tidy_in_every_state, Works.MayBegin, Works.may_do, Works.queued_lives, Works.replied_there, Works.never_replied}
+use Rattle.execmodel.proofs.{Heaps.instead, Heaps.object_replaced, Heaps.true_is_not_false, Asking.written, Asking.ports_written, Asking.answering, Commands.passed_first, Commands.performed_memory, Posts.IsTidy, NoStraysLaw.tidy_in_every_state, RequestsAfter.MayBegin, RequestsAfter.may_do, RequestsAfter.queued_lives, RequestsAfter.replied_there, RequestsAfter.never_replied}
 
 request_is : (found : Option Object) → is_kind is_request found ≡ true → is_kind is_of_requests found ≡ true
 request_is None is = is

@@ -6,7 +6,7 @@ use Rattle.script.specs.{Alerts.alert_text, Words.word_text, Commands.CommandDat
 use Rattle.execlist.specs.Order.{first}
 use Rattle.scheduler.specs.Schedule.{task_name, Schedule}
 use Rattle.execmodel.specs.{State.Call, State.Scripts, State.Bodies, State.State, State.Outcome, State.quiet, State.prints_line, State.andthen, State.unless_stopped, State.program_of, State.on_schedule, State.on_memory, Calls.call_at, Calls.call_after, Calls.call_in_body, Calls.next_call, Ports.performed, Bodies.body_step, Requests.answering_port, Requests.acting_at, Requests.with_reply, Requests.ended, Requests.finishes, Interrupts.softint_at, Interrupts.server_at}
-use Rattle.execmodel.proofs.{Itself.word_itself, Itself.does_itself, Itself.word_keeps, Itself.word_tells, Commands.performed_scripts, Commands.performed_fixed, ShortLines.IsShort, ShortLines.IsShortText, ShortLines.AreShort, ShortLines.timer_short, ShortLines.call_short, ShortLines.alert_short, ShortWords.code_short, ShortWords.word_short, ShortCalls.IsBrief, ShortCalls.HasArguments, ShortCalls.task_call_has, ShortCalls.body_call_has, Telling.AreBriefPrograms, Telling.IsOwn, Telling.own, Telling.refusing, Telling.body_commanded}
+use Rattle.execmodel.proofs.{WithoutFinishing.word_itself, WithoutFinishing.does_itself, WithoutFinishing.word_keeps, WithoutFinishing.word_tells, Commands.performed_scripts, Commands.performed_fixed, ShortLines.IsShort, ShortLines.IsShortText, ShortLines.AreShort, ShortLines.timer_short, ShortLines.call_short, ShortLines.alert_short, ShortWords.code_short, ShortWords.word_short, ShortCalls.IsBrief, ShortCalls.HasArguments, ShortCalls.task_call_has, ShortCalls.body_call_has, LinesOf.AreBriefPrograms, LinesOf.IsOwn, LinesOf.own, LinesOf.refusing, LinesOf.body_commanded}
 use Rattle.forbid.specs.Nesting.{Nesting}
 use Rattle.softint.specs.declared.latches.Latches.{Latches}
 

@@ -13,7 +13,7 @@ use Rattle.execmodel.specs.Interrupts.{softint_at, runs_softint, server_at, chai
 use Rattle.execmodel.specs.Step.{switches, settle, does, ends, task_step, call_step, softint_or_task_step, step_action, acts, step, steps, request, tick, ticks, all_added, starts, event, events}
 use Rattle.execmodel.specs.{Calls.next_call, Pending.caused_no_more, Pending.with_latch_of, Pending.next_softint, Pending.next_source, Bodies.body_step, Bodies.runs_body, Requests.does_requests, Requests.finishes, Requests.finishes_each, Requests.finishes_all_due, Requests.finishes_set, Laws.times_waiting}
 use Rattle.timerdev.specs.Timing.{clock_ticked, due_next, looked_at, until_next}
-use Rattle.execmodel.proofs.{Asking.due_stands, Asking.until_stands, Keeping.finishes_found, Itself.does_itself, Itself.followed}
+use Rattle.execmodel.proofs.{Asking.due_stands, Asking.until_stands, Keeping.finishes_found, WithoutFinishing.does_itself, WithoutFinishing.followed}
 
 -- a relation of the state before, the marks that are left, and the state after
 abbrev pub Relation : Type 1

@@ -7,7 +7,7 @@ use Rattle.execlist.specs.{Disciplines.pri_at, Disciplines.by_arrival, Order.cho
 use Rattle.scheduler.specs.Schedule.{Schedule, task_name, priority_of, begins, switch_for, is_switching_allowed, is_quantum_over, takes_over}
 use Rattle.scheduler.specs.{declared.Switch.Switch, declared.Switch.TheVariants.To, declared.Switch.TheVariants.Idle, Dispatch.arrives, Dispatch.displaced, Dispatch.after_switch, Dispatch.switch_of, Dispatch.rescheduled}
 use Rattle.execmodel.specs.{State.State, State.on_schedule, Step.announced, Step.switches, Laws.SwitchesGoToTheChosen}
-use Rattle.execmodel.proofs.{Heaps.true_is_not_false, TidyLaw.switches_quiet}
+use Rattle.execmodel.proofs.{Heaps.true_is_not_false, NoStraysLaw.switches_quiet}
 use Rattle.memlist.proofs.Answered.{nat_eq-other, cases_eq}
 
 -- the chosen of two sequences, one after the other, from the chosen of each

@@ -6,9 +6,9 @@ use Rattle.memlist.specs.{declared.region.Region.Region, Fit.fit, Fit.round, Mem
 use Rattle.memlist.proofs.Answered.{nat_eq-other, cases_eq}
 use Rattle.sigsem.specs.Semaphores.{free_sem}
 use Rattle.iorequest.specs.Request.{is_under_way}
-use Rattle.execmodel.specs.{State.Object, State.ListHead, State.MsgPort, State.Semaphore, State.Library, State.Request, State.Heap, State.Memory, State.State, State.Outcome, State.on_memory, Places.extents, Places.place_for, Places.freed, Objects.is_allowed, Loaded.is_library_at, Loaded.count_of, Loaded.with_library, Loaded.base_of, Loaded.after_expunge, GivingWay.gives_way_at, GivingWay.gives_way, GivingWay.asked_one, GivingWay.asked_each, GivingWay.after_asking, GivingWay.after_asking_for_object, Ports.is_port, Ports.port_size, Ports.after_asking_for_port, Libraries.library_at, Libraries.ready_to_load, Libraries.ready_to_open, Keeping.without_blocks}
+use Rattle.execmodel.specs.{State.Object, State.ListHead, State.MsgPort, State.Semaphore, State.Library, State.Request, State.Heap, State.Memory, State.State, State.Outcome, State.on_memory, Places.extents, Places.place_for, Places.freed, Objects.is_allowed, Loaded.is_library_at, Loaded.count_of, Loaded.with_library, Loaded.base_of, Loaded.after_expunge, LowMemory.gives_way_at, LowMemory.gives_way, LowMemory.asked_one, LowMemory.asked_each, LowMemory.after_asking, LowMemory.after_asking_for_object, Ports.is_port, Ports.port_size, Ports.after_asking_for_port, Libraries.library_at, Libraries.ready_to_load, Libraries.ready_to_open, Keeping.without_blocks}
 use Rattle.execlib.specs.Libraries.{public_memory}
-use Rattle.execmodel.proofs.{Heaps.rid, Heaps.true_is_not_false, Loaded.base_is_loaded, GivingWay.asking_keeps, GivingWay.asking_for_object_keeps}
+use Rattle.execmodel.proofs.{Heaps.rid, Heaps.true_is_not_false, Loaded.base_is_loaded, LowMemory.asking_keeps, LowMemory.asking_for_object_keeps}
 
 -- a new object: an empty list or port, a semaphore that no task owns and none waits for, a library that was at no base, a request that is not
 -- in progress, or what has no queue

@@ -10,7 +10,7 @@ use Rattle.script.specs.{File.MachineData, Machines.IsMachine, declared.event.Ev
 use Rattle.execmodel.specs.{State.Call, State.Mark, State.State, State.Outcome, State.on_schedule, State.new_program, State.booted, State.andthen, Calls.next_call, Bodies.body_step, Semaphores.waiters_of, Step.switches, Step.ends, Step.starts, Step.events, Step.run, Marks.semaphore_turn, Marks.turns_at_semaphore, Laws.QueuesAgreeWithTheSchedule, Laws.SemaphoresPassInOrder, Laws.times_waiting, Requests.finishes}
 use Rattle.execlist.specs.{Lists.times, Disciplines.by_arrival}
 use Rattle.execmodel.proofs.Agreement.{AllAgree, all_absent, absent_agrees, alike_agrees, rearrives_agrees, added_agrees, signalled_agrees, stops_agrees, asks_agrees, wakes_agrees, removed_agrees, rescheduled_agrees, waits_at, running_state}
-use Rattle.execmodel.proofs.{Queues.Follows, Queues.IsOnce, Queues.follows_more, Queues.follows_once, Queues.in_order, Itself.does_itself, Itself.call_works, Itself.call_shifts, Stretches.Relation, Stretches.HoldsOfEach, Stretches.clock_gains, Stretches.of_starts, Stretches.of_events, Commands.IsCalm, Commands.Reaches, Commands.rests, Commands.posts, Telling.body_alters, Posts.IsTidy, Asking.finishing, Asking.without_reply, Works.Works, Works.by_moves, Works.by_asking, Works.by_taking, TidyLaw.tidies, TidyLaw.rescheduled_tidy, TidyLaw.booted_tidy, TidyLaw.quietly, TidyLaw.switches_quiet, OwnersLaw.called_idle, Owners.AllIdle, Owners.touched_idle, Owners.asked_idle, Passing.dropped_left, Passing.touched_pass, Passing.moves_pass, Passing.asked_pass, Passing.taken_pass, Shifts.Shifts, Shifts.reaches, Shifts.rearrives, Shifts.adds, Shifts.takes, Shifts.sleeps, Shifts.asks, Shifts.wakes, Shifts.leaves, Shifts.removes, Waiting.waits_at_one, Waiting.runs_nowhere, Versions.word_settings}
+use Rattle.execmodel.proofs.{Queues.Follows, Queues.IsOnce, Queues.follows_more, Queues.follows_once, Queues.in_order, WithoutFinishing.does_itself, WithoutFinishing.call_works, WithoutFinishing.call_shifts, Stretches.Relation, Stretches.HoldsOfEach, Stretches.clock_gains, Stretches.of_starts, Stretches.of_events, Commands.IsCalm, Commands.Reaches, Commands.rests, Commands.posts, LinesOf.body_alters, Posts.IsTidy, Asking.finishing, Asking.without_reply, RequestsAfter.Works, RequestsAfter.by_moves, RequestsAfter.by_asking, RequestsAfter.by_taking, NoStraysLaw.tidies, NoStraysLaw.rescheduled_tidy, NoStraysLaw.booted_tidy, NoStraysLaw.quietly, NoStraysLaw.switches_quiet, OwnersLaw.called_idle, Owners.AllIdle, Owners.touched_idle, Owners.asked_idle, Passing.dropped_left, Passing.touched_pass, Passing.moves_pass, Passing.asked_pass, Passing.taken_pass, StatesAfter.Shifts, StatesAfter.reaches, StatesAfter.rearrives, StatesAfter.adds, StatesAfter.takes, StatesAfter.sleeps, StatesAfter.asks, StatesAfter.wakes, StatesAfter.leaves, StatesAfter.removes, Waiting.waits_at_one, Waiting.runs_nowhere, Versions.word_settings}
 
 -- ---- there are as many states as programs
 

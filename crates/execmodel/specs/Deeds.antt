@@ -1,7 +1,7 @@
 -- A call as a value: the alert that refuses it, how it changes the blocks of memory, and what it returns. It changes
 -- nothing else, except that its caller goes on. Each call on lists is such a value, and each call on memory.
 use Rattle.std.specs.Prelude.{ℕ, Bool, List, Option, None, Some, unwrap_or}
-use Rattle.execmodel.specs.{State.Call, State.Object, State.Heap, State.Memory, State.State, State.Outcome, State.on_memory, Calls.done, Calls.answered, Calls.unless, Places.placed, Places.freed, Objects.place_for_object, GivingWay.after_asking_for_object}
+use Rattle.execmodel.specs.{State.Call, State.Object, State.Heap, State.Memory, State.State, State.Outcome, State.on_memory, Calls.done, Calls.answered, Calls.unless, Places.placed, Places.freed, Objects.place_for_object, LowMemory.after_asking_for_object}
 use Rattle.script.specs.declared.alert.Alert.{Alert}
 
 -- what a call does, as functions of the memory before it: the alert that refuses it, if one does; the blocks after it;

@@ -15,7 +15,7 @@ use Rattle.script.specs.declared.word.task_signals.SignalWord.TheVariants as sig
 use Rattle.script.specs.declared.word.ports.PortWord.TheVariants as ports
 use Rattle.script.specs.declared.word.requests.RequestWord.TheVariants as requests
 use Rattle.execmodel.specs.State.{Call, Scripts, Object, Plain, Block, Heap, Memory, Waiting as Queued, Mark, State, Outcome, on_schedule, on_memory, on_pending, on_timer, booted}
-use Rattle.execmodel.specs.{Calls.argument, Calls.alerted, Calls.next_call, Calls.call_in_body, Keeping.without_blocks, GivingWay.gives_way, GivingWay.after_asking, GivingWay.after_asking_for_object, Libraries.is_library_at, Libraries.library_number_at, Libraries.count_of, Libraries.is_delayed, Libraries.ready_to_open, Memory.block_at, Memory.extents, Memory.place_for, Memory.does_memory, Objects.object_at, Ports.is_port_at, Ports.messages_of, Ports.after_asking_for_port, Requests.request_of, Semaphores.sem_of, Semaphores.waiters_of, Pending.allows_interrupts, Pending.next_softint, Pending.with_latch_of, Interrupts.interrupts, Interrupts.runs_softint, Interrupts.softint_at, Interrupts.server_at, Step.does, Step.ends, Step.acts, Step.step, Step.tick, Step.request, Step.settle, Step.switches, Step.all_added, Step.starts, Step.events, Step.run, Agreement.Agrees, Agreement.once_if, Queues.IsInOrder, Marks.turns_at_port, Marks.turns_at_semaphore}
+use Rattle.execmodel.specs.{Calls.argument, Calls.alerted, Calls.next_call, Calls.call_in_body, Keeping.without_blocks, LowMemory.gives_way, LowMemory.after_asking, LowMemory.after_asking_for_object, Libraries.is_library_at, Libraries.library_number_at, Libraries.count_of, Libraries.is_delayed, Libraries.ready_to_open, Memory.block_at, Memory.extents, Memory.place_for, Memory.does_memory, Objects.object_at, Ports.is_port_at, Ports.messages_of, Ports.after_asking_for_port, Requests.request_of, Semaphores.sem_of, Semaphores.waiters_of, Pending.allows_interrupts, Pending.next_softint, Pending.with_latch_of, Interrupts.interrupts, Interrupts.runs_softint, Interrupts.softint_at, Interrupts.server_at, Step.does, Step.ends, Step.acts, Step.step, Step.tick, Step.request, Step.settle, Step.switches, Step.all_added, Step.starts, Step.events, Step.run, Agreement.Agrees, Agreement.once_if, Queues.IsInOrder, Marks.turns_at_port, Marks.turns_at_semaphore}
 use Rattle.iorequest.specs.Request.{is_under_way, sets_time, time_of}
 use Rattle.timerdev.specs.Timing.{offset, clock_ticked}
 use Rattle.script.specs.declared.alert.Alert.TheVariants as an_alert

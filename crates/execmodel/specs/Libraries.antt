@@ -5,7 +5,7 @@ use Rattle.std.specs.Prelude.{ℕ, ◌+◌, ◌-◌, Bool, false, not, ◌&&◌,
 use Rattle.std.specs.{List.position_from, Option.option_map_or}
 use Rattle.script.specs.{File.LibraryData, declared.word.libraries.LibraryWord.LibraryWord}
 use Rattle.script.specs.declared.word.libraries.LibraryWord.TheVariants as word
-use Rattle.execmodel.specs.{State.Call, State.Library, State.Heap, State.Memory, State.State, State.Outcome, State.on_memory, State.on_heap, Calls.argument, Calls.name_argument, Calls.done, Calls.answered, Calls.unless, Places.freed, Places.place_for, Places.placed, GivingWay.after_asking}
+use Rattle.execmodel.specs.{State.Call, State.Library, State.Heap, State.Memory, State.State, State.Outcome, State.on_memory, State.on_heap, Calls.argument, Calls.name_argument, Calls.done, Calls.answered, Calls.unless, Places.freed, Places.place_for, Places.placed, LowMemory.after_asking}
 use Rattle.execlib.specs.Libraries.{public_memory, most_openings, only_if}
 use Rattle.script.specs.declared.alert.Alert.TheVariants as an_alert
 use Rattle.script.specs.declared.alert.Alert.{Alert}

@@ -3,7 +3,7 @@ use Rattle.std.specs.Prelude.{ℕ, Bool, true, false, not, ◌&&◌, if◌then�
 use Rattle.memlist.specs.Fit.{avail, asks, round}
 use Rattle.script.specs.declared.word.memory.MemoryWord.{MemoryWord}
 use Rattle.script.specs.declared.word.memory.MemoryWord.TheVariants as word
-use Rattle.execmodel.specs.{State.Call, State.Object, State.Plain, State.Block, State.Heap, State.State, State.Outcome, State.on_memory, Calls.argument, Calls.answered, Deeds.Deed, Deeds.performs, Deeds.allots, Deeds.frees_block, Objects.place_for_object, GivingWay.after_asking}
+use Rattle.execmodel.specs.{State.Call, State.Object, State.Plain, State.Block, State.Heap, State.State, State.Outcome, State.on_memory, Calls.argument, Calls.answered, Deeds.Deed, Deeds.performs, Deeds.allots, Deeds.frees_block, Objects.place_for_object, LowMemory.after_asking}
 pub use Rattle.execmodel.specs.Places.{block_at, extents, place_for, placed, freed}
 use Rattle.script.specs.declared.alert.Alert.TheVariants as an_alert
 use Rattle.script.specs.declared.alert.Alert.{Alert}

@@ -16,7 +16,7 @@ use Rattle.iorequest.specs.Request.{is_under_way}
 use Rattle.script.specs.declared.word.ports.PortWord.{PortWord}
 use Rattle.script.specs.declared.word.ports.PortWord.TheVariants as word
 use Rattle.execmodel.specs.State.{Call, Object, MsgPort, Message, Request, Block, Heap, PublicPort, Memory, State, Outcome, put, got, leaving, on_schedule, on_memory, on_heap}
-use Rattle.execmodel.specs.{Calls.Caller, Calls.ByTask, Calls.argument, Calls.name_argument, Calls.done, Calls.done_by, Calls.answered, Calls.answered_by, Calls.waiting, Calls.unless, Calls.unless_by, Pending.causes, Pending.softint_number, GivingWay.after_asking_for_object, Memory.makes_object, Memory.freed, Memory.placed, Objects.object_at, Objects.is_kind, Objects.place_for_object, Objects.replaced, Tasks.is_priority}
+use Rattle.execmodel.specs.{Calls.Caller, Calls.ByTask, Calls.argument, Calls.name_argument, Calls.done, Calls.done_by, Calls.answered, Calls.answered_by, Calls.waiting, Calls.unless, Calls.unless_by, Pending.causes, Pending.softint_number, LowMemory.after_asking_for_object, Memory.makes_object, Memory.freed, Memory.placed, Objects.object_at, Objects.is_kind, Objects.place_for_object, Objects.replaced, Tasks.is_priority}
 use Rattle.script.specs.declared.alert.Alert.TheVariants as an_alert
 use Rattle.script.specs.declared.alert.Alert.{Alert}
 

@@ -17,7 +17,7 @@ use Rattle.iorequest.specs.{declared.request.Request.Request as TimerRequest, de
 use Rattle.script.specs.declared.word.requests.RequestWord.{RequestWord}
 use Rattle.script.specs.declared.word.requests.RequestWord.TheVariants as word
 use Rattle.execmodel.specs.State.{Call, Object, Request, Heap, AtClock, AtSystem, Timer as Clock, Memory, State, Outcome, put, out, leaving, quiet, prints_line, andthen, on_schedule, on_memory, on_heap, on_timer}
-use Rattle.execmodel.specs.{Calls.argument, Calls.name_argument, Calls.done, Calls.answered, Calls.waiting, Calls.unless, GivingWay.after_asking_for_object, Memory.makes_object, Memory.freed, Objects.object_at, Objects.is_kind, Objects.replaced, Ports.appended, Ports.is_port_at, Ports.is_queued, Ports.loses, Ports.messages_of, Ports.performed, Ports.port_alert, Ports.port_of, Ports.wait_alert, Ports.with_port, Semaphores.is_tried_again}
+use Rattle.execmodel.specs.{Calls.argument, Calls.name_argument, Calls.done, Calls.answered, Calls.waiting, Calls.unless, LowMemory.after_asking_for_object, Memory.makes_object, Memory.freed, Objects.object_at, Objects.is_kind, Objects.replaced, Ports.appended, Ports.is_port_at, Ports.is_queued, Ports.loses, Ports.messages_of, Ports.performed, Ports.port_alert, Ports.port_of, Ports.wait_alert, Ports.with_port, Semaphores.is_tried_again}
 use Rattle.timerdev.specs.Timing.{begins_to_wait, due_next, looked_at, system_set, until_next, waits_no_more}
 use Rattle.script.specs.declared.alert.Alert.TheVariants as an_alert
 use Rattle.script.specs.declared.alert.Alert.{Alert}

@@ -102,7 +102,7 @@ pub fn agreement()
 /// priority only if its quantum has ended. Nothing else says that a switch is made.
 ///
 /// Source: RKM Libraries, Exec Tasks: task scheduling.
-#[tactic(auto, using(crate::proofs::Settled::each_state_is_settled, crate::proofs::Switching::switches_go_to_the_chosen, crate::proofs::Saying::only_switches_say_so))]
+#[tactic(auto, using(crate::proofs::Settled::each_state_is_settled, crate::proofs::Switching::switches_go_to_the_chosen, crate::proofs::LinesOfBodies::only_switches_say_so))]
 pub fn priority()
     ensures settled { EachStateIsSettled }
     ensures switched { SwitchesGoToTheChosen }
@@ -180,7 +180,7 @@ pub fn version_one()
 /// its block and as often open.
 ///
 /// Source: autodoc exec.library/AllocMem; the order of asking: project rule.
-#[tactic(auto, using(crate::proofs::GivingWayLaw::libraries_give_way_as_far_as_needed, crate::proofs::GivingWayLaw::only_closed_libraries_give_way))]
+#[tactic(auto, using(crate::proofs::LowMemoryLaw::libraries_give_way_as_far_as_needed, crate::proofs::LowMemoryLaw::only_closed_libraries_give_way))]
 pub fn libraries_give_way()
     ensures needed { LibrariesGiveWayAsFarAsNeeded }
     ensures closed { OnlyClosedLibrariesGiveWay }

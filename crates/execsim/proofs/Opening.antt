@@ -6,7 +6,7 @@ use Rattle.execmodel.specs.{State.Call, State.Library, State.Memory, State.on_me
 use Rattle.execlib.specs.Libraries.{public_memory}
 use Rattle.execheap.specs.{declared.refusal.Refusal.Refusal, Refusals.alert_of}
 use Rattle.execsim.specs.{Agreement.Seen, Agreement.Follows, Agreement.queues_in_order, Endings.done_or_alerted}
-use Rattle.execsim.proofs.{Allocating.placed-in_order, Following.reads_memory, Following.moves_memory, Following.follows_as, Following.follows_change, GivingWay.asking-in_order, GivingWay.freed_or-in_order, Listing.heap_changed}
+use Rattle.execsim.proofs.{Allocating.placed-in_order, Following.reads_memory, Following.moves_memory, Following.follows_as, Following.follows_change, LowMemory.asking-in_order, LowMemory.freed_or-in_order, Listing.heap_changed}
 use Rattle.exectrace.specs.Hearing.{Hearing}
 
 -- ---- the order of the public ports is of no account

@@ -9,12 +9,12 @@ use Rattle.scheduler.specs.Dispatch.{signalled}
 use Rattle.msgport.specs.{declared.action.Action.Action, declared.action.PortAction.TheVariants.Cause, Port.arrival_action, Port.new_port, Ports.new_message, Ports.nt_freemsg, Ports.nt_message, Ports.nt_replymsg}
 use Rattle.msgport.specs.declared.action.Action.TheVariants as action
 use Rattle.execmodel.specs.Ports.{content_of, is_called, is_message, is_port, is_port_at, messages_of, message_size, port_of, port_or_none, port_size, posted, taken_off, typed}
-use Rattle.execmodel.specs.{State.Call, State.Message, State.MsgPort, State.Memory, State.State, State.Outcome, State.put, State.got, State.leaving, State.on_schedule, State.on_memory, State.on_heap, Calls.Caller, Calls.unless, Calls.argument, Calls.name_argument, Calls.done, Calls.done_by, Calls.answered, Calls.answered_by, Calls.waiting, Calls.alerted, Memory.freed, Memory.placed, GivingWay.after_asking_for_object, Objects.place_for_object, Lists.or_none, Pending.softint_number, Tasks.is_priority}
+use Rattle.execmodel.specs.{State.Call, State.Message, State.MsgPort, State.Memory, State.State, State.Outcome, State.put, State.got, State.leaving, State.on_schedule, State.on_memory, State.on_heap, Calls.Caller, Calls.unless, Calls.argument, Calls.name_argument, Calls.done, Calls.done_by, Calls.answered, Calls.answered_by, Calls.waiting, Calls.alerted, Memory.freed, Memory.placed, LowMemory.after_asking_for_object, Objects.place_for_object, Lists.or_none, Pending.softint_number, Tasks.is_priority}
 use Rattle.execmodel.specs.Ports as model
 use Rattle.execheap.specs.{declared.refusal.Refusal.Refusal, Listing.listed, Listing.replied_by, Listing.replying, Refusals.alert_of, Refusals.code_of}
 use Rattle.execsim.specs.{Actions.given_back_or_alerted, Actions.performed, Actions.performed_or_alerted_by, Agreement.Seen, Agreement.Follows, Agreement.Moves, Agreement.in_order, Endings.answered_or_alerted_by, Endings.done_or_alerted}
 use Rattle.execsim.proofs.Following.{reads_schedule, reads_memory, reads_bodies, moves_schedule, moves_caused, moves_nowhere, moves_memory, follows_as, follows_change, follows_leaving}
-use Rattle.execsim.proofs.{GivingWay.asking_for_object-in_order, Listing.follows_allowed, Listing.follows_allowed_by, Listing.follows_made, Listing.follows_refused, Listing.follows_refused_by, Listing.heap_changed, Listing.room-in_order, Ordering.signalled-in_order, PortOrder.add_port_alert-in_order, PortOrder.delete_alert-in_order, PortOrder.found-in_order, PortOrder.listed-in_order, Signalling.allocates-in_order, Signalling.frees-in_order, Signalling.sets_signals-in_order}
+use Rattle.execsim.proofs.{LowMemory.asking_for_object-in_order, Listing.follows_allowed, Listing.follows_allowed_by, Listing.follows_made, Listing.follows_refused, Listing.follows_refused_by, Listing.heap_changed, Listing.room-in_order, Ordering.signalled-in_order, PortOrder.add_port_alert-in_order, PortOrder.delete_alert-in_order, PortOrder.found-in_order, PortOrder.listed-in_order, Signalling.allocates-in_order, Signalling.frees-in_order, Signalling.sets_signals-in_order}
 use Rattle.exectrace.specs.Hearing.{Hearing}
 use Rattle.script.specs.declared.alert.Alert.TheVariants as an_alert
 

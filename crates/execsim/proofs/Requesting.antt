@@ -12,7 +12,7 @@ use Rattle.iorequest.specs.Request.{in_progress, done_state, due_of, error_of, f
 use Rattle.iorequest.specs.{declared.request.Request.Request as TimerRequest, declared.request.ReqState.ReqState, declared.request.Begun.Begun, Requests.unit_error}
 use Rattle.execmodel.specs.State.{Call, Heap, Memory, Object, Request, State, Outcome, Timer as Clock, Waiting, quiet, prints_line, andthen, out, on_memory, on_heap, on_timer}
 use Rattle.execmodel.specs.Requests.{acting_at, answering_port, appended_at, begun_at, ended, error_word, finished_at, finishes, finishes_all_due, finishes_each, finishes_set, heap_begun, is_request, is_request_at, looks_for, replying_port, reply_taken, request_alert, request_of, request_of_object, request_size, resting_alert, set_io_alert, under_way, where_port, with_reply, with_request}
-use Rattle.execmodel.specs.{Calls.argument, Calls.name_argument, Calls.unless, Calls.done, Calls.answered, Calls.alerted, Memory.freed, Memory.makes_object, Memory.placed, GivingWay.after_asking_for_object, Objects.is_kind, Objects.object_at, Objects.place_for_object, Objects.replaced, Ports.loses, Ports.looked, Ports.performed, Ports.port_alert, Ports.port_of, Semaphores.is_tried_again}
+use Rattle.execmodel.specs.{Calls.argument, Calls.name_argument, Calls.unless, Calls.done, Calls.answered, Calls.alerted, Memory.freed, Memory.makes_object, Memory.placed, LowMemory.after_asking_for_object, Objects.is_kind, Objects.object_at, Objects.place_for_object, Objects.replaced, Ports.loses, Ports.looked, Ports.performed, Ports.port_alert, Ports.port_of, Semaphores.is_tried_again}
 use Rattle.timerdev.specs.Timing.{due_next, is_due, is_system, looked_at, next_of, sooner, until_next}
 use Rattle.execmodel.specs.Requests as model
 use Rattle.execmodel.proofs.Heaps.{instead, object_replaced}

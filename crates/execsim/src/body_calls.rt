@@ -16,7 +16,7 @@ use crate::call::{Call, Caller};
 use crate::change::argument_at;
 use crate::kernel::Kernel;
 use crate::plain::{all_bits, common_bits, difference, sum};
-use crate::program::command_at;
+use crate::progress::command_at;
 use crate::task_signals::is_mask;
 use execlist::space::ListSpace;
 use exectrace::lines::CallOutcome;

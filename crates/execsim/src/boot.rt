@@ -13,7 +13,7 @@ ghost use Rattle.execsim.specs.{Agreement.Agrees, Time.HasTimeFor, Views.IsFor, 
 use crate::bodies::Bodies;
 use crate::code::copied_code;
 use crate::kernel::Kernel;
-use crate::program::Program;
+use crate::progress::Program;
 use execheap::{Heap, LibInit};
 use execlist::space::ListSpace;
 use scheduler::Sched;

@@ -8,7 +8,7 @@ ghost use Rattle.execsim.specs.{Agreement.Agrees, Callers.HasTask, Resetting.Has
 
 use crate::bodies::Bodies;
 use crate::call::Call;
-use crate::program::Program;
+use crate::progress::Program;
 use crate::reset::{reset_heap, reset_programs, reset_sched};
 use execheap::Heap;
 use execlist::space::ListSpace;

@@ -20,17 +20,17 @@ mod memory;
 mod nesting;
 mod plain;
 mod ports;
-mod program;
+mod progress;
 mod reading;
 mod requests;
 mod reset;
 mod resting;
 mod semaphores;
 mod simulation;
-mod standing;
 mod step;
 mod task_signals;
 mod tasks;
+mod waiting_lines;
 
 /// What is seen of a block of memory and of the object that begins there.
 pub use execheap::{BlockView, DueTime, Gap, LibraryView, ObjectView, PortView};

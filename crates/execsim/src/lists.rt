@@ -3,7 +3,7 @@
 ghost use Rattle.std.specs.Prelude.{◌≡◌, [], IfOk, IsTrue, option_map, unwrap_or};
 ghost use Rattle.std.specs.Int.{cast_signed, w32};
 ghost use Rattle.script.specs.declared.word.lists.ListWord.TheVariants as lists;
-ghost use Rattle.execmodel.specs.{State.ListHead, State.Node, Memory.placed, GivingWay.after_asking_for_object, Objects.place_for_object, Tasks.is_priority, Lists.find_alert, Lists.found_node, Lists.is_list, Lists.is_node, Lists.list_size, Lists.node_size, Lists.does_lists};
+ghost use Rattle.execmodel.specs.{State.ListHead, State.Node, Memory.placed, LowMemory.after_asking_for_object, Objects.place_for_object, Tasks.is_priority, Lists.find_alert, Lists.found_node, Lists.is_list, Lists.is_node, Lists.list_size, Lists.node_size, Lists.does_lists};
 ghost use Rattle.execheap.specs.Refusals.{alert_of};
 ghost use Rattle.execsim.specs.{Callers.HasTask, Agreement.Follows, Views.call_view};
 

@@ -8,7 +8,7 @@ ghost use Rattle.execsim.specs.{Advancing.Advances, Advancing.Ends, Agreement.Ag
 mod feeding;
 mod queues;
 mod readers;
-mod standing;
+mod waiting_lines;
 
 use crate::boot::kernel_of;
 use crate::kernel::Kernel;

@@ -2,7 +2,7 @@
 ghost use Rattle.std.specs.Prelude.{◌≡◌, true, false};
 ghost use Rattle.memlist.specs.Fit.{avail};
 ghost use Rattle.script.specs.declared.word.memory.MemoryWord.TheVariants as words;
-ghost use Rattle.execmodel.specs.{State.Plain, GivingWay.after_asking, Memory.block_at, Memory.can_be_asked, Memory.extents, Memory.freed, Memory.has_only, Memory.is_named, Memory.place_for, Memory.placed, Memory.does_memory};
+ghost use Rattle.execmodel.specs.{State.Plain, LowMemory.after_asking, Memory.block_at, Memory.can_be_asked, Memory.extents, Memory.freed, Memory.has_only, Memory.is_named, Memory.place_for, Memory.placed, Memory.does_memory};
 ghost use Rattle.execsim.specs.{Callers.HasTask, Agreement.Follows, Views.call_view};
 
 use crate::call::Call;

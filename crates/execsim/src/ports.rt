@@ -7,7 +7,7 @@ ghost use Rattle.scheduler.specs.{Schedule.clears_and_waits, Schedule.frees_sign
 ghost use Rattle.signals.specs.Signals.{grant, is_own_signal};
 ghost use Rattle.msgport.specs.Port.{new_port};
 ghost use Rattle.execmodel.specs.Ports.{add_port_alert, content_of, is_called, is_port, looked, loses, message_alert, port_or_none, port_size, does_ports, does_create_msg_port, does_delete_msg_port, does_add_port, does_rem_port, does_find_port, does_port_signal, does_port_cause, does_port_ignore, does_new_msg, does_free_msg, does_msg_word, does_set_msg_word, does_msg_type, does_put_msg_by, does_get_msg_by, does_wait_port, does_reply_msg_by};
-ghost use Rattle.execmodel.specs.{State.MsgPort, Memory.placed, GivingWay.after_asking_for_object, Objects.place_for_object, Tasks.is_priority};
+ghost use Rattle.execmodel.specs.{State.MsgPort, Memory.placed, LowMemory.after_asking_for_object, Objects.place_for_object, Tasks.is_priority};
 ghost use Rattle.execheap.specs.{Listing.listed, Refusals.alert_of};
 ghost use Rattle.execsim.specs.{Callers.HasTask, Callers.Runs, Callers.HasCaller, Actions.given_back_or_alerted, Actions.performed, Actions.performed_or_alerted_by, Agreement.Follows, Views.call_view, Views.caller_view};
 

@@ -7,7 +7,7 @@ ghost use Rattle.execmodel.specs.State.{new_program};
 ghost use Rattle.execheap.specs.Resetting.{IsAsLarge};
 ghost use Rattle.execsim.specs.Resetting.{command_count, task_command_count};
 
-use crate::program::Program;
+use crate::progress::Program;
 use execheap::Heap;
 use execlist::space::ListSpace;
 use scheduler::Sched;

@@ -6,7 +6,7 @@ ghost use Rattle.taskq.specs.{declared.TaskState.TaskState, declared.Why.Why};
 ghost use Rattle.scheduler.specs.{Schedule.status_of, Schedule.waits_at_semaphore, Dispatch.arrives};
 ghost use Rattle.sigsem.specs.Semaphores.{free_sem};
 ghost use Rattle.execmodel.specs.Semaphores.{is_semaphore, is_tried_again, semaphore_size, does_semaphores, does_new_sem, does_free_sem, does_obtain_semaphore, does_attempt_semaphore, does_release_semaphore};
-ghost use Rattle.execmodel.specs.{State.Semaphore, Calls.argument, Memory.placed, GivingWay.after_asking_for_object, Objects.place_for_object, Agreement.WaitsForNone};
+ghost use Rattle.execmodel.specs.{State.Semaphore, Calls.argument, Memory.placed, LowMemory.after_asking_for_object, Objects.place_for_object, Agreement.WaitsForNone};
 ghost use Rattle.execsim.specs.{Callers.HasTask, Callers.Runs, Actions.obtains_or_alerted, Actions.passes_or_alerted, Agreement.Follows, Reached.IsInOrder, Reached.QueuesAgree, Views.call_view};
 
 use crate::call::Call;

@@ -3,7 +3,7 @@ ghost use Rattle.std.specs.Prelude.{◌≡◌, ◌≤◌, ◌++◌, [], false, I
 ghost use Rattle.exectrace.specs.declared.sinks.SinkState.{SinkState};
 ghost use Rattle.script.specs.Events.{event_ticks};
 ghost use Rattle.execmodel.specs.{State.booted, Step.run};
-ghost use Rattle.execsim.specs.{Agreement.Agrees, Headline.flow_of, Standing.standing_text, Time.HasTimeFor};
+ghost use Rattle.execsim.specs.{Agreement.Agrees, Headline.flow_of, WaitingLines.standing_text, Time.HasTimeFor};
 ghost use Rattle.wayrun.specs.Seen.{ending, seen_of, stops};
 
 use crate::look::Look;

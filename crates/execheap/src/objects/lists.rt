@@ -2,7 +2,7 @@
 ghost use Rattle.std.specs.Prelude.{◌≡◌, [], None, Some, find, map, option_map, IfOk, IfSome, IsSome, OnErr, OnOk};
 ghost use Rattle.std.specs.Option.{ForSome};
 ghost use Rattle.execlist.specs.{Order.first, Lists.home, Lists.is_named, Lists.last, Lists.part_after, Lists.part_before, Lists.part_from, Lists.sequence, Pool.slot};
-ghost use Rattle.execmodel.specs.{State.ListHead, State.Node, State.on_heap, Memory.freed, Memory.placed, GivingWay.after_asking_for_object, Objects.place_for_object};
+ghost use Rattle.execmodel.specs.{State.ListHead, State.Node, State.on_heap, Memory.freed, Memory.placed, LowMemory.after_asking_for_object, Objects.place_for_object};
 ghost use Rattle.execheap.specs.{Numbered.IsKnown, Numbered.places, Numbered.shown_memory, Numbered.address_in, Numbered.shown_heap, Changes.key_with, Changes.at_head, Changes.at_tail, Changes.queued, Changes.put, Changes.taken_out, Changes.head_taken, Changes.tail_taken, Refusals.alert_of, Refusals.is_none_or_in};
 ghost use Rattle.execheap.specs.declared.tag.Kind.TheVariants as variant;
 ghost use Rattle.execmodel.specs.Lists as model;

@@ -3,7 +3,7 @@ ghost use Rattle.std.specs.Prelude.{◌≡◌, ◌<◌, ◌≤◌, not, [], None
 ghost use Rattle.execlist.specs.{Order.first, Lists.home, Pool.slot};
 ghost use Rattle.msgport.specs.Ports.{has_messages, is_message, is_port, is_public, message_at, messages_of, new_message, port_at, made_private, made_public, nt_freemsg, nt_message, nt_replymsg, posted, taken_off, typed, with_message, with_port};
 ghost use Rattle.msgport.specs.Port.{arrival_action, new_port};
-ghost use Rattle.execmodel.specs.{State.Message, State.MsgPort, State.on_heap, Memory.freed, Memory.placed, GivingWay.after_asking_for_object, Objects.place_for_object, Lists.or_none};
+ghost use Rattle.execmodel.specs.{State.Message, State.MsgPort, State.on_heap, Memory.freed, Memory.placed, LowMemory.after_asking_for_object, Objects.place_for_object, Lists.or_none};
 ghost use Rattle.execheap.specs.{Numbered.message_places, Numbered.places, Numbered.shown_memory, Numbered.IsKnown, Numbered.address_in, Numbered.shown_heap, Changes.on_ports, Refusals.alert_of, Listing.listed, Listing.replied_by, Listing.replying};
 ghost use Rattle.std.specs.Option.{ForSome};
 ghost use Rattle.execmodel.specs.Ports as model;

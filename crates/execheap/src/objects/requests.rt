@@ -5,7 +5,7 @@ ghost use Rattle.execlist.specs.{Lists.home, Pool.slot};
 ghost use Rattle.iorequest.specs.{declared.request.ReqState.TheVariants.Replied, Request.finished, Request.idle_request, Request.is_opened, Request.is_under_way, Request.reply_port, Request.time_of, Requests.closed, Requests.is_request, Requests.opened, Requests.request_at, Requests.unit_error, Requests.with_request, Requests.written_with};
 ghost use Rattle.msgport.specs.Ports.{is_message, is_port, is_queued};
 ghost use Rattle.timerdev.specs.Timing.{due_next, looked_at, clock_ticked, until_next};
-ghost use Rattle.execmodel.specs.{State.Request, State.on_heap, State.on_timer, Memory.freed, Memory.placed, GivingWay.after_asking_for_object, Objects.place_for_object, Ports.port_of, Ports.port_alert};
+ghost use Rattle.execmodel.specs.{State.Request, State.on_heap, State.on_timer, Memory.freed, Memory.placed, LowMemory.after_asking_for_object, Objects.place_for_object, Ports.port_of, Ports.port_alert};
 ghost use Rattle.execheap.specs.{Changes.reserved, Numbered.IsKnown, Numbered.message_of_request, Numbered.places, Numbered.shown_memory, Numbered.shown_heap, Requesting.on_requests, Requesting.on_timing, Refusals.alert_of, Listing.IsSignal, Listing.aborted, Listing.aborting, Listing.acting_begun, Listing.awaited_for, Listing.ended_if, Listing.finishing, Listing.taken_if_replied};
 ghost use Rattle.execmodel.specs.Requests as model;
 ghost use Rattle.execheap.specs.declared.tag.Kind.TheVariants as variant;

@@ -2,7 +2,7 @@
 ghost use Rattle.std.specs.Prelude.{◌≡◌, ◌<◌, not, [], None, Some, IsTrue, IfOk, OnErr, OnOk};
 ghost use Rattle.execlist.specs.{Pool.slot, Answers.fault_or, Answers.kept_or};
 ghost use Rattle.sigsem.specs.Semaphores.{attempted, deep_fault, dropped, free_sem, heir, is_free_for, is_owned, is_sem, let_go, obtained, outcome_for, release_fault, sem_at, waits_at};
-ghost use Rattle.execmodel.specs.{State.Semaphore, State.on_heap, Memory.freed, Memory.placed, GivingWay.after_asking_for_object, Objects.place_for_object, Agreement.WaitsForNone};
+ghost use Rattle.execmodel.specs.{State.Semaphore, State.on_heap, Memory.freed, Memory.placed, LowMemory.after_asking_for_object, Objects.place_for_object, Agreement.WaitsForNone};
 ghost use Rattle.execheap.specs.{Numbered.places, Numbered.shown_memory, Numbered.IsKnown, Numbered.shown_heap, Changes.on_semaphores, Refusals.alert_of};
 ghost use Rattle.execheap.specs.declared.tag.Kind.TheVariants as variant;
 ghost use Rattle.execmodel.specs.Semaphores as model;

@@ -3,7 +3,7 @@ use Rattle.std.proofs.Common.{◌≡◌, ◌∙◌, ap, sym}
 use Rattle.exectrace.specs.Putting.{puts_then}
 use Rattle.exectrace.proofs.Pieces.{put_same}
 use Rattle.scheduler.specs.Schedule.{task_name}
-use Rattle.execsim.specs.Standing.{runs_text}
+use Rattle.execsim.specs.WaitingLines.{runs_text}
 use Rattle.execsim.proofs.kernel.Kernel.put_runner.Goals as goal
 
 pub returns-in-Some : goal.returns-in-Some

@@ -1,6 +1,6 @@
-//! Asks for memory in one way. After the word `grow` an argument names a part of a machine, which is made once and let go, or says `boot` or
+//! Asks for memory in one way. After the word `allocate` an argument names a part of a machine, which is made once and let go, or says `boot` or
 //! `run`, with a machine file and an event text after it. `boot` makes the machine, and `run` makes it and runs it over the events.
-//! `.ci/growth` refuses each allocation of each way in turn; `parts` prints the names for it.
+//! `.ci/allocations` refuses each allocation of each way in turn; `parts` prints the names for it.
 //!
 //! Nothing is taken for the arguments: an allocation is one of the part, of the texts, of the machine or of the run.
 use crate::part::{PARTS, Part, make};
@@ -18,7 +18,7 @@ use taskscript::{read_events, read_machine};
 const LONGEST: usize = 256;
 
 /// The word before what is asked for.
-const WORD: &str = "grow";
+const WORD: &str = "allocate";
 
 /// An argument of the process, which is in `room` then.
 fn argument<'a>(rt: &HostRuntime, i: usize, room: &'a mut [u8; LONGEST]) -> Option<&'a str> {
@@ -90,7 +90,7 @@ pub(crate) fn is_asked(rt: &HostRuntime) -> bool {
 
 /// Makes what the arguments ask for. The status is 0 if it was made, 4 if memory was refused, and 1 if another fault came or the
 /// words are none of these.
-pub(crate) fn grow(rt: &HostRuntime) -> ExitCode {
+pub(crate) fn allocate(rt: &HostRuntime) -> ExitCode {
     match asked(rt) {
         Ok(()) => ExitCode::SUCCESS,
         Err(Unmade::NoMemory) => ExitCode::from(4),

@@ -18,7 +18,7 @@ use Rattle.execmodel.specs.State.{Call, Object, Plain, ListHead, Node, MsgPort, 
 use Rattle.execmodel.specs.Ports.{is_port, is_message, is_port_at, is_message_at, port_size, port_created, makes_port, after_asking_for_port, messages_of, messages_of_object, with_action, is_queued, is_public, is_awaited_at, delete_alert, loose_alert, looked}
 use Rattle.execmodel.specs.Semaphores.{awaited_by, dropped, entered, queued, handed_on, released_once, is_semaphore_at, waiters_of, free_sem_alert, is_semaphore, leaving_queue, obtain_alert, obtains, passes, release_alert, sem_of, sem_of_object}
 use Rattle.execmodel.specs.Libraries.{is_library_at, count_of, is_delayed, with_library, base_of, library_at, library_opened, ready_to_open, entered_or_loaded}
-use Rattle.execmodel.specs.{Calls.argument, Calls.done, Calls.answered, Calls.waiting, Calls.alerted, Signals.waited, Nesting.gives_nesting, Tasks.is_caller, Tasks.ends_other, Objects.object_at, Objects.is_kind, Objects.is_allowed, Objects.place_for_object, GivingWay.after_asking_for_object, Memory.extents, Memory.allocates_block, Memory.makes_object, Memory.placed, Memory.freed, Memory.place_for, Memory.is_named, Memory.is_plain, Lists.is_list, Lists.is_node, Lists.is_list_at, Lists.with_nodes, Lists.unlinked, Deeds.concluded}
+use Rattle.execmodel.specs.{Calls.argument, Calls.done, Calls.answered, Calls.waiting, Calls.alerted, Signals.waited, Nesting.gives_nesting, Tasks.is_caller, Tasks.ends_other, Objects.object_at, Objects.is_kind, Objects.is_allowed, Objects.place_for_object, LowMemory.after_asking_for_object, Memory.extents, Memory.allocates_block, Memory.makes_object, Memory.placed, Memory.freed, Memory.place_for, Memory.is_named, Memory.is_plain, Lists.is_list, Lists.is_node, Lists.is_list_at, Lists.with_nodes, Lists.unlinked, Deeds.concluded}
 use Rattle.execmodel.proofs.{Heaps.rid, Heaps.true_is_not_false, Taking.IsNew, Taking.Takes, Taking.nothing, Taking.places, Taking.recounts, Taking.IsTaking, Taking.number_is, Taking.after_asking_for_object_taking, Taking.after_asking_for_port_taking, Taking.ready_to_open_taking, Posts.Other, Posts.post_in, Posts.post_of_object, Posts.post_at, Posts.is_a_port, Posts.is_mail, Posts.port_there, Posts.message_there, Loaded.base_is_loaded, Commands.Touches, Commands.remains, Commands.IsAltered, Commands.none_some, Commands.passed_first, Commands.passed_other, Commands.is_loose_there}
 use Rattle.script.specs.declared.alert.Alert.TheVariants as an_alert
 use Rattle.script.specs.declared.alert.Alert.{Alert}

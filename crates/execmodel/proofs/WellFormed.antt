@@ -6,7 +6,7 @@ use Rattle.memlist.proofs.{Fitting.fitted_well_formed, Fitting.fitted_fresh, Kee
 use Rattle.iorequest.specs.declared.request.Request.{Request as TimerRequest}
 use Rattle.execmodel.specs.Semaphores.{with_semaphore, left_by_task, entered, queued, dropped, handed_on, released_once}
 use Rattle.execmodel.specs.{State.Call, State.Object, State.Library, State.Request, State.Block, State.Heap, State.Waiting as Queued, State.Mark, State.State, Requests.with_request, Objects.object_at, Objects.replaced, Memory.extents, Memory.block_at, Lists.with_nodes, Lists.unlinked, Lists.left_by, Ports.with_action, Ports.with_port, Ports.appended, Ports.taken_off, Libraries.library_number_at, Libraries.with_library}
-use Rattle.execmodel.proofs.Moves.{Moves, touches, takes, frees, relists, unlinks, sets, enters, queues, hands, opens, releases, counts, expunges, drops}
+use Rattle.execmodel.proofs.BlocksAfter.{Moves, touches, takes, frees, relists, unlinks, sets, enters, queues, hands, opens, releases, counts, expunges, drops}
 use Rattle.execmodel.proofs.{Heaps.rid, Commands.Touches, Commands.remains, Commands.fills, Commands.puts, Commands.gets, Commands.none_some, Asking.Asks, Asking.writes, Asking.answers, Asking.written, Asking.without_reply, Taking.Takes, Taking.nothing, Taking.places, Taking.recounts, Taking.yields}
 
 -- where a block lies, and how long it is

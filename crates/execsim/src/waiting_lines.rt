@@ -1,6 +1,6 @@
 //! How the tasks are between two events, as text: who runs, and the call of each task that waits.
 ghost use Rattle.exectrace.specs.Sink.{Puts};
-ghost use Rattle.execsim.specs.{Callers.HasTask, Standing.runs_text, Standing.standing_text, Standing.wait_text, Standing.waits_text};
+ghost use Rattle.execsim.specs.{Callers.HasTask, WaitingLines.runs_text, WaitingLines.standing_text, WaitingLines.wait_text, WaitingLines.waits_text};
 ghost use Rattle.scheduler.specs.Schedule.{task_count};
 
 use crate::kernel::Kernel;

@@ -1,7 +1,7 @@
 -- Asking libraries for memory changes the blocks alone.
 use Rattle.std.proofs.Common.{◌≡◌, ℕ, Bool, true, false, List, [], ◌∷◌, Option, None, Some, refl, ◌∙◌, not, ◌&&◌, if◌then◌else◌, nat_eq, is_some, length}
 use Rattle.std.specs.List.{range_with_len}
-use Rattle.execmodel.specs.{Blocks.Object, Blocks.Memory, Places.place_for, Objects.is_allowed, Loaded.base_of, Loaded.count_of, Loaded.after_expunge, GivingWay.gives_way_at, GivingWay.gives_way, GivingWay.asked_one, GivingWay.asked_each, GivingWay.after_asking, GivingWay.after_asking_for_object, Ports.is_port, Ports.port_size, Ports.after_asking_for_port, Libraries.library_at, Libraries.ready_to_load, Libraries.ready_to_open, Keeping.without_blocks}
+use Rattle.execmodel.specs.{Blocks.Object, Blocks.Memory, Places.place_for, Objects.is_allowed, Loaded.base_of, Loaded.count_of, Loaded.after_expunge, LowMemory.gives_way_at, LowMemory.gives_way, LowMemory.asked_one, LowMemory.asked_each, LowMemory.after_asking, LowMemory.after_asking_for_object, Ports.is_port, Ports.port_size, Ports.after_asking_for_port, Libraries.library_at, Libraries.ready_to_load, Libraries.ready_to_open, Keeping.without_blocks}
 use Rattle.execlib.specs.Libraries.{public_memory}
 
 -- the blocks change alone, whichever of two things is done

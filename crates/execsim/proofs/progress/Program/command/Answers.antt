@@ -2,7 +2,7 @@
 use Rattle.std.proofs.Common.{◌∙◌, ap, sym, slice_get, option_map}
 use Rattle.std.proofs.lemmas.Option.{slice_get-map}
 use Rattle.script.specs.Commands.{command_view}
-use Rattle.execsim.proofs.program.Program.command.Goals as goal
+use Rattle.execsim.proofs.progress.Program.command.Goals as goal
 
 pub returns : goal.returns
 returns c = rw (← c.self.view_is) (

@@ -1,6 +1,6 @@
 /* Is in front of the C library's allocation, by LD_PRELOAD: counts the allocations of a program, which are the calls that ask for memory,
-   and refuses the one of the number in GROWTH_REFUSED, from 1, and the one after it, by which a vector asks again where it cannot be made longer in its
-   place. At its end the program writes how many there were to the file GROWTH_COUNT. */
+   and refuses the one of the number in ALLOCATION_REFUSED, from 1, and the one after it, by which a vector asks again where it cannot be made longer in its
+   place. At its end the program writes how many there were to the file ALLOCATION_COUNT. */
 #include <errno.h>
 #include <fcntl.h>
 #include <stdio.h>
@@ -12,26 +12,26 @@ extern void *__libc_calloc(size_t, size_t);
 extern void *__libc_realloc(void *, size_t);
 extern void *__libc_memalign(size_t, size_t);
 
-static unsigned long growths, refused;
+static unsigned long allocations, refused;
 
 /* The program begins: what came before was the loader's. */
 __attribute__((constructor)) static void begin(void) {
-    const char *number = getenv("GROWTH_REFUSED");
+    const char *number = getenv("ALLOCATION_REFUSED");
     refused = number ? strtoul(number, 0, 10) : 0;
-    growths = 0;
+    allocations = 0;
 }
 
 __attribute__((destructor)) static void end(void) {
-    const char *path = getenv("GROWTH_COUNT");
+    const char *path = getenv("ALLOCATION_COUNT");
     char text[24];
-    int length = snprintf(text, sizeof text, "%lu\n", growths);
+    int length = snprintf(text, sizeof text, "%lu\n", allocations);
     int file = path ? open(path, O_WRONLY | O_CREAT | O_TRUNC, 0644) : -1;
     if (path && (file < 0 || write(file, text, length) != length)) _exit(99);
 }
 
 static int is_refused(void) {
-    growths++;
-    int is_it = refused && (growths == refused || growths == refused + 1);
+    allocations++;
+    int is_it = refused && (allocations == refused || allocations == refused + 1);
     if (is_it) errno = ENOMEM;
     return is_it;
 }

@@ -2,7 +2,7 @@
 -- account.
 use Rattle.std.proofs.Common.{◌≡◌, ℕ, Bool, true, false, cond, List, [], ◌∷◌, Option, None, Some, refl, ap, ◌∙◌, ◌&&◌, is_some, length, nat_eq, not}
 use Rattle.std.specs.List.{range_with_len}
-use Rattle.execmodel.specs.{State.Memory, State.Object, State.on_heap, Places.freed, Places.place_for, Objects.is_allowed, Loaded.base_of, Loaded.count_of, Loaded.after_expunge, Loaded.with_library, GivingWay.after_asking, GivingWay.after_asking_for_object, GivingWay.asked_each, GivingWay.asked_one, GivingWay.gives_way, GivingWay.gives_way_at}
+use Rattle.execmodel.specs.{State.Memory, State.Object, State.on_heap, Places.freed, Places.place_for, Objects.is_allowed, Loaded.base_of, Loaded.count_of, Loaded.after_expunge, Loaded.with_library, LowMemory.after_asking, LowMemory.after_asking_for_object, LowMemory.asked_each, LowMemory.asked_one, LowMemory.gives_way, LowMemory.gives_way_at}
 use Rattle.execlib.specs.Libraries.{public_memory}
 use Rattle.execsim.specs.Agreement.{queues_in_order}
 

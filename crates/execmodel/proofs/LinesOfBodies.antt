@@ -4,7 +4,7 @@ use Rattle.std.proofs.lemmas.List.Elements.{All-head, All-tail}
 use Rattle.exectrace.specs.Trace.{TraceLine}
 use Rattle.execmodel.specs.{State.Call, State.State, State.Outcome, State.andthen, Calls.ByTask, Interrupts.runs_softint, Interrupts.interrupts, Requests.does_requests, Requests.finishes_set, Step.does, Step.ends, Laws.OnlySwitchesSaySo, Laws.says_switch}
 use Rattle.script.specs.declared.word.Word.{Word}
-use Rattle.execmodel.proofs.{BodyActions.softint_bodily, BodyActions.set_told, Itself.word_itself, Itself.followed, Itself.word_tells, Servings.none_switched, Servings.switched_more, Servings.all_served, Telling.IsOwn, Telling.own, Telling.refusing, Telling.speaker}
+use Rattle.execmodel.proofs.{BodyActions.softint_bodily, BodyActions.set_told, WithoutFinishing.word_itself, WithoutFinishing.followed, WithoutFinishing.word_tells, Servings.none_switched, Servings.switched_more, Servings.all_served, LinesOf.IsOwn, LinesOf.own, LinesOf.refusing, LinesOf.speaker}
 
 -- an outcome without the line of a switch
 abbrev Silent : Outcome → Type 0

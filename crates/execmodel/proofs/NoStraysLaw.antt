@@ -6,7 +6,7 @@ use Rattle.memlist.proofs.Keeping.{untouched_well_formed}
 use Rattle.scheduler.specs.{declared.Switch.Switch, declared.Switch.TheVariants.To, declared.Switch.TheVariants.Idle, Dispatch.switch_of, Dispatch.rescheduled}
 use Rattle.script.specs.{File.MachineData, File.total_of, Machines.IsMachine, declared.event.Event.Event}
 use Rattle.execmodel.specs.{State.Call, State.Heap, State.Memory, State.Timer, State.Waiting as Queued, State.Mark, State.State, State.Outcome, State.on_schedule, State.booted, State.andthen, Memory.extents, Bodies.body_step, Requests.finishes, Step.announced, Step.switches, Step.ends, Step.starts, Step.run}
-use Rattle.execmodel.proofs.{Heaps.true_is_not_false, Itself.does_itself, Itself.call_works, Stretches.Relation, Stretches.HoldsOfEach, Stretches.of_starts, Stretches.of_events, Commands.Alters, Telling.body_alters, Posts.AreInOrder, Posts.IsTidy, Posts.post_at, Asking.Finishing, Asking.finishing, Formed.touched_formed, Formed.moves_formed, Formed.asked_formed, Formed.taken_formed, Tidy.touched_order, Tidy.moves_order, Tidy.asked_order, Tidy.taken_order, Works.Works, Works.by_moves, Works.by_asking, Works.by_taking}
+use Rattle.execmodel.proofs.{Heaps.true_is_not_false, WithoutFinishing.does_itself, WithoutFinishing.call_works, Stretches.Relation, Stretches.HoldsOfEach, Stretches.of_starts, Stretches.of_events, Commands.Alters, LinesOf.body_alters, Posts.AreInOrder, Posts.IsTidy, Posts.post_at, Asking.Finishing, Asking.finishing, WellFormed.touched_formed, WellFormed.moves_formed, WellFormed.asked_formed, WellFormed.taken_formed, NoStrays.touched_order, NoStrays.moves_order, NoStrays.asked_order, NoStrays.taken_order, RequestsAfter.Works, RequestsAfter.by_moves, RequestsAfter.by_asking, RequestsAfter.by_taking}
 
 -- a switch leaves no mark, and the memory as it is
 pub announced_quiet : (c : Option Switch) (s : State) → ((announced c s).marks ≡ []) × ((announced c s).state ≡ s)

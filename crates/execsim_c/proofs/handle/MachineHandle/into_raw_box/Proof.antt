@@ -1,4 +1,4 @@
--- `into_loose` tests the pointer: at null the handle owns nothing, and otherwise its box is taken out.
+-- `into_raw_box` tests the pointer: at null the handle owns nothing, and otherwise its box is taken out.
 use Rattle.std.proofs.Common.{◌≡◌, List, [], ◌∷◌, ◌++◌, refl, sym, ap, ◌∙◌, subst, lit<, None, Some}
 use mir.Val.{Val, vptr, vnull, vcons, vnil}
 use base.Logic.{SProp, ent, emp, id⊢}
@@ -24,13 +24,13 @@ use Rattle.core.proofs.option.Made.{Some-of, none_of}
 use Rattle.std.proofs.{raw_atomic.Walks.proved_at, raw_atomic.Walks.leaves, ResultValues.and_tt}
 use Rattle.std.specs.{contracts.impls.GlobalAllocator.TheImpl.ghosts, Box.Ownership.box_owns}
 use Rattle.execsim_c.specs.contracts.handle.MachineHandle as C
-use Rattle.execsim_c.proofs.{Values.both, Values.loose_good, Values.loose_in, Kept.R, Kept.Z, Kept.LZ, Kept.Lr, Kept.handle_good, Kept.handle_out, Kept.held_cases, handle.MachineHandle.into_loose.Statement.statement}
-use Rattle.execsim_c.specs.contracts.handle.MachineHandle.into_loose.{ended, clauses}
-use Rattle.execsim_c.specs.contracts.handle.MachineHandle.into_loose.Key.{name as #self}
-use Rattle.execsim_c.proofs.handle.MachineHandle.into_loose.Code as code
+use Rattle.execsim_c.proofs.{Values.both, Values.loose_good, Values.loose_in, Kept.R, Kept.Z, Kept.LZ, Kept.Lr, Kept.handle_good, Kept.handle_out, Kept.held_cases, handle.MachineHandle.into_raw_box.Statement.statement}
+use Rattle.execsim_c.specs.contracts.handle.MachineHandle.into_raw_box.{ended, clauses}
+use Rattle.execsim_c.specs.contracts.handle.MachineHandle.into_raw_box.Key.{name as #self}
+use Rattle.execsim_c.proofs.handle.MachineHandle.into_raw_box.Code as code
 
-pub into_loose_spec : {M : Type 1} → statement M
-into_loose_spec 𝓤 𝓛 𝓜 𝓡 wired =
+pub into_raw_box_spec : {M : Type 1} → statement M
+into_raw_box_spec 𝓤 𝓛 𝓜 𝓡 wired =
     let H = 𝓛.H in let 𝓣 = tables 𝓤 H 𝓜 𝓡 𝓡.env in let En = ended in let c = clauses 𝓛 𝓜.mem 𝓡.returns in let fn = code.function in
     let hs : Stays En.signature.params En.kept = (stay_dropped (plain (λ _. C.the_row)) yes, tt) in
     proved_at 𝓛 En hs c 𝓜 𝓡 (Goes-dropped 𝓛 0 (plain (λ _. C.the_row)) yes (λ κs x f. refl), tt) #self fn (code.unfolded 𝓤 H 𝓜 𝓡 wired) (λ z are.

@@ -3,9 +3,9 @@ use Rattle.std.proofs.Common.{inl, inr, ◌≡◌, ◌≢◌, ℕ, zero, suc, �
 use Rattle.std.specs.List.{range_with_len}
 use Rattle.memlist.specs.{declared.region.Region.Region, Memory.IsWellFormed}
 use Rattle.memlist.proofs.Answered.{nat_eq-other, cases_eq}
-use Rattle.execmodel.specs.{State.Block, State.Heap, State.Memory, Objects.is_kind, Places.extents, Places.block_at, Places.place_for, Loaded.is_library, Loaded.is_library_at, Loaded.count_of, Loaded.with_library, GivingWay.gives_way, GivingWay.asked_each, GivingWay.after_asking, Step.run, Laws.StaysLoaded, Laws.first_gave_way, Laws.AsksAsFarAsNeeded, Laws.LibrariesGiveWayAsFarAsNeeded, Laws.OnlyClosedLibrariesGo, Laws.OnlyClosedLibrariesGiveWay}
+use Rattle.execmodel.specs.{State.Block, State.Heap, State.Memory, Objects.is_kind, Places.extents, Places.block_at, Places.place_for, Loaded.is_library, Loaded.is_library_at, Loaded.count_of, Loaded.with_library, LowMemory.gives_way, LowMemory.asked_each, LowMemory.after_asking, Step.run, Laws.StaysLoaded, Laws.first_gave_way, Laws.AsksAsFarAsNeeded, Laws.LibrariesGiveWayAsFarAsNeeded, Laws.OnlyClosedLibrariesGo, Laws.OnlyClosedLibrariesGiveWay}
 use Rattle.execmodel.proofs.Libraries.{still, joined, same_count, block_elsewhere, block_rid_there, counted, counted_open, never}
-use Rattle.execmodel.proofs.{Heaps.rid, Heaps.true_is_not_false, Taking.HoldsBefore, Taking.asking_before, Formed.counted_formed, Formed.rid_formed, TidyLaw.tidy_in_every_state}
+use Rattle.execmodel.proofs.{Heaps.rid, Heaps.true_is_not_false, Taking.HoldsBefore, Taking.asking_before, WellFormed.counted_formed, WellFormed.rid_formed, NoStraysLaw.tidy_in_every_state}
 
 -- ---- as far as needed
 

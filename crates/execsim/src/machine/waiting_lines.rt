@@ -1,7 +1,7 @@
 //! What a machine writes of how its tasks are.
 ghost use Rattle.std.specs.Prelude.{◌≡◌};
 ghost use Rattle.exectrace.specs.{Sink.Writes, declared.sinks.SinkState.SinkState};
-ghost use Rattle.execsim.specs.Standing.{standing_text};
+ghost use Rattle.execsim.specs.WaitingLines.{standing_text};
 
 use super::Machine;
 use execlist::space::ListSpace;

@@ -9,8 +9,8 @@ use Rattle.execmodel.specs.State.{Call, Object, ListHead, MsgPort, Message, Sema
 use Rattle.execmodel.specs.Semaphores.{is_semaphore, is_semaphore_at, with_semaphore, left_by_task, entered, queued, dropped, handed_on, released_once}
 use Rattle.execmodel.specs.{Objects.object_at, Objects.is_kind, Objects.replaced, Memory.extents, Memory.block_at, Lists.is_list, Lists.is_list_at, Lists.with_nodes, Lists.unlinked, Lists.left_by, Ports.is_port, Ports.is_message, Ports.is_port_at, Ports.is_message_at, Ports.is_awaited_at, Ports.replies_to, Ports.messages_of, Ports.with_port, Ports.with_action, Ports.appended, Ports.taken_off, Libraries.is_library, Libraries.is_library_at, Libraries.with_library, Requests.request_of, Requests.with_request}
 use Rattle.execmodel.proofs.Posts.{Post, APort, AMessage, ARequest, Other, post_in, post_of_object, post_at, messages_at, asked_at, is_a_port, is_mail, may_stand, AreInOrder, IsTidy, messages_are, port_is, port_there, message_there, request_there, post_elsewhere, post_here, post_remade, unchanged, queue_changes, content_changes, replaced_in_order}
-use Rattle.execmodel.proofs.Moves.{MayGo, IsUnneeded, list_other, semaphore_other, Moves, touches, takes, frees, relists, unlinks, sets, enters, queues, hands, opens, releases, counts, expunges, drops}
-use Rattle.execmodel.proofs.{Heaps.rid, Heaps.filled, Heaps.object_placed_here, Heaps.object_placed_there, Heaps.object_rid_here, Heaps.object_rid_there, Heaps.true_is_not_false, Queues.IsAway, Queues.away_more, Queues.away_drop, Queues.away_without, Asking.Asks, Asking.writes, Asking.answers, Asking.IsRewritten, Asking.written_here, Asking.written_elsewhere, Asking.ports_written, Asking.without_reply, Formed.placed_fresh, Formed.counted_formed, Formed.rid_formed, Fifo.both_false, Fifo.is_away, Fifo.first_none, Fifo.port_stays, Commands.Touches, Commands.remains, Commands.fills, Commands.puts, Commands.gets, Taking.IsNew, Taking.Takes, Taking.nothing, Taking.places, Taking.recounts, Taking.yields}
+use Rattle.execmodel.proofs.BlocksAfter.{MayGo, IsUnneeded, list_other, semaphore_other, Moves, touches, takes, frees, relists, unlinks, sets, enters, queues, hands, opens, releases, counts, expunges, drops}
+use Rattle.execmodel.proofs.{Heaps.rid, Heaps.filled, Heaps.object_placed_here, Heaps.object_placed_there, Heaps.object_rid_here, Heaps.object_rid_there, Heaps.true_is_not_false, Queues.IsAway, Queues.away_more, Queues.away_drop, Queues.away_without, Asking.Asks, Asking.writes, Asking.answers, Asking.IsRewritten, Asking.written_here, Asking.written_elsewhere, Asking.ports_written, Asking.without_reply, WellFormed.placed_fresh, WellFormed.counted_formed, WellFormed.rid_formed, Fifo.both_false, Fifo.is_away, Fifo.first_none, Fifo.port_stays, Commands.Touches, Commands.remains, Commands.fills, Commands.puts, Commands.gets, Taking.IsNew, Taking.Takes, Taking.nothing, Taking.places, Taking.recounts, Taking.yields}
 
 -- ---- what nobody sees
 

@@ -3,7 +3,7 @@ use Rattle.std.proofs.Common.{[], ◌≡◌, ℕ, false, List, refl, ap}
 use Rattle.script.specs.{declared.word.Word.Word, declared.word.requests.RequestWord.RequestWord}
 use Rattle.script.specs.declared.word.Word.TheVariants as group
 use Rattle.execmodel.specs.{State.Call, State.Timer, State.Waiting, State.State, State.Outcome, State.andthen, Calls.ByTask, Keeping.Keeps, Keeping.no_scripts, Keeping.without_states, Keeping.without_priorities, Keeping.without_signals, Keeping.without_nestings, Keeping.without_caused, Keeping.clock_alone, Requests.does_requests, Requests.finishes_set, Step.does, Step.does_word}
-use Rattle.execmodel.proofs.{Moves.Makes, Shifts.Shifted, Telling.Tells, Works.Works, Works.by_moves, Words.Facts, Words.plain_facts, Words.signals_facts, Words.nesting_facts, Words.tasks_facts, Words.lists_facts, Words.memory_facts, Words.ports_facts, Words.semaphores_facts, Words.interrupts_facts, Words.libraries_facts, Words.requests_facts}
+use Rattle.execmodel.proofs.{BlocksAfter.Makes, StatesAfter.Shifted, LinesOf.Tells, RequestsAfter.Works, RequestsAfter.by_moves, Words.Facts, Words.plain_facts, Words.signals_facts, Words.nesting_facts, Words.tasks_facts, Words.lists_facts, Words.memory_facts, Words.ports_facts, Words.semaphores_facts, Words.interrupts_facts, Words.libraries_facts, Words.requests_facts}
 
 abbrev pub word_itself : Word → ℕ → Call → State → Outcome
 word_itself (group.Requests word) t call s = does_requests word t call s

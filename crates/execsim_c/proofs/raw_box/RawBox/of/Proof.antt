@@ -31,10 +31,10 @@ use Rattle.core.proofs.atomic.Steps.{fm}
 use Rattle.std.specs.Box.Ownership.{box_owns}
 use Rattle.std.proofs.BoxSteps.Form as box
 use Rattle.std.proofs.{BoxSteps.Steps.box_out, BoxSteps.Steps.box_in, raw_atomic.Walks.proved_at, raw_atomic.Walks.leaves, boxed.Box.into_raw_with_allocator.Met.met}
-use Rattle.execsim_c.proofs.{Values.both, Values.loose_good, Values.loose_in, loose.Loose.of.Statement.statement}
+use Rattle.execsim_c.proofs.{Values.both, Values.loose_good, Values.loose_in, raw_box.RawBox.of.Statement.statement}
 use Rattle.std.specs.contracts.boxed.Box.into_raw_with_allocator as callee
-use Rattle.execsim_c.specs.{contracts.loose.Loose.of.ended, contracts.loose.Loose.of.clauses, contracts.loose.Loose.of.Key.name as #self}
-use Rattle.execsim_c.proofs.loose.Loose.of.Code as code
+use Rattle.execsim_c.specs.{contracts.raw_box.RawBox.of.ended, contracts.raw_box.RawBox.of.clauses, contracts.raw_box.RawBox.of.Key.name as #self}
+use Rattle.execsim_c.proofs.raw_box.RawBox.of.Code as code
 
 pub of_spec : {M : Type 1} → statement M
 of_spec 𝓤 𝓛 𝓜 𝓡 wired T A L LA g d dx dd allocator glue glued =
