@@ -7,7 +7,7 @@ use Rattle.execlist.specs.Pool.{IsStocked, Pooled, given, next_number}
 use Rattle.execlib.specs.Libraries as library
 use Rattle.execlib.specs.Libraries.{Lent, Libraries, LieIn, asked_one, base_of, expunged, fits, gives_way, is_loaded, leaves_by_removal, lent, marked, memory_without, opened_base}
 use Rattle.execlib.proofs.Asking.{asking_keeps, ready_keeps, ways}
-use Rattle.execheap.specs.{declared.tag.Kind.Kind, Tags.kind_code, Tags.size_of, Tags.tag_of, Table.Tabled, Table.IsSound, Table.after_asking, Table.library_opened, Table.next_object, Table.object_at_next, Table.pool_of, Table.ready_for, Table.ready_for_number, Table.with_lent, Table.with_object}
+use Rattle.execheap.specs.{declared.tag.Kind.Kind, Tags.kind_code, Tags.size_of, Tags.tag_of, Table.Tabled, Table.IsSound, Table.after_asking, Table.library_opened, Table.next_object, Table.object_at_next, Table.pool_of, Table.ready_for, Table.ready_for_number, Table.with_lent}
 use Rattle.execheap.proofs.{Keeping.kept_made, Keeping.pool_is, LibraryTables.sound_after, LibraryTables.sound_opened, LibraryTables.sound_removed, Plain.sound_allocated}
 
 -- loaded libraries lie in the memory
@@ -96,13 +96,6 @@ module _ {t : Tabled} (sound : IsSound t) (formed : IsWellFormed t.memory.region
     sound_unmade memory libs is_libs is_memory =
         sound_after sound (with_lent (asked size 1) t) (settled_asked size 1).sound memory libs refl refl is_memory is_libs
 
-    pub table_unmade : (memory : Memory) (libs : Libraries) → libs ≡ (asked size 1).libraries → memory ≡ (asked size 1).memory
-        → record t { memory = memory; libs = libs } ≡ ready_for kind t
-    table_unmade memory libs is_libs is_memory =
-        (λ i. record t { memory = is_memory i; libs = is_libs i })
-        ∙ ap (λ n. after_asking n 1 t) is_size
-        ∙ ap (λ o. ready_for_number kind o t) next_is
-
     pub sound_made : (address tag : ℕ) (stock e : Pooled ℕ) → IsStocked (slice_index_or t.pools code stock) → tag ≡ tag_of kind number
         → Some address ≡ fit t.memory.regions (asked size 1).memory.blocks size 1 → (memory : Memory) (libs : Libraries) (pool : Pooled ℕ) → libs ≡ (asked size 1).libraries
         → memory ≡ allocated size tag (Some address) (asked size 1).memory → pool ≡ given address (slice_index_or t.pools code e)
@@ -111,25 +104,6 @@ module _ {t : Tabled} (sound : IsSound t) (formed : IsWellFormed t.memory.region
         subst (λ l. IsSound (record t { memory = memory; pools = slice_set t.pools code pool; libs = l })) (sym is_libs)
         (kept_made (settled_asked size 1).sound kind code is_code (settled_asked size 1).formed number address memory e pool size tag d stock stocked next is_size is_tag
         (place_asked size 1 (Some address) is) is_memory is_pool)
-
-    pub table_made : (address tag : ℕ) (e : Pooled ℕ) → tag ≡ tag_of kind number → (memory : Memory) (libs : Libraries) (pool : Pooled ℕ) → libs ≡ (asked size 1).libraries
-        → memory ≡ allocated size tag (Some address) (asked size 1).memory → pool ≡ given address (slice_index_or t.pools code e)
-        → record t { memory = memory; pools = slice_set t.pools code pool; libs = libs } ≡ with_object kind (Some (number, address)) (ready_for kind t)
-    table_made address tag e is_tag memory libs pool is_libs is_memory is_pool =
-        (λ i. record t {
-          memory = is_memory i;
-          pools = slice_set t.pools (is_code i) ((is_pool ∙ ap (given address) (pool_is sound kind code is_code e)) i);
-          libs = is_libs i;
-        })
-        ∙ (λ i. with_object_of (is_size i) (is_tag i))
-        ∙ ap (λ o. with_object kind (Some (number, address)) (ready_for_number kind o t)) next_is
-      where
-        with_object_of : (size tag : ℕ) → Tabled
-        with_object_of n tag = record t {
-          memory = allocated n tag (Some address) (asked n 1).memory;
-          pools = slice_set t.pools (kind_code kind) (given address (pool_of kind t));
-          libs = (asked n 1).libraries;
-        }
 
   -- a library that is opened, or none
   module _ (found : Option ℕ) (known : IfSome found (λ i. i < length t.libs.known)) where

@@ -891,10 +891,6 @@ module _ (n : ℕ) (task : TaskData) where
       by_found fewer None = refl
       by_found fewer (Some request) = fewer (finishes request s).state ∙ finishes_going request s
 
-  pub all_due_going : (s : State) → (finishes_all_due s).state.stopped ≡ s.stopped
-  unfolding finishes_all_due
-  all_due_going s = each_going due_next (length s.memory.timer.waiting) s
-
   set_going : (s : State) → (finishes_set s).state.stopped ≡ s.stopped
   unfolding finishes_set
   set_going s = by_test s.memory.timer.is_set

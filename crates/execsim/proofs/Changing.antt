@@ -9,7 +9,7 @@ use Rattle.script.specs.declared.word.plain.PlainWord.TheVariants as word
 use Rattle.scheduler.specs.Schedule.{task_name}
 use Rattle.execmodel.specs.{State.Call, State.Scripts, State.State, State.program_of, Calls.argument, Calls.call_of, Calls.done, Calls.evaluated, Calls.goes_on, Calls.next_call, Calls.argument_number, Calls.silent, Calls.stored, Plain.does_set, Plain.does_add, Plain.does_sub, Plain.does_and, Plain.does_or, Plain.jumps, Plain.does_jump, Plain.does_jump_zero, Plain.does_jump_not_zero, Plain.does_print, Step.call_step, Step.does, Step.does_word, Step.task_step}
 use Rattle.execsim.specs.{Changes.PutsPrint, Changes.changes, Agreement.Seen, Agreement.Follows, Agreement.Quietly, Agreement.line_seen, declared.change.Change.Change}
-use Rattle.execsim.proofs.{Calling.map-map_as, Calling.next-command, Caused.one_only, Endings.follows_done, Following.moves_scripts, Following.follows_as, Following.quietly_as, Following.quietly_moves, Following.reads_scripts, Stepping.task_step_as}
+use Rattle.execsim.proofs.{Calling.map-map_as, Calling.next-command, Caused.one_only, Endings.follows_done, Following.follows_as, Following.quietly_as, Following.reads_scripts, Stepping.task_step_as}
 use Rattle.exectrace.specs.Hearing.{Hearing}
 
 -- what is done next, if it is a command
@@ -83,12 +83,6 @@ module _ (t : ℕ) (call : Call) (first second : ℕ) (one : first ≡ argument 
   goes_unless_zero is place p s = ap (λ w. does_word w t call s) is
       ∙ ap (λ p. jumps t p s) (sym (p ∙ ap (λ x. if nat_eq x 0 then call.next else second) one
       ∙ ap (λ y. if nat_eq (argument 0 call) 0 then call.next else y) two))
-
-pub follows_changes : {m n o : Seen} (t : ℕ) (change : Change) → n ≡ record m { scripts = stored t change.target change.value m.scripts }
-    → o ≡ record n { scripts = goes_on t change.next n.scripts } → Quietly (changes t change) m o
-follows_changes t change first is = quietly_moves
-    (moves_scripts (λ scripts. goes_on t change.next (stored t change.target change.value scripts))
-    (is ∙ ap (λ (x : Seen). record x { scripts = goes_on t change.next x.scripts }) first))
 
 -- a task that does a plain word does its next call
 pub changed_as : {m n : Seen} (t : ℕ) (change : Change) → ((s : State) → call_step t (next_call t m.scripts) s ≡ changes t change s)

@@ -136,10 +136,6 @@ follows_as is follows = record {
 pub follows_known : {H : Hearing} {f : State → Outcome} {m n : Seen} {a b : H.Told} → ((s : State) → Agrees m s → Follows H f m n a b) → Follows H f m n a b
 follows_known follows = record { agrees = λ s e. (follows s e).agrees s e; prints = λ s e. (follows s e).prints s e }
 
--- nothing is printed
-pub follows_quietly : {H : Hearing} {f : State → State} {m n : Seen} (t : H.Told) → Moves f m n → Follows H (λ s. quiet (f s)) m n t t
-follows_quietly {H} t moves = record { agrees = moves.agrees; prints = λ s e. H.none t }
-
 -- one that says nothing, whoever listens
 pub follows_silence : {H : Hearing} {f : State → Outcome} {m n : Seen} (t : H.Told) → Quietly f m n → Follows H f m n t t
 follows_silence {H} t quietly = record {

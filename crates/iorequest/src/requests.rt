@@ -232,13 +232,6 @@ impl Requests {
         self.requests.get(r).is_some()
     }
 
-    /// Answers the number that `create` would give, or none if every request is in use. Project rule.
-    pub fn next_request(&self) -> Option<ReqId>
-        ensures { result ≡ next_number self.now }
-    {
-        self.requests.next()
-    }
-
     /// Answers how far a request has come. RKM Devices, Introduction to Amiga System Devices.
     pub fn state(&self, r: ReqId) -> ReqState
         requires { IsTrue (is_request r self.now) }
