@@ -323,9 +323,9 @@ fn amount(line: &str, word: &str) -> u64 {
 /// The first limit that sums are past.
 fn limit_reason(steps: u64, ticks: u64, events: u64) -> Option<&'static str> {
     if steps > 1_000_000 {
-        Some("this line takes the steps past 1000000")
+        Some("with this line there are more than 1000000 steps")
     } else if ticks > 1_000_000 {
-        Some("this line takes the ticks past 1000000")
+        Some("with this line there are more than 1000000 ticks")
     } else if events > 100_000 {
         Some("with this line there are more than 100000 events")
     } else {

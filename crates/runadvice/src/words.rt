@@ -295,7 +295,7 @@ fn semaphore_row(word: SemaphoreWord) -> Row {
 fn library_row(word: LibraryWord) -> Row {
     match word {
         LibraryWord::OpenLibrary => Row::of(&[]).zero(
-            ", since no library has that name in that version, or no memory fitted",
+            ", because no library has that name in that version, or no gap was large enough",
         ),
         LibraryWord::CloseLibrary => Row::of(&[BASE]).or_none(0).freeing(),
         LibraryWord::RemLibrary => Row::of(&[BASE]).freeing(),
