@@ -9,7 +9,7 @@ use Rattle.msgport.specs.declared.fault.PortFault.TheVariants.{Link, Unknown}
 use Rattle.msgport.specs.{Port.Port, Ports.MessagePorts, Ports.is_held, Ports.is_message, Ports.is_port, Ports.is_queued as is_in_port, Ports.let_go, Ports.linked_fault, Ports.nt_replymsg, Ports.posted, Ports.queued_fault, Ports.taken_out}
 use Rattle.msgport.specs.Ports as ports
 use Rattle.timerdev.specs.{Held.Held, Held.on_timer, Timing.Due, Timing.begins_to_wait, Timing.is_waiting, Timing.waits_no_more}
-use Rattle.execheap.specs.Numbered.{Numbered, Fits, IsInTime, IsKept, IsSound, is_way_at, message_of_request, own_shape, places, shape}
+use Rattle.execheap.specs.Numbered.{Numbered, Fits, IsInTime, IsKept, IsSoundHeap, is_way_at, message_of_request, own_shape, places, shape}
 use Rattle.execheap.specs.{declared.tag.Kind.Kind, Table.number_at, Table.pool_of, Requesting.port_number, Requesting.put_at}
 use Rattle.execheap.specs.declared.tag.Kind.TheVariants as variant
 use Rattle.execheap.proofs.{Front.front_step, KeptPorts.IsOwn, Matching.number_placed, Stepping.shape_length, Stepping.shape_lives, Stepping.shape_written, Waits.IsMoved, Waits.IsTimed, Waits.moved_held, Waits.moved_let_go, Waits.moved_not, Waits.moved_out, Waits.moved_posted, Waits.timed_begun, Waits.timed_ended, Waits.timed_not}
@@ -160,7 +160,7 @@ module _ {s : Numbered} (kept : IsKept s) where
       (moved_not (message_of_request r s) (λ p. slot (places variant.Port s) p ≡ Some (request_at r s.requests).port) s.ports (kept.in_time.held r ∙ not_way r s.requests rests))
       (timed_not r s.timing (kept.in_time.waits r ∙ not_way r s.requests rests)))
 
-module _ {s : Numbered} (sound : IsSound s) where
+module _ {s : Numbered} (sound : IsSoundHeap s) where
   kept : IsKept s
   kept = sound.kept
 
@@ -174,7 +174,7 @@ module _ {s : Numbered} (sound : IsSound s) where
   message_there r m lives is = ap (λ n. is_message n s.ports) is ∙ kept.in_time.made r (request_small r lives)
 
   -- it is in no port if the request is in progress
-  pub under_way_loose : ports.IsSound s.ports → (r m : ℕ) → IsTrue (is_request r s.requests) → IsTrue (is_under_way (request_at r s.requests))
+  pub under_way_loose : ports.IsSoundPorts s.ports → (r m : ℕ) → IsTrue (is_request r s.requests) → IsTrue (is_under_way (request_at r s.requests))
       → m ≡ message_of_request r s → home s.ports.places m ≡ None
   under_way_loose held r m lives way is =
       ap (home s.ports.places) is ∙ held.apart (message_of_request r s) (kept.in_time.held r ∙ (λ i. lives i && way i))

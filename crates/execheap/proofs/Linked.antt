@@ -6,7 +6,7 @@ use Rattle.memlist.specs.Blocks.{Blocks}
 use Rattle.memlist.proofs.Answered.{nat_eq-other, nat_eq-same}
 use Rattle.execmodel.specs.Lists.{is_linked, nodes_in, sequence_with, stands_in}
 use Rattle.execheap.specs.declared.tag.Kind.TheVariants as variant
-use Rattle.execheap.specs.Numbered.{Numbered, IsSound, IsSpace, address_in, places, shown_entry, shown_heap, shown_tagged}
+use Rattle.execheap.specs.Numbered.{Numbered, IsSoundHeap, IsSpace, address_in, places, shown_entry, shown_heap, shown_tagged}
 use Rattle.execheap.specs.{declared.tag.Tagged.Tagged, Tags.tag_of, Tags.tagged, Table.tag_at}
 use Rattle.execheap.specs.declared.tag.Tagged.TheVariants as tag
 use Rattle.execheap.proofs.{Entries.some_same, Beside.at_home, Mapped.Alike, Mapped.alike_apart, Mapped.stands-map, Mapped.stands_by_times, Matching.number_same, Matching.number_small, Tagging.either_number, Tagging.read_tag}
@@ -62,7 +62,7 @@ module _ (s : Numbered) (a : ℕ) where
         | false ↦ λ here rest. in_one_list nodes one es rest
       ] refl any
 
-module _ {s : Numbered} (sound : IsSound s) (space : IsSpace s) where
+module _ {s : Numbered} (sound : IsSoundHeap s) (space : IsSpace s) where
   -- ---- nodes by number
 
   -- a node that is in a sequence has that list as its home

@@ -7,7 +7,7 @@ use Rattle.execlist.specs.{Order.enqueue, Order.first, Order.without_item, Pool.
 use Rattle.memlist.specs.Memory.{IsWellFormed}
 use Rattle.execmodel.specs.Lists.{added_head, added_tail, enqueued, found_node, first_of, has_name, inserted, key_of, last_of, left_by, nodes_of, or_none, pred_of, predecessor, removed_head, removed_tail, searched, succ_of, unlinked, with_nodes}
 use Rattle.execmodel.specs.State.{Object, ListHead, Block, Heap, on_heap}
-use Rattle.execheap.specs.Numbered.{IsSound, IsSpace, Numbered, address_in, object_of, places, shown_entry, shown_heap, shown_memory, shown_tagged}
+use Rattle.execheap.specs.Numbered.{IsSoundHeap, IsSpace, Numbered, address_in, object_of, places, shown_entry, shown_heap, shown_memory, shown_tagged}
 use Rattle.execheap.specs.{declared.tag.Kind.Kind, declared.tag.Tagged.Tagged, Tags.tagged}
 use Rattle.execheap.specs.declared.tag.Kind.TheVariants as variant
 use Rattle.execheap.specs.declared.tag.Tagged.TheVariants as tag
@@ -23,7 +23,7 @@ heap_set : (s : Numbered) (sequences : List (List ℕ)) (homes : List (Option �
     → shown_memory (record s { sequences = sequences; homes = homes }) ≡ on_heap (λ old. heap) (shown_memory s)
 heap_set s sequences homes heap is = λ i. record (shown_memory s) { heap = is i }
 
-module _ {s : Numbered} (sound : IsSound s) (space : IsSpace s) where
+module _ {s : Numbered} (sound : IsSoundHeap s) (space : IsSpace s) where
   -- ---- nodes of a live list
 
   pub nodes_at : (h list : ℕ) → slot (places variant.List s) h ≡ Some list → nodes_of list (shown_heap s) ≡ map (address_in (places variant.Node s)) (sequence s.sequences h)

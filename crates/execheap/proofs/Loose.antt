@@ -14,7 +14,7 @@ pub unheld_loose : {s : Numbered} → IsInTime s → (n : ℕ) → n < s.table.p
 unheld_loose t n small lives loose =
     λ i. if not (lives i) then Some Unknown else (if is_some (loose i) || t.none_held n small i then Some Link else None)
 
-module _ {s : Numbered} (kept : IsKept s) (sound : table.IsSound s.table) (m : ℕ) (has : IsSome (slot (places variant.Message s) m)) where
+module _ {s : Numbered} (kept : IsKept s) (sound : table.IsSoundTable s.table) (m : ℕ) (has : IsSome (slot (places variant.Message s) m)) where
   unheld : is_held m s.ports ≡ false
   unheld = kept.in_time.none_held m (message_small kept sound m has)
 

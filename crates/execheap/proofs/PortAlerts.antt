@@ -7,7 +7,7 @@ use Rattle.msgport.specs.{Port.wait_bit, Ports.is_linked, Ports.is_queued, Ports
 use Rattle.msgport.specs.Ports as ports
 use Rattle.execlist.specs.Pool.{slot}
 use Rattle.execheap.specs.declared.tag.Kind.TheVariants as variant
-use Rattle.execheap.specs.{Numbered.Numbered, Numbered.IsSound, Numbered.shown_heap, Numbered.places, Table.number_at}
+use Rattle.execheap.specs.{Numbered.Numbered, Numbered.IsSoundHeap, Numbered.shown_heap, Numbered.places, Table.number_at}
 use Rattle.execheap.proofs.{Alerts.handle_unless, Alerts.is_there, Alerts.link_if, Alerts.refused_first, Front.message_small, MessagePlaces.place_message, Queued.is_queued_shown, Matching.number_live, Shown.content_shown, Shown.message_at_shown, Shown.port_at_shown, Shown.port_shown}
 use Rattle.script.specs.declared.alert.Alert.TheVariants as an_alert
 use Rattle.script.specs.declared.alert.Alert.{Alert}
@@ -88,7 +88,7 @@ or_false : (b : Bool) → b || false ≡ b
 or_false true = refl
 or_false false = refl
 
-module _ {s : Numbered} (sound : IsSound s) (held : ports.IsSound s.ports) (m message : ℕ) (here : slot (places variant.Message s) m ≡ Some message) where
+module _ {s : Numbered} (sound : IsSoundHeap s) (held : ports.IsSoundPorts s.ports) (m message : ℕ) (here : slot (places variant.Message s) m ≡ Some message) where
   -- a message that is none of a request is linked if a port has it
   pub message_linked : is_linked m s.ports ≡ is_queued m s.ports
   message_linked =
@@ -103,7 +103,7 @@ module _ {s : Numbered} (sound : IsSound s) (held : ports.IsSound s.ports) (m me
 
 -- ---- what begins at an address that has an alert no more
 
-module _ {s : Numbered} (sound : IsSound s) where
+module _ {s : Numbered} (sound : IsSoundHeap s) where
   pub reply_of : (m message : ℕ) → slot (places variant.Message s) m ≡ Some message → (content_of message (shown_heap s)).reply ≡ (message_at m s.ports).reply
   reply_of m message here = ap (λ content. content.reply) (content_shown s message m (number_live sound.table variant.Message m message here))
 

@@ -6,7 +6,7 @@ use Rattle.msgport.specs.Ports as ports
 use Rattle.execmodel.specs.Requests.{begin_alert, can_begin, delete_request_alert, do_alert, is_request_at, request_alert, request_of, request_of_object, resting_alert, send_alert, state_alert, wait_io_alert}
 use Rattle.execmodel.specs.{State.Heap, Ports.is_queued, Ports.port_alert, Ports.wait_alert}
 use Rattle.execheap.specs.declared.tag.Kind.TheVariants as variant
-use Rattle.execheap.specs.{Numbered.IsSound, Numbered.Numbered, Numbered.message_of_request, Numbered.places, Numbered.shown_heap, Table.number_at}
+use Rattle.execheap.specs.{Numbered.IsSoundHeap, Numbered.Numbered, Numbered.message_of_request, Numbered.places, Numbered.shown_heap, Table.number_at}
 use Rattle.execheap.proofs.{Alerts.handle_unless, Alerts.is_there, Alerts.link_if, Alerts.refused_first, MessagePlaces.request_standing, Queued.is_queued_shown, Showing.kind_shown, Showing.object_numbered}
 use Rattle.script.specs.declared.alert.Alert.TheVariants as an_alert
 use Rattle.script.specs.declared.alert.Alert.{Alert}
@@ -153,6 +153,6 @@ delete_found request heap rests is =
 -- ---- its reply
 
 -- the reply of a request is in a port by address if it is by number
-pub reply_shown : {s : Numbered} → IsSound s → ports.IsSound s.ports → (r request : ℕ) → slot (places variant.Request s) r ≡ Some request
+pub reply_shown : {s : Numbered} → IsSoundHeap s → ports.IsSoundPorts s.ports → (r request : ℕ) → slot (places variant.Request s) r ≡ Some request
     → is_queued request (shown_heap s) ≡ ports.is_queued (message_of_request r s) s.ports
 reply_shown {s} sound held r request here = is_queued_shown sound held (message_of_request r s) request (request_standing s sound.table r ∙ here)

@@ -9,7 +9,7 @@ use Rattle.iorequest.specs.{declared.fault.ReqFault.ReqFault, declared.request.B
 use Rattle.msgport.specs.Ports.{MessagePorts}
 use Rattle.timerdev.specs.{Held.Held, Held.on_timer, Timing.Timer, Timing.Waiting, Timing.due_next, Timing.is_due, Timing.is_system, Timing.is_waiting, Timing.next_of, Timing.sooner, Timing.system_set, Timing.until_next}
 use Rattle.execheap.specs.Requesting.{acting_at, acting_so, answering, begun_as, begun_now, begun_so, done_with, goes_on, on_timing, port_number, put_at}
-use Rattle.execheap.specs.Numbered.{IsKept, IsSound, Numbered, message_of_request}
+use Rattle.execheap.specs.Numbered.{IsKept, IsSoundHeap, Numbered, message_of_request}
 use Rattle.execheap.proofs.{Entries.some_same, KeptRequests.begun_here, KeptRequests.begun_port, KeptRequests.kept_done, Waits.IsTimed}
 
 -- ---- what an answer reports
@@ -77,7 +77,7 @@ set_twice [] n x y = refl
 set_twice (z ∷ xs) zero x y = refl
 set_twice (z ∷ xs) (suc n) x y = ap (λ rest. z ∷ rest) (set_twice xs n x y)
 
-module _ {s : Numbered} (sound : IsSound s) (r : ℕ) (lives : IsTrue (is_request r s.requests)) (quick : Bool) (system : ℕ)
+module _ {s : Numbered} (sound : IsSoundHeap s) (r : ℕ) (lives : IsTrue (is_request r s.requests)) (quick : Bool) (system : ℕ)
     (told : system ≡ s.timing.timer.system) (start : Pooled TimerRequest)
     (is_begun : start ≡ with_request r (in_progress quick system (request_at r s.requests)) s.requests) where
   holds_now : request_at r start ≡ begun_as quick r s

@@ -70,7 +70,7 @@ module _ {s : Numbered} {n a : ℕ} {t : Tabled} (q : Pooled TimerRequest) where
           (along s n t q (Some (idle_request port)) here refl (ap way_of (own_vacant made s.requests (made.kept.in_step variant.Request))) others
           (λ r p there. not_new made r (made.kept.in_time.live r p there)))
 
-      pub request_made_shown : ports.IsSound s.ports → shown_memory (changed s t q) ≡ placed 40 (Request (idle_request port)) (Some a) (shown_memory s)
+      pub request_made_shown : ports.IsSoundPorts s.ports → shown_memory (changed s t q) ≡ placed 40 (Request (idle_request port)) (Some a) (shown_memory s)
       request_made_shown held = shown_new made (changed s t q) (Request (idle_request port)) refl refl objects
           (ap (λ o. Request (unwrap_or o (idle_request 0))) here)
           (public_kept s (changed s t q) (apart made variant.Port (omega arith)) refl refl)
@@ -102,7 +102,7 @@ module _ {s : Numbered} {n a : ℕ} {t : Tabled} (q : Pooled TimerRequest) where
         (along s n t q None (ap (λ (r : Pooled TimerRequest). slot r.slots n) is
         ∙ slot_same s.requests.slots n None (own_there gone s.requests (gone.kept.in_step variant.Request))) refl (not_way n s.requests rests) stays not_queued)
 
-    pub request_freed_shown : ports.IsSound s.ports → shown_memory (changed s t q) ≡ freed a (shown_memory s)
+    pub request_freed_shown : ports.IsSoundPorts s.ports → shown_memory (changed s t q) ≡ freed a (shown_memory s)
     request_freed_shown held = shown_left gone (changed s t q) refl refl objects
         (public_kept s (changed s t q) (apart_left gone variant.Port (omega arith)) refl refl)
         (timer_beside s (changed s t q) refl (λ r there. beside_left gone variant.Request r (λ e. not_waiting r there)))

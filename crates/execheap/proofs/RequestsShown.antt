@@ -16,7 +16,7 @@ use Rattle.timerdev.specs.Held.{on_timer}
 use Rattle.execmodel.specs.{State.Message, State.MsgPort, State.Request, State.Heap, State.PublicPort, State.on_heap, Objects.replaced}
 use Rattle.execmodel.specs.Ports as port_model
 use Rattle.execmodel.specs.Requests as model
-use Rattle.execheap.specs.Numbered.{Numbered, IsSound, address_in, message_of_request, message_places, object_of, places, shown_entry, shown_heap, shown_library, shown_memory, shown_public, shown_tagged, shown_timer, shown_waiting}
+use Rattle.execheap.specs.Numbered.{Numbered, IsSoundHeap, address_in, message_of_request, message_places, object_of, places, shown_entry, shown_heap, shown_library, shown_memory, shown_public, shown_tagged, shown_timer, shown_waiting}
 use Rattle.execheap.specs.Requesting.{acting_so, begun_as, begun_now, begun_so, begun_until, done_with, goes_on, on_requests, on_timing, port_number, put_at, reply_out}
 use Rattle.execheap.specs.{declared.tag.Kind.Kind, declared.tag.Tagged.Tagged, Tags.is_same, Tags.tagged, Table.number_at, Table.place_of, Changes.on_ports, Listing.acting_begun, Listing.taken_by_state}
 use Rattle.execheap.specs.declared.tag.Kind.TheVariants as variant
@@ -63,7 +63,7 @@ module _ (s : Numbered) (r request : ℕ) (found : number_at variant.Request req
 
 -- ---- the message of a request is shown by nothing
 
-module _ (s : Numbered) (sound : table.IsSound s.table) (m : ℕ) (past : s.table.pool ≤ m) (q : MessagePorts) (ports : q.ports ≡ s.ports.ports)
+module _ (s : Numbered) (sound : table.IsSoundTable s.table) (m : ℕ) (past : s.table.pool ≤ m) (q : MessagePorts) (ports : q.ports ≡ s.ports.ports)
     (queues : q.queues ≡ s.ports.queues) (messages : (n : ℕ) → n ≢ m → message_at n q ≡ message_at n s.ports) where
   unseen : (x : Tagged) (b : ℕ) → place_of x b s.table ≡ Some b → shown_tagged (record s { ports = q }) x ≡ shown_tagged s x
   unseen (tag.Object variant.Port n) b there =
@@ -80,7 +80,7 @@ module _ (s : Numbered) (sound : table.IsSound s.table) (m : ℕ) (past : s.tabl
 
 -- ---- a reply is put, or taken
 
-module _ {s : Numbered} (sound : IsSound s) (held : ports.IsSound s.ports) (formed : IsWellFormed s.table.memory.regions s.table.memory.blocks) (r request : ℕ)
+module _ {s : Numbered} (sound : IsSoundHeap s) (held : ports.IsSoundPorts s.ports) (formed : IsWellFormed s.table.memory.regions s.table.memory.blocks) (r request : ℕ)
     (here : slot (places variant.Request s) r ≡ Some request) where
   begins : number_at variant.Request request s.table ≡ Some r
   begins = number_live sound.table variant.Request r request here
@@ -230,10 +230,10 @@ module _ {s : Numbered} (sound : IsSound s) (held : ports.IsSound s.ports) (form
 -- ---- the timer
 
 -- what waits lives
-pub waiting_placed : {s : Numbered} → IsSound s → (k : ℕ) → is_waiting k s.timing.timer ≡ true → (a : ℕ) × (slot (places variant.Request s) k ≡ Some a)
+pub waiting_placed : {s : Numbered} → IsSoundHeap s → (k : ℕ) → is_waiting k s.timing.timer ≡ true → (a : ℕ) × (slot (places variant.Request s) k ≡ Some a)
 waiting_placed {s} sound k stands = some_is (slot (places variant.Request s) k) (request_live sound.kept k (waiting_under_way sound.kept k stands).0)
 
-module _ {s : Numbered} (sound : IsSound s) (r request : ℕ) (here : slot (places variant.Request s) r ≡ Some request) where
+module _ {s : Numbered} (sound : IsSoundHeap s) (r request : ℕ) (here : slot (places variant.Request s) r ≡ Some request) where
   address_is : address_in (places variant.Request s) r ≡ request
   address_is = ap (λ o. unwrap_or o 0) here
 
@@ -314,7 +314,7 @@ public_put : (o : Option ℕ) (m : ℕ) (q : MessagePorts) → (put_at o m q).pu
 public_put None m q = refl
 public_put (Some p) m q = refl
 
-module _ {s : Numbered} (sound : IsSound s) (held : ports.IsSound s.ports) (formed : IsWellFormed s.table.memory.regions s.table.memory.blocks) (r request : ℕ)
+module _ {s : Numbered} (sound : IsSoundHeap s) (held : ports.IsSoundPorts s.ports) (formed : IsWellFormed s.table.memory.regions s.table.memory.blocks) (r request : ℕ)
     (here : slot (places variant.Request s) r ≡ Some request) where
   holds_here : request_at r s.requests ≡ model.request_of request (shown_heap s)
   holds_here = holds sound held formed r request here

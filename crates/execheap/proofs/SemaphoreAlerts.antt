@@ -7,7 +7,7 @@ use Rattle.sigsem.specs.Semaphores as sems
 use Rattle.execmodel.specs.Semaphores.{free_sem_alert, heir, is_semaphore_at, obtain_alert, release_alert, sem_of, semaphore_alert}
 use Rattle.execmodel.specs.State.{Heap}
 use Rattle.execheap.specs.declared.tag.Kind.TheVariants as variant
-use Rattle.execheap.specs.{Refusals.alert_of, Refusals.as_refusal, Numbered.Numbered, Numbered.IsSound, Numbered.shown_heap, Numbered.places, Table.number_at}
+use Rattle.execheap.specs.{Refusals.alert_of, Refusals.as_refusal, Numbered.Numbered, Numbered.IsSoundHeap, Numbered.shown_heap, Numbered.places, Table.number_at}
 use Rattle.execheap.proofs.{Alerts.handle_unless, Alerts.refused_first, Matching.number_live, Shown.semaphore_at_shown, Shown.sem_shown, Shown.waiters_shown}
 use Rattle.script.specs.declared.alert.Alert.TheVariants as an_alert
 use Rattle.script.specs.declared.alert.Alert.{Alert}
@@ -46,7 +46,7 @@ module _ (semaphore : ℕ) (heap : Heap) {why : Alert} (refused : semaphore_aler
   unfolding release_alert semaphore_alert
   release_refused t = refused_first (is_semaphore_at semaphore heap) (sem_unless (is_owner t (sem_of semaphore heap))) refused
 
-module _ {s : Numbered} (sound : IsSound s) (n semaphore : ℕ) (here : slot (places variant.Semaphore s) n ≡ Some semaphore) where
+module _ {s : Numbered} (sound : IsSoundHeap s) (n semaphore : ℕ) (here : slot (places variant.Semaphore s) n ≡ Some semaphore) where
   begins : number_at variant.Semaphore semaphore s.table ≡ Some n
   begins = number_live sound.table variant.Semaphore n semaphore here
 
@@ -100,7 +100,7 @@ module _ {A : Type 0} where
   told_next None answer old new next = next refl
   told_next (Some fault) answer old new next = tt
 
-  module _ {s : Numbered} (sound : IsSound s) (n semaphore : ℕ) (here : slot (places variant.Semaphore s) n ≡ Some semaphore) (t : ℕ) (answer : A) where
+  module _ {s : Numbered} (sound : IsSoundHeap s) (n semaphore : ℕ) (here : slot (places variant.Semaphore s) n ≡ Some semaphore) (t : ℕ) (answer : A) where
     pub obtain_told : alert_of (as_refusal (fault_or (deep_fault n t s.sems) answer)) ≡ obtain_alert t semaphore (shown_heap s)
     obtain_told = told_if (is_too_deep t (sems.sem_at n s.sems)) TooDeep answer ∙ sym (obtain_found sound n semaphore here t)
 

@@ -167,8 +167,8 @@ pub record IsKept (s : Numbered) : Type 0 where
   pub in_time : IsInTime s
 
 -- that, and that a number represents one object and an object for one block
-pub record IsSound (s : Numbered) : Type 0 where
-  pub table : table.IsSound s.table
+pub record IsSoundHeap (s : Numbered) : Type 0 where
+  pub table : table.IsSoundTable s.table
   pub kept : IsKept s
 
 -- what every list space reports of sequences, homes and keys
@@ -178,8 +178,8 @@ pub record IsSpace (s : Numbered) : Type 0 where
 
 -- what always holds of objects by number, with what each of their parts reports of itself
 pub record IsKnown (s : Numbered) : Type 0 where
-  pub sound : IsSound s
+  pub sound : IsSoundHeap s
   pub space : IsSpace s
   pub memory : IsWellFormed s.table.memory.regions s.table.memory.blocks
-  pub ports : ports.IsSound s.ports
-  pub sems : sems.IsSound s.sems
+  pub ports : ports.IsSoundPorts s.ports
+  pub sems : sems.IsSoundSemaphores s.sems

@@ -146,7 +146,7 @@ pub record IsMatched (t : Tabled) : Type 0 where
   pub count : (kind : Kind) → counted kind t.memory.blocks ≡ taken (slots_of kind t)
 
 -- and there is one pool for each kind, all of one length, and one place for each library
-pub record IsSound (t : Tabled) : Type 0 where
+pub record IsSoundTable (t : Tabled) : Type 0 where
   pub matched : IsMatched t
   pub each : (kind : Kind) → length (slots_of kind t) ≡ t.pool
   pub kinds : length t.pools ≡ length kinds

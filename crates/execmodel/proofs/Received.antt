@@ -11,7 +11,7 @@ use Rattle.script.specs.File.{MachineData}
 use Rattle.execmodel.specs.{State.Call, State.Mark, State.State, State.Outcome, State.quiet, State.booted, State.andthen, State.on_schedule, Calls.next_call, Pending.next_softint, Bodies.body_step, Step.switches, Step.ends, Step.call_step, Step.task_step, Step.softint_or_task_step, Step.step_action, Step.acts, Step.step, Step.tick, Step.starts, Step.run, Laws.OneStep, Laws.OneTick, Laws.OneRequest, Laws.IsToCall, Laws.is_own_taking, Laws.WaitersHaveReceivedNone, Laws.ReceivedSignalsStay, Requests.finishes}
 use Rattle.execmodel.proofs.Stretches.{Relation, HoldsOfInterrupts, HoldsOfEach, of_softint, of_set, of_settle, of_request, ticked as ticked_stretch, of_starts, of_events}
 use Rattle.execmodel.proofs.Agreement.{running_state, set_there, set_here, in_range, set_state, all_absent, got}
-use Rattle.execmodel.proofs.{Bits.signal_joined, Heaps.true_is_not_false, WithoutFinishing.does_itself, WithoutFinishing.ends_followed, WithoutFinishing.call_shifts, NoStraysLaw.quietly, NoStraysLaw.switches_quiet, Asking.finishing, Commands.Reaches, Commands.rests, Commands.posts, LinesOf.body_alters, StatesAfter.Shifts, StatesAfter.reaches, StatesAfter.rearrives, StatesAfter.adds, StatesAfter.takes, StatesAfter.sleeps, StatesAfter.asks, StatesAfter.wakes, StatesAfter.leaves, StatesAfter.removes, WaitingLaw.IsSound, WaitingLaw.waits, WaitingLaw.clocked, WaitingLaw.booted_sound}
+use Rattle.execmodel.proofs.{Bits.signal_joined, Heaps.true_is_not_false, WithoutFinishing.does_itself, WithoutFinishing.ends_followed, WithoutFinishing.call_shifts, NoStraysLaw.quietly, NoStraysLaw.switches_quiet, Asking.finishing, Commands.Reaches, Commands.rests, Commands.posts, LinesOf.body_alters, StatesAfter.Shifts, StatesAfter.reaches, StatesAfter.rearrives, StatesAfter.adds, StatesAfter.takes, StatesAfter.sleeps, StatesAfter.asks, StatesAfter.wakes, StatesAfter.leaves, StatesAfter.removes, WaitingLaw.IsSoundState, WaitingLaw.waits, WaitingLaw.clocked, WaitingLaw.booted_sound}
 
 -- ---- what a task has received
 
@@ -193,7 +193,7 @@ ticked_none s old = by_running s.running
 
 -- the state stays sound, and those who wait have received none of what they wait for
 abbrev Sleeps : Relation
-Sleeps old marks new = IsSound old × AllHaveNone old.schedule → IsSound new × AllHaveNone new.schedule
+Sleeps old marks new = IsSoundState old × AllHaveNone old.schedule → IsSoundState new × AllHaveNone new.schedule
 
 sleep : HoldsOfEach Sleeps
 unfolding ends

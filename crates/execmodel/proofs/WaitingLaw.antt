@@ -157,7 +157,7 @@ shifts_agree t call s o (removes other apart heap e) runs count follows old =
 
 -- what holds in every state: the blocks are well formed and the requests in order, nobody waits for a free semaphore, each program has a task,
 -- as many tasks may wait as there are, and the queues agree with the schedule
-pub record IsSound (s : State) : Type 0 where
+pub record IsSoundState (s : State) : Type 0 where
   pub tidy : IsTidy s
   pub idle : AllIdle s.memory.heap
   pub counted : length s.scripts.programs ≡ length s.schedule.queue.states
@@ -171,8 +171,8 @@ how_many p = p.1
 -- the state stays so, and each queue follows its marks
 abbrev pub Waits : Relation
 Waits old marks new =
-    IsSound old
-    → IsSound new × ((a : ℕ) → Follows (waiters_of a old.memory.heap) (turns_at_semaphore a marks) (waiters_of a new.memory.heap))
+    IsSoundState old
+    → IsSoundState new × ((a : ℕ) → Follows (waiters_of a old.memory.heap) (turns_at_semaphore a marks) (waiters_of a new.memory.heap))
 
 pub joined : (s : State) (some : List Mark) (r : State) (more : List Mark) (q : State) → Waits s some r → Waits r more q → Waits s (some ++ more) q
 joined s some r more q first next sound =
@@ -187,7 +187,7 @@ joined s some r more q first next sound =
 
 -- only the schedule changes, and there are as many tasks as before
 pub rescheduling : (s : State) (f : Schedule → Schedule) → length (f s.schedule).queue.states ≡ length s.schedule.queue.states
-    → (IsSound s → AllAgree (f s.schedule) (λ a. waiters_of a s.memory.heap)) → Waits s [] (on_schedule f s)
+    → (IsSoundState s → AllAgree (f s.schedule) (λ a. waiters_of a s.memory.heap)) → Waits s [] (on_schedule f s)
 rescheduling s f count agrees sound = (
   record {
     tidy = rescheduled_tidy s (on_schedule f s) refl sound.tidy;
@@ -200,7 +200,7 @@ rescheduling s f count agrees sound = (
 )
 
 -- each queue follows the marks of a call
-called_pass : (t : ℕ) (call : Call) (s : State) (o : Outcome) → Works t call s o → s.schedule.running ≡ Some t → IsSound s
+called_pass : (t : ℕ) (call : Call) (s : State) (o : Outcome) → Works t call s o → s.schedule.running ≡ Some t → IsSoundState s
     → (a : ℕ) → Follows (waiters_of a s.memory.heap) (turns_at_semaphore a o.marks) (waiters_of a o.state.memory.heap)
 called_pass t call s o (by_moves makes same) runs sound =
     moves_pass s.memory.regions t call s.memory.heap o.marks o.state.memory.heap makes.1 sound.tidy.formed sound.idle
@@ -263,7 +263,7 @@ finished request s waits sound =
     )
 
 -- a task ends whose commands are used up
-ended_agrees : (t : ℕ) (s : State) → s.schedule.running ≡ Some t → IsSound s → AllAgree (leaves_for_good t s.schedule) (λ a. waiters_of a s.memory.heap)
+ended_agrees : (t : ℕ) (s : State) → s.schedule.running ≡ Some t → IsSoundState s → AllAgree (leaves_for_good t s.schedule) (λ a. waiters_of a s.memory.heap)
 unfolding leaves_for_good
 ended_agrees t s runs sound =
     stops_agrees t Removed s.schedule (leaves_for_good t s.schedule) (queues_of s) (queues_of s) runs refl refl refl refl refl
@@ -330,7 +330,7 @@ pub as_many : {A B : Type 0} (f : A → B) (x : TaskState) (xs : List A) → len
 as_many f x [] = refl
 as_many f x (y ∷ ys) = ap suc (as_many f x ys)
 
-pub booted_sound : (machine : MachineData) → IsMachine machine → IsSound (booted machine)
+pub booted_sound : (machine : MachineData) → IsMachine machine → IsSoundState (booted machine)
 unfolding booted waiters_of
 booted_sound machine is = record {
   tidy = booted_tidy machine is;

@@ -4,7 +4,7 @@ use Rattle.std.proofs.Common.{◌≡◌, ◌≢◌, ℕ, zero, suc, ◌<◌, ◌
 use Rattle.std.proofs.lemmas.{Bool.cond-true, Bool.cond-false, Bool.cases_eq, Bool.cases_lt, List.length-replicate}
 use Rattle.execlist.specs.{Order.first, Order.without_item, Lists.sequence, Lists.home, Lists.is_at, Lists.times, Pool.slot, Pool.Pooled, Pool.free_below}
 use Rattle.msgport.specs.declared.fault.PortFault.TheVariants.{Unknown, Link}
-use Rattle.msgport.specs.Ports.{MessagePorts, IsHeld, is_port, is_message, is_queued, is_linked, linked_fault, reply_fault, messages_of, appended, port_freed, message_freed, no_ports}
+use Rattle.msgport.specs.Ports.{MessagePorts, KeepsPorts, is_port, is_message, is_queued, is_linked, linked_fault, reply_fault, messages_of, appended, port_freed, message_freed, no_ports}
 use Rattle.msgport.specs.{Port.Port, declared.message.Message.Message}
 use Rattle.execlist.proofs.{Pools.item_of, Pools.slot_known, Pools.slot_other, Pools.slot_same, Pools.slot_new, LinkLemmas.none-there}
 
@@ -111,9 +111,9 @@ pub not_in : (all : List (List ℕ)) (n : ℕ) (o : Option ℕ) → length all �
 not_in all n o one stands none = not_listed all n o one stands (ap not none)
 
 -- what is linked stays linked to what lives
-module _ {lists : ℕ} {listings : List (Option ℕ)} {stores : ℕ} {holdings : List (Option ℕ)} {s : MessagePorts} (held : IsHeld lists listings stores holdings s) where
+module _ {lists : ℕ} {listings : List (Option ℕ)} {stores : ℕ} {holdings : List (Option ℕ)} {s : MessagePorts} (held : KeepsPorts lists listings stores holdings s) where
   -- if a port is freed that has no message and is in no list
-  pub freed_held : (p : ℕ) → ((m : ℕ) → home s.places m ≡ Some p → ⊥) → home listings p ≡ None → IsHeld lists listings stores holdings (port_freed p s)
+  pub freed_held : (p : ℕ) → ((m : ℕ) → home s.places m ≡ Some p → ⊥) → home listings p ≡ None → KeepsPorts lists listings stores holdings (port_freed p s)
   freed_held p nobody unlisted = record {
     one_list = held.one_list;
     one_store = held.one_store;
@@ -131,7 +131,7 @@ module _ {lists : ℕ} {listings : List (Option ℕ)} {stores : ℕ} {holdings :
     lives q other there = ap is_some (slot_other s.ports.slots p q None other) ∙ there
 
   -- if a message is freed that is in no port and not held
-  pub unlinked_held : (m : ℕ) → home s.places m ≡ None → home holdings m ≡ None → IsHeld lists listings stores holdings (message_freed m s)
+  pub unlinked_held : (m : ℕ) → home s.places m ≡ None → home holdings m ≡ None → KeepsPorts lists listings stores holdings (message_freed m s)
   unlinked_held m loose unheld = record {
     one_list = held.one_list;
     one_store = held.one_store;
@@ -149,7 +149,7 @@ module _ {lists : ℕ} {listings : List (Option ℕ)} {stores : ℕ} {holdings :
     lives n other there = ap is_some (slot_other s.messages.slots m n None other) ∙ there
 
   -- if a message is put at a port
-  pub appended_held : (p m : ℕ) → IsTrue (is_port p s) → IsTrue (is_message m s) → home holdings m ≡ None → IsHeld lists listings stores holdings (appended p m s)
+  pub appended_held : (p m : ℕ) → IsTrue (is_port p s) → IsTrue (is_message m s) → home holdings m ≡ None → KeepsPorts lists listings stores holdings (appended p m s)
   appended_held p m port message unheld = record {
     one_list = held.one_list;
     one_store = held.one_store;
@@ -175,7 +175,7 @@ module _ {lists : ℕ} {listings : List (Option ℕ)} {stores : ℕ} {holdings :
     port_at n q (inr other) e = held.live_port n q (sym (slot_other s.places m n (Some p) other) ∙ e)
 
   -- if a message is taken out of its port, and what else is in the ports stays
-  pub taken_held : (m : ℕ) (queues : List (List ℕ)) → length queues ≡ length s.queues → IsHeld lists listings stores holdings (record s { queues = queues; places = slice_set s.places m None })
+  pub taken_held : (m : ℕ) (queues : List (List ℕ)) → length queues ≡ length s.queues → KeepsPorts lists listings stores holdings (record s { queues = queues; places = slice_set s.places m None })
   taken_held m queues each = record {
     one_list = held.one_list;
     one_store = held.one_store;
@@ -199,7 +199,7 @@ nowhere count n h there = ap is_some (sym (slot_new ℕ count n) ∙ there)
 
 -- No port and no link, and any messages: what always holds of ports holds when all are freed.
 pub held_when_freed : (ports messages : ℕ) (all : Pooled Message) → length all.slots ≡ messages
-    → IsHeld 1 (replicate ports None) 1 (replicate messages None) (record (no_ports ports messages) { messages = all })
+    → KeepsPorts 1 (replicate ports None) 1 (replicate messages None) (record (no_ports ports messages) { messages = all })
 held_when_freed ports messages all many = record {
   one_list = refl;
   one_store = refl;
@@ -214,7 +214,7 @@ held_when_freed ports messages all many = record {
   live_listed = λ p h there. (let bad = nowhere ports p h there in cc);
 }
 
-pub held_at_first : (ports messages : ℕ) → IsHeld 1 (replicate ports None) 1 (replicate messages None) (no_ports ports messages)
+pub held_at_first : (ports messages : ℕ) → KeepsPorts 1 (replicate ports None) 1 (replicate messages None) (no_ports ports messages)
 held_at_first ports messages = held_when_freed ports messages (no_ports ports messages).messages (length-replicate {A = Option Message} messages None)
 
 -- as many numbers as before

@@ -206,7 +206,7 @@ made_private p s = record s { public = without_item p s.public }
 
 -- What the code keeps: one list of public ports and one of held messages, and what is linked lives. The listings say which port is in the
 -- first, the holdings which message is in the second.
-pub record IsHeld (lists : ℕ) (listings : List (Option ℕ)) (stores : ℕ) (holdings : List (Option ℕ)) (s : MessagePorts) : Type 0 where
+pub record KeepsPorts (lists : ℕ) (listings : List (Option ℕ)) (stores : ℕ) (holdings : List (Option ℕ)) (s : MessagePorts) : Type 0 where
   pub one_list : lists ≡ 1
   pub one_store : stores ≡ 1
   pub each_queue : length s.queues ≡ length s.ports.slots
@@ -221,7 +221,7 @@ pub record IsHeld (lists : ℕ) (listings : List (Option ℕ)) (stores : ℕ) (h
 
 -- A message that is queued is once in the port that has it and in no other, one that is held is once among those, and in no port, and
 -- a public port is once among the public ones. What is linked lives.
-pub record IsSound (s : MessagePorts) : Type 0 where
+pub record IsSoundPorts (s : MessagePorts) : Type 0 where
   pub stands : (p m : ℕ) → times m (messages_of p s) ≡ (if is_at (home s.places m) p then 1 else 0)
   pub stands_held : (m : ℕ) → times m s.holding ≡ (if is_held m s then 1 else 0)
   pub apart : (m : ℕ) → IsTrue (is_held m s) → home s.places m ≡ None

@@ -1,7 +1,7 @@
 //! The ports and the messages of a machine, by number.
 ghost use Rattle.std.specs.Prelude.{◌≡◌, ℕ, ◌<◌, ◌≤◌, [], length, replicate, false, not, find, is_ok, Some, None, IfOk, IfSome, IsSome, IsTrue, ok_or};
 ghost use Rattle.execlist.specs.{Order.first, Lists.blank, Lists.home, Lists.is_named, Pool.IsStocked, Pool.all_free, Pool.next_number, Answers.fault_or, Answers.kept_or};
-ghost use Rattle.msgport.specs.Ports.{IsSound, is_port, is_message, is_queued, is_held, is_linked, is_public, has_messages, port_at, message_at, messages_of, linked_fault, post_fault, reply_fault, queued_fault, private_fault, public_fault, delete_fault, no_ports, all_freed, port_made, message_made, port_freed, message_freed, with_port, with_message, typed, appended, posted, held, let_go, taken_out, taken_off, made_public, made_private, nt_message, nt_freemsg, nt_replymsg};
+ghost use Rattle.msgport.specs.Ports.{IsSoundPorts, is_port, is_message, is_queued, is_held, is_linked, is_public, has_messages, port_at, message_at, messages_of, linked_fault, post_fault, reply_fault, queued_fault, private_fault, public_fault, delete_fault, no_ports, all_freed, port_made, message_made, port_freed, message_freed, with_port, with_message, typed, appended, posted, held, let_go, taken_out, taken_off, made_public, made_private, nt_message, nt_freemsg, nt_replymsg};
 ghost use Rattle.msgport.specs.Port.{arrival_action, wait_bit};
 
 mod readers;
@@ -44,7 +44,7 @@ pub struct Ports<S: ListSpace> {
 impl<S: ListSpace> Model for Ports<S> {
     ghost use Rattle.std.specs.Prelude.{length};
     ghost use Rattle.execlist.specs.Lists.{sequence};
-    ghost use Rattle.msgport.specs.Ports.{IsHeld, MessagePorts};
+    ghost use Rattle.msgport.specs.Ports.{KeepsPorts, MessagePorts};
 
     ghost Value = { MessagePorts };
 
@@ -58,7 +58,7 @@ impl<S: ListSpace> Model for Ports<S> {
       keys = S.keys q.public;
     } };
 
-    ghost invariant = { λ q. IsHeld (length (S.sequences q.public)) (S.homes q.public) (length (S.sequences q.held)) (S.homes q.held) (record {
+    ghost invariant = { λ q. KeepsPorts (length (S.sequences q.public)) (S.homes q.public) (length (S.sequences q.held)) (S.homes q.held) (record {
       ports = q.ports;
       messages = q.messages;
       queues = S.sequences q.queues;
@@ -509,7 +509,7 @@ impl<S: ListSpace> Ports<S> {
 
     /// Does nothing: its clauses are what always holds of the ports and the messages, and of the numbers that are next.
     pub fn facts(&self)
-        ensures sound { IsSound self.now }
+        ensures sound { IsSoundPorts self.now }
         ensures ports { IsStocked self.now.ports }
         ensures messages { IsStocked self.now.messages }
     {

@@ -8,7 +8,7 @@ use Rattle.execlist.proofs.PlainLemmas.{without_fresh}
 use Rattle.signals.specs.Signals.{SignalSets}
 use Rattle.forbid.specs.Nesting.{Nesting}
 use Rattle.scheduler.specs.Schedule.{Schedule, status_of, switch_for, begins, waits_for, waits_at_semaphore, leaves, departs, task_removed, with_priority}
-use Rattle.scheduler.specs.{declared.Switch.Switch, declared.Switch.TheVariants.To, Dispatch.arrives, Dispatch.switch_of, Dispatch.displaced, Dispatch.after_switch, Dispatch.rescheduled, Dispatch.reprioritized, Sound.IsSound, Sound.IsToReady, Sound.is_running, Sound.is_task}
+use Rattle.scheduler.specs.{declared.Switch.Switch, declared.Switch.TheVariants.To, Dispatch.arrives, Dispatch.switch_of, Dispatch.displaced, Dispatch.after_switch, Dispatch.rescheduled, Dispatch.reprioritized, Sound.IsSoundSchedule, Sound.IsToReady, Sound.is_running, Sound.is_task}
 
 -- ---- the running task
 
@@ -28,26 +28,26 @@ runs Removed e = cc
 
 -- the running task passes that test
 is_running-runner : (states : List TaskState) (running : Option ℕ) (signals : List SignalSets) (nestings : List Nesting) (r : ℕ)
-    → IsSound states running signals nestings → running ≡ Some r → is_running (state_at states r) ≡ true
+    → IsSoundSchedule states running signals nestings → running ≡ Some r → is_running (state_at states r) ≡ true
 is_running-runner states running signals nestings r sound e =
     sound.one_runs r ∙ ap (λ o. is_task o r) e ∙ eq-eqb r r refl
 
 -- the running task is in the state of running
 pub runner_runs : (states : List TaskState) (running : Option ℕ) (signals : List SignalSets) (nestings : List Nesting) (r : ℕ)
-    → IsSound states running signals nestings → running ≡ Some r → state_at states r ≡ Running
+    → IsSoundSchedule states running signals nestings → running ≡ Some r → state_at states r ≡ Running
 runner_runs states running signals nestings r sound e =
     runs (state_at states r) (is_running-runner states running signals nestings r sound e)
 
 -- the running task is one of the file
 pub runner_known : (states : List TaskState) (running : Option ℕ) (signals : List SignalSets) (nestings : List Nesting) (r : ℕ)
-    → IsSound states running signals nestings → running ≡ Some r → r < length states
+    → IsSoundSchedule states running signals nestings → running ≡ Some r → r < length states
 runner_known states running signals nestings r sound e =
     let runs = runner_runs states running signals nestings r sound e in
     is_known states r (λ absent. cc)
 
 -- the running task, if any, is one of the file
 pub running_known : (states : List TaskState) (running : Option ℕ) (signals : List SignalSets) (nestings : List Nesting)
-    → IsSound states running signals nestings → IfSome running (λ t. t < length states)
+    → IsSoundSchedule states running signals nestings → IfSome running (λ t. t < length states)
 running_known states None signals nestings sound = tt
 running_known states (Some r) signals nestings sound = runner_known states (Some r) signals nestings r sound refl
 

@@ -49,7 +49,7 @@ pub struct Sched<S: ListSpace> {
 
 impl<S: ListSpace> Model for Sched<S> {
     ghost use Rattle.std.specs.Prelude.{◌≡◌, true, if◌then◌else◌};
-    ghost use Rattle.scheduler.specs.{Schedule.Schedule, Sound.IsSound, Settled.is_settled};
+    ghost use Rattle.scheduler.specs.{Schedule.Schedule, Sound.IsSoundSchedule, Settled.is_settled};
 
     ghost Value = { Schedule };
 
@@ -63,7 +63,7 @@ impl<S: ListSpace> Model for Sched<S> {
       idle = s.idle;
     } };
 
-    ghost invariant = { λ s. IsSound s.queue.states s.running s.signals.items s.nests.items
+    ghost invariant = { λ s. IsSoundSchedule s.queue.states s.running s.signals.items s.nests.items
         × ((if s.settled then is_settled (record {
           queue = s.queue;
           running = s.running;

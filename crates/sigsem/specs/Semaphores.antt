@@ -165,14 +165,14 @@ dropped t m = dropped_from (waits_at t m) t m
 -- ---- what always holds
 
 -- what the code keeps
-pub record IsHeld (m : Semaphores) : Type 0 where
+pub record KeepsSemaphores (m : Semaphores) : Type 0 where
   pub each_queue : length m.queues ≡ length m.sems.slots
   pub counted : (s : ℕ) → IsCounted (sem_at s m)
   pub owned : (t s : ℕ) → waits_at t m ≡ Some s → IsTrue (is_owned (sem_at s m))
 
 -- A task that waits is once in the queue of the semaphore where it waits and in no other, and that semaphore lives and is owned: at a
 -- free one nobody waits. A free semaphore has the count 0, an owned one a count from 1 to 32767.
-pub record IsSound (m : Semaphores) : Type 0 where
+pub record IsSoundSemaphores (m : Semaphores) : Type 0 where
   pub stands : (s t : ℕ) → times t (waiters_of s m) ≡ (if is_at (waits_at t m) s then 1 else 0)
   pub live : (t s : ℕ) → waits_at t m ≡ Some s → IsTrue (is_sem s m)
   pub owned : (t s : ℕ) → waits_at t m ≡ Some s → IsTrue (is_owned (sem_at s m))

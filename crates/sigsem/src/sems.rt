@@ -1,7 +1,7 @@
 //! The semaphores of a machine, by number.
 ghost use Rattle.std.specs.Prelude.{◌≡◌, ◌<◌, ◌≤◌, length, not, is_some, Some, None, IfOk, IfSome, IsTrue, ok_or};
 ghost use Rattle.execlist.specs.{Order.first, Pool.IsStocked, Pool.next_number, Answers.fault_or, Answers.kept_or};
-ghost use Rattle.sigsem.specs.Semaphores.{IsSound, is_sem, is_owned, is_free_for, sem_at, waiters_of, waits_at, free_fault, deep_fault, release_fault, outcome_for, heir, no_sems, sem_made, sem_freed, with_sem, queued, obtained, attempted, handed_on, let_go, dropped};
+ghost use Rattle.sigsem.specs.Semaphores.{IsSoundSemaphores, is_sem, is_owned, is_free_for, sem_at, waiters_of, waits_at, free_fault, deep_fault, release_fault, outcome_for, heir, no_sems, sem_made, sem_freed, with_sem, queued, obtained, attempted, handed_on, let_go, dropped};
 
 mod readers;
 
@@ -35,13 +35,13 @@ pub struct Sems<S: ListSpace> {
 }
 
 impl<S: ListSpace> Model for Sems<S> {
-    ghost use Rattle.sigsem.specs.Semaphores.{IsHeld, Semaphores};
+    ghost use Rattle.sigsem.specs.Semaphores.{KeepsSemaphores, Semaphores};
 
     ghost Value = { Semaphores };
 
     ghost view = { λ q. record { sems = q.sems; queues = S.sequences q.waiters; places = S.homes q.waiters } };
 
-    ghost invariant = { λ q. IsHeld (record { sems = q.sems; queues = S.sequences q.waiters; places = S.homes q.waiters }) };
+    ghost invariant = { λ q. KeepsSemaphores (record { sems = q.sems; queues = S.sequences q.waiters; places = S.homes q.waiters }) };
 }
 
 impl<S: ListSpace> Sems<S> {
@@ -226,7 +226,7 @@ impl<S: ListSpace> Sems<S> {
 
     /// Does nothing: its clauses are what always holds of the semaphores, and of the number that is next.
     pub fn facts(&self)
-        ensures sound { IsSound self.now }
+        ensures sound { IsSoundSemaphores self.now }
         ensures sems { IsStocked self.now.sems }
     {
         let _ = &self.waiters;

@@ -2,7 +2,7 @@
 use Rattle.std.proofs.Common.{◌≡◌, ◌≢◌, ℕ, zero, suc, ◌+◌, ◌<◌, ◌≤◌, Bool, true, false, cond, not, eqb, List, [], ◌∷◌, ◌++◌, length, slice_set, refl, sym, ap, ◌∙◌, subst, arith, inl, inr, Option, Some, None, IfSome, map, append_assoc, ◌⊎◌, ℤ, drop, int_lt, is_none, is_some, IsSome, eq-eqb, ne_eqb, get_or-set_other, get_or-set_same, length-set}
 use Rattle.std.proofs.lemmas.{Bool.cond-true, Bool.cond-false, Bool.cases_eq, Int.ints, List.get_or_past, List.Elements.filter-append}
 use Rattle.execlist.specs.{Order.enqueue, Order.first, Order.without_item, Order.is_lower, Lists.sequence, Lists.home, Lists.part_after, Lists.times, Lists.is_at, Disciplines.pri_at}
-use Rattle.softint.specs.{declared.interrupt.Soft.Soft, Interrupts.Interrupts, Interrupts.IsHeld, Interrupts.joined, Interrupts.header_pri, Interrupts.causes, Interrupts.taken_off}
+use Rattle.softint.specs.{declared.interrupt.Soft.Soft, Interrupts.Interrupts, Interrupts.KeepsInterrupts, Interrupts.joined, Interrupts.header_pri, Interrupts.causes, Interrupts.taken_off}
 use Rattle.execlist.proofs.{Walks.absent_after, PlainLemmas.times_later, PlainLemmas.times-append, PlainLemmas.without_fresh}
 
 -- ---- how often a number is
@@ -198,7 +198,7 @@ present all homes i stands some = by_case (home homes i) refl some where
   by_case None e never = cc
   by_case (Some h) e there_is = omega (arith, somewhere i h all, there (home homes i) h _ (stands h i) e)
 
-pub arrival : (all : List (List ℕ)) (homes : List (Option ℕ)) (softs : List Soft) (i h : ℕ) → IsHeld (length all) homes softs → Stands all homes
+pub arrival : (all : List (List ℕ)) (homes : List (Option ℕ)) (softs : List Soft) (i h : ℕ) → KeepsInterrupts (length all) homes softs → Stands all homes
     → h < 5 → pri_at (map (λ (s : Soft). s.pri) softs) i ≡ header_pri h
     → joined (slice_set all h (sequence all h ++ i ∷ [])) ≡ enqueue (pri_at (map (λ (s : Soft). s.pri) softs)) (joined all) i
 arrival all homes softs i h held stands few same =
@@ -213,9 +213,9 @@ arrival all homes softs i h held stands few same =
     pri_of k t here = held.stands t k (at_home (home homes t) k _ (stands k t) here)
 
 -- what is said of the headers holds of those in which one more is
-pub arrival_held : (all new : List (List ℕ)) (homes placed : List (Option ℕ)) (softs : List Soft) (i h : ℕ) → IsHeld (length all) homes softs
+pub arrival_held : (all new : List (List ℕ)) (homes placed : List (Option ℕ)) (softs : List Soft) (i h : ℕ) → KeepsInterrupts (length all) homes softs
     → i < length homes → pri_at (map (λ (s : Soft). s.pri) softs) i ≡ header_pri h
-    → new ≡ slice_set all h (sequence all h ++ i ∷ []) → placed ≡ slice_set homes i (Some h) → IsHeld (length new) placed softs
+    → new ≡ slice_set all h (sequence all h ++ i ∷ []) → placed ≡ slice_set homes i (Some h) → KeepsInterrupts (length new) placed softs
 arrival_held all new homes placed softs i h held within same is put = record {
   five = ap length is ∙ length-set all h (sequence all h ++ i ∷ []) ∙ held.five;
   each_soft = ap length put ∙ length-set homes i (Some h) ∙ held.each_soft;

@@ -84,7 +84,7 @@ abbrev pub header_pri : ℕ → ℤ
 header_pri h = pos 32 -ℤ pos (16 * h)
 
 -- each caused interrupt is in the header of its priority, and each source has its chain
-pub record IsHeld (headers : ℕ) (homes : List (Option ℕ)) (softs : List Soft) : Type 0 where
+pub record KeepsInterrupts (headers : ℕ) (homes : List (Option ℕ)) (softs : List Soft) : Type 0 where
   pub five : headers ≡ 5
   pub each_soft : length homes ≡ length softs
   pub priorities : All (λ (s : Soft). IsPriority s.pri) softs

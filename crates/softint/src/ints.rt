@@ -30,7 +30,7 @@ pub struct Ints<S: ListSpace> {
 impl<S: ListSpace> Model for Ints<S> {
     ghost use Rattle.std.specs.Prelude.{◌≡◌, is_some, length, map};
     ghost use Rattle.execlist.specs.Order.{first};
-    ghost use Rattle.softint.specs.Interrupts.{Interrupts, IsHeld, IsChained, joined};
+    ghost use Rattle.softint.specs.Interrupts.{Interrupts, KeepsInterrupts, IsChained, joined};
 
     ghost Value = { Interrupts };
 
@@ -41,7 +41,7 @@ impl<S: ListSpace> Model for Ints<S> {
       servers = q.servers.items;
     } };
 
-    ghost invariant = { λ q. IsHeld (length (S.sequences q.caused)) (S.homes q.caused) q.softs.items
+    ghost invariant = { λ q. KeepsInterrupts (length (S.sequences q.caused)) (S.homes q.caused) q.softs.items
         × IsChained q.chains.ports.items q.chains.vertb.items q.chains.exter.items q.servers.items
         × (q.some_caused ≡ is_some (first (joined (S.sequences q.caused)))) };
 }

@@ -63,7 +63,7 @@ pub struct TaskQ<S: ListSpace> {
 impl<S: ListSpace> Model for TaskQ<S> {
     ghost use Rattle.std.specs.Prelude.{length, map};
     ghost use Rattle.execlist.specs.Lists.{sequence};
-    ghost use Rattle.taskq.specs.Tasks.{Tasks, pris_of, IsSound};
+    ghost use Rattle.taskq.specs.Tasks.{Tasks, pris_of, IsSoundQueue};
 
     ghost Value = { Tasks };
 
@@ -74,7 +74,7 @@ impl<S: ListSpace> Model for TaskQ<S> {
       names = q.names;
     } };
 
-    ghost invariant = { λ q. IsSound
+    ghost invariant = { λ q. IsSoundQueue
         (length (S.sequences q.space)) (S.homes q.space) q.states.items (length q.names) };
 }
 

@@ -3,7 +3,7 @@ use Rattle.std.proofs.Common.{◌≡◌, ℕ, suc, ◌<◌, ◌≤◌, Bool, tru
 use Rattle.std.proofs.lemmas.{Bool.cond-false, Bool.cond-true, Bool.cases_eq, Bool.cases_lt, Int.ints, List.get_or-replicate, List.length-replicate, List.get_or_past}
 use Rattle.execlist.specs.{Order.enqueue, Order.first, Order.is_lower, Order.order, Order.without_item, Lists.times, Lists.home, Lists.sequence, Lists.is_at}
 use Rattle.execlist.proofs.{OrderLaws.order_reads_keys, OrderLaws.order_takes, OrderLaws.order_leaves_out, PlainLemmas.times_later, PlainLemmas.times-append, PlainLemmas.without_fresh, PlainLemmas.times_without, PlainLemmas.times_without_other}
-use Rattle.timerdev.specs.{Held.Rises, Held.NoneBefore, Held.due_at, Held.sooner_of, Held.Held, Held.IsHeld, Held.begun_in, Held.due_for, Held.due_in, Held.on_timer, Held.waiting_for, Timing.AtClock, Timing.AtSystem, Timing.Due, Timing.Timer, Timing.Waiting}
+use Rattle.timerdev.specs.{Held.Rises, Held.NoneBefore, Held.due_at, Held.sooner_of, Held.Held, Held.KeepsTimer, Held.begun_in, Held.due_for, Held.due_in, Held.on_timer, Held.waiting_for, Timing.AtClock, Timing.AtSystem, Timing.Due, Timing.Timer, Timing.Waiting}
 use Rattle.timerdev.proofs.{Times.is_front, Times.stands_here, Times.times_filter, Filters.all_that_stand, Filters.filter_joined, Filters.filter_left, Filters.waiting_joined, Filters.waiting_left, Homes.Stands, Homes.home_there}
 
 -- ---- the requests of a header are by their times, and the first of them is due if any is
@@ -114,7 +114,7 @@ timer_of clock system tick_micros is_set homes dues all = record {
 
 -- what the code keeps then, and which requests wait
 pub record IsKept (queues : List (List ℕ)) (homes : List (Option ℕ)) (all : List (List ℕ)) (begun : List (Option ℕ)) (dues : List ℕ) (waiting : List Waiting) : Type 0 where
-  pub held : IsHeld queues homes all begun dues
+  pub held : KeepsTimer queues homes all begun dues
   pub waits : waiting_for (due_in homes dues) (sequence all 0) ≡ waiting
 
 -- ---- one header written
@@ -158,7 +158,7 @@ same_everywhere n i d = by_case (cases_lt i n) where
 
 pub held_none : (n : ℕ) (queues all : List (List ℕ)) (homes begun : List (Option ℕ)) (dues : List ℕ)
     → queues ≡ replicate 2 [] → homes ≡ replicate n None → all ≡ replicate 1 [] → begun ≡ replicate n None → length dues ≡ n
-    → IsHeld queues homes all begun dues
+    → KeepsTimer queues homes all begun dues
 held_none n queues all homes begun dues q h a b d =
     let none : sequence all 0 ≡ [] = ap (λ l. sequence l 0) a ∙ same_everywhere 1 0 [] in
     record {
@@ -174,13 +174,13 @@ held_none n queues all homes begun dues q h a b d =
 -- ---- one comes
 
 -- the times of a header rise
-pub rises_now : (queues all : List (List ℕ)) (homes begun : List (Option ℕ)) (dues : List ℕ) → IsHeld queues homes all begun dues → (h : ℕ)
+pub rises_now : (queues all : List (List ℕ)) (homes begun : List (Option ℕ)) (dues : List ℕ) → KeepsTimer queues homes all begun dues → (h : ℕ)
     → h < 2 → Rises (due_at dues) (sequence queues h)
 rises_now queues all homes begun dues held h there =
     subst (Rises (due_at dues)) (sym (held.by_time h there)) (rises_order dues (begun_in homes h (sequence all 0)))
 
 -- the times of a header rise, whatever time a request has that does not wait
-pub queue_rises : (queues all : List (List ℕ)) (homes begun : List (Option ℕ)) (dues : List ℕ) → IsHeld queues homes all begun dues
+pub queue_rises : (queues all : List (List ℕ)) (homes begun : List (Option ℕ)) (dues : List ℕ) → KeepsTimer queues homes all begun dues
     → (r h time : ℕ) → h < 2 → times r (sequence all 0) ≡ 0
     → Rises (due_at (slice_set dues r time)) (sequence queues h)
 queue_rises queues all homes begun dues held r h time there loose =
@@ -188,7 +188,7 @@ queue_rises queues all homes begun dues held r h time there loose =
     ∙ sym (held.by_time h there))
     (rises_order (slice_set dues r time) (begun_in homes h (sequence all 0)))
 
-module _ (queues all : List (List ℕ)) (homes begun : List (Option ℕ)) (dues : List ℕ) (held : IsHeld queues homes all begun dues)
+module _ (queues all : List (List ℕ)) (homes begun : List (Option ℕ)) (dues : List ℕ) (held : KeepsTimer queues homes all begun dues)
     (r h time : ℕ)
     (there : h < 2) (known : r < length dues) (loose : times r (sequence all 0) ≡ 0) (queues' all' : List (List ℕ))
     (homes' begun' : List (Option ℕ))
@@ -264,7 +264,7 @@ module _ (queues all : List (List ℕ)) (homes begun : List (Option ℕ)) (dues 
         (λ o. cond {A = ℕ} (is_some o) 1 0) (home_old t other) in
         omega (arith, none, there, held.waits t)
 
-  held_joined : IsHeld queues' homes' all' begun' (slice_set dues r time)
+  held_joined : KeepsTimer queues' homes' all' begun' (slice_set dues r time)
   held_joined = record {
     two_headers = ap length queued ∙ length-set queues h _ ∙ held.two_headers;
     one_header = ap length begins ∙ length-set all 0 _ ∙ held.one_header;
@@ -286,7 +286,7 @@ module _ (queues all : List (List ℕ)) (homes begun : List (Option ℕ)) (dues 
 
 -- ---- one goes
 
-module _ (queues all : List (List ℕ)) (homes begun : List (Option ℕ)) (dues : List ℕ) (held : IsHeld queues homes all begun dues) (r : ℕ)
+module _ (queues all : List (List ℕ)) (homes begun : List (Option ℕ)) (dues : List ℕ) (held : KeepsTimer queues homes all begun dues) (r : ℕ)
     (known : r < length homes) (queues' all' : List (List ℕ)) (homes' begun' : List (Option ℕ))
     (two : length queues' ≡ length queues) (left : (k : ℕ) → sequence queues' k ≡ without_item r (sequence queues k))
     (own : homes' ≡ slice_set homes r None)
@@ -311,7 +311,7 @@ module _ (queues all : List (List ℕ)) (homes begun : List (Option ℕ)) (dues 
     by_case (inr other) =
         times_without_other r t (sequence all 0) other ∙ held.waits t ∙ sym (ap (λ o. cond {A = ℕ} (is_some o) 1 0) (home_kept t other))
 
-  held_left : IsHeld queues' homes' all' begun' dues
+  held_left : KeepsTimer queues' homes' all' begun' dues
   held_left = record {
     two_headers = two ∙ held.two_headers;
     one_header = one ∙ held.one_header;

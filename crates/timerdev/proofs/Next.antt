@@ -5,7 +5,7 @@ use Rattle.std.proofs.lemmas.{Bool.cond-true, Bool.cases_order, Bool.and_parts, 
 use Rattle.execlist.specs.{Order.chosen, Order.chosen_or, Order.is_lower, Lists.home, Lists.sequence, Lists.times, Lists.is_at}
 use Rattle.execlist.proofs.{OrderLaws.found_in_order, PlainLemmas.home_known, Places.at_home}
 use Rattle.timerdev.specs.Timing.{AtClock, AtSystem, Due, Timer, Waiting, due_next, is_due, is_system, moment, next_of, offset, sooner, until_next}
-use Rattle.timerdev.specs.Held.{IsHeld, begun_in, due_at, due_in, is_before, sooner_of, waiting_for}
+use Rattle.timerdev.specs.Held.{KeepsTimer, begun_in, due_at, due_in, is_before, sooner_of, waiting_for}
 use Rattle.timerdev.proofs.{Choice.better, Choice.better_of_two, Choice.chosen_by_other, Choice.is_better, Filters.filter_agrees, Filters.waits_where_it_stands, Homes.Stands, Homes.home_there, Homes.has_home}
 
 -- what is found is found by the same times
@@ -91,7 +91,7 @@ later_or_before a b t = by_case (cases_order a b) where
 
 -- ---- the headers
 
-module _ (queues all : List (List ℕ)) (homes begun : List (Option ℕ)) (dues : List ℕ) (held : IsHeld queues homes all begun dues)
+module _ (queues all : List (List ℕ)) (homes begun : List (Option ℕ)) (dues : List ℕ) (held : KeepsTimer queues homes all begun dues)
     (stands : Stands queues homes) where
   -- those of a header that are due by a time
   abbrev pub come_by : (h time : ℕ) → ℕ → Bool

@@ -34,7 +34,7 @@ pub struct Timer<S: ListSpace> {
 impl<S: ListSpace> Model for Timer<S> {
     ghost use Rattle.std.specs.Prelude.{length};
     ghost use Rattle.execlist.specs.Lists.{sequence};
-    ghost use Rattle.timerdev.specs.Held.{Held, IsHeld, due_in, waiting_for};
+    ghost use Rattle.timerdev.specs.Held.{Held, KeepsTimer, due_in, waiting_for};
 
     ghost Value = { Held };
 
@@ -49,7 +49,7 @@ impl<S: ListSpace> Model for Timer<S> {
       };
     } };
 
-    ghost invariant = { λ q. IsHeld (S.sequences q.queues) (S.homes q.queues) (S.sequences q.begun) (S.homes q.begun) q.dues.items };
+    ghost invariant = { λ q. KeepsTimer (S.sequences q.queues) (S.homes q.queues) (S.sequences q.begun) (S.homes q.begun) q.dues.items };
 }
 
 impl<S: ListSpace> Timer<S> {
