@@ -10,7 +10,7 @@ mod notes;
 mod records;
 mod slices;
 
-use crate::deeds::{Deed, read_deeds, read_states};
+use crate::deeds::{Arrow, read_deeds, read_states};
 use crate::fault::PictureFault;
 use crate::film::{Point, Shown, Watch, film};
 use crate::objects::Objects;
@@ -44,7 +44,7 @@ struct Chrome<'a, W> {
     clock: Option<u64>,
     /// How the tasks were at the last point.
     states: Vec<TaskState>,
-    deeds: Vec<Deed>,
+    deeds: Vec<Arrow>,
     /// How many flows were written.
     flows: u64,
     objects: Objects<'a>,

@@ -17,7 +17,7 @@ pub(crate) type Shown = Machine<LinkSpace>;
 
 /// What has been done last.
 #[derive(Clone, Copy)]
-pub(crate) enum Turn {
+pub(crate) enum PointKind {
     /// The start.
     Start,
     /// A step.
@@ -43,7 +43,7 @@ pub(crate) struct Point {
     /// Its number; the start has 0.
     pub number: u64,
     /// What has been done last.
-    pub turn: Turn,
+    pub kind: PointKind,
     /// The place in the event text of what has been done last: the number of the event, from 0; the start has that of the first.
     pub event: usize,
     /// What the clock shows, in microseconds.
@@ -98,11 +98,11 @@ fn actor_of(machine: &Shown, one: Event) -> Option<Actor> {
 }
 
 /// What an event does once.
-fn turn_of(one: Event) -> Turn {
+fn kind_of(one: Event) -> PointKind {
     match one {
-        Event::Run(_) => Turn::Step,
-        Event::Tick(_) => Turn::Tick,
-        Event::Irq(source) => Turn::Request(source),
+        Event::Run(_) => PointKind::Step,
+        Event::Tick(_) => PointKind::Tick,
+        Event::Irq(source) => PointKind::Request(source),
     }
 }
 
@@ -110,14 +110,14 @@ fn turn_of(one: Event) -> Turn {
 fn show<V: Watch>(
     machine: &Shown,
     reel: &Reel,
-    turn: Turn,
+    kind: PointKind,
     event: usize,
     actor: Option<Actor>,
     watch: &mut V,
 ) -> Result<(), PictureFault> {
     let point = Point {
         number: reel.number,
-        turn,
+        kind,
         event,
         clock: machine.view().clock,
         actor,
@@ -188,7 +188,7 @@ fn turn_once<V: Watch>(
     }
     let actor = actor_of(machine, one);
     advance(alloc, machine, one, reel)?;
-    show(machine, reel, turn_of(one), event, actor, watch)
+    show(machine, reel, kind_of(one), event, actor, watch)
 }
 
 /// Does one step, tick or request that many times, or until nothing more is to be seen.
@@ -270,7 +270,7 @@ fn film_on<V: Watch>(
         text: Vec::new(alloc),
     };
     start(alloc, machine, &mut reel)?;
-    show(machine, &reel, Turn::Start, 0, None, watch)?;
+    show(machine, &reel, PointKind::Start, 0, None, watch)?;
     turn_all(alloc, machine, list, &mut reel, watch)?;
     Ok(Ending {
         last: reel.number,

@@ -3,7 +3,7 @@ use super::frame::write_part;
 use super::names::colour_of;
 use super::plan::{MARGIN, Plan};
 use super::shapes::{dot, line, open_text, text};
-use crate::film::{Actor, Turn};
+use crate::film::{Actor, PointKind};
 use crate::forms::Px;
 use crate::lines::{TraceLine, read_line};
 use crate::objects::command_at;
@@ -121,15 +121,15 @@ fn has_served(column: &Column) -> bool {
 
 /// What is written in a column.
 fn entry_of<'a>(scene: &'a Scene<'_>, column: &'a Column) -> ColumnText<'a> {
-    let (said, class) = match (column.point.turn, has_served(column)) {
-        (Turn::Step | Turn::Start, _) => match column.point.actor {
+    let (said, class) = match (column.point.kind, has_served(column)) {
+        (PointKind::Step | PointKind::Start, _) => match column.point.actor {
             Some(actor) => return entry_of_task(scene, column, actor),
             None => (column.text.lines().next().unwrap_or(""), "ink"),
         },
-        (Turn::Tick, true) => ("tick, served", "soft"),
-        (Turn::Tick, false) => ("tick, latched", "soft"),
-        (Turn::Request(_), true) => ("request, served", "soft"),
-        (Turn::Request(_), false) => ("request, latched", "soft"),
+        (PointKind::Tick, true) => ("tick, served", "soft"),
+        (PointKind::Tick, false) => ("tick, latched", "soft"),
+        (PointKind::Request(_), true) => ("request, served", "soft"),
+        (PointKind::Request(_), false) => ("request, latched", "soft"),
     };
     ColumnText {
         said,

@@ -83,7 +83,7 @@ impl Row {
                 _ => {}
             }
         }
-        if !is_served && requests(column.point.turn, self.source) {
+        if !is_served && requests(column.point.kind, self.source) {
             self.draw_asked(mid, page);
         }
     }
