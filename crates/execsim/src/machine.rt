@@ -35,7 +35,7 @@ pub struct Machine<S: ListSpace> {
     kernel: Kernel<S>,
     failed: bool,
     // If it is true, nothing is due, so that a plain word is a whole step.
-    rests: bool,
+    is_settled: bool,
 }
 
 impl<S: ListSpace> Model for Machine<S> {
@@ -46,7 +46,7 @@ impl<S: ListSpace> Model for Machine<S> {
 
     ghost view = { λ m. record { seen = m.kernel; failed = m.failed } };
 
-    ghost invariant = { λ m. (m.failed ≡ false → IsKnown m.kernel) × (m.rests ≡ true → IsSettled m.kernel) };
+    ghost invariant = { λ m. (m.failed ≡ false → IsKnown m.kernel) × (m.is_settled ≡ true → IsSettled m.kernel) };
 }
 
 /// Whether a machine goes on, by whether an alert has stopped it.
@@ -101,7 +101,7 @@ impl<S: ListSpace> Machine<S> {
         Ok(Machine {
             kernel,
             failed: false,
-            rests: false,
+            is_settled: false,
         })
     }
 
@@ -122,7 +122,7 @@ impl<S: ListSpace> Machine<S> {
     {
         let is_reset = self.kernel.reset(file);
         self.failed = !is_reset;
-        self.rests = false;
+        self.is_settled = false;
         is_reset
     }
 
@@ -146,7 +146,7 @@ impl<S: ListSpace> Machine<S> {
         if self.failed {
             return Err(WriteFault);
         }
-        self.rests = false;
+        self.is_settled = false;
         self.kernel.start(out);
         let stopped = self.kernel.is_stopped();
         flow_or_fault(stopped, &mut self.failed, out)
@@ -174,7 +174,7 @@ impl<S: ListSpace> Machine<S> {
         if self.failed {
             return Err(WriteFault);
         }
-        self.rests = false;
+        self.is_settled = false;
         self.kernel.event(one, out);
         let stopped = self.kernel.is_stopped();
         flow_or_fault(stopped, &mut self.failed, out)
@@ -196,7 +196,7 @@ impl<S: ListSpace> Machine<S> {
         ensures time_left { IsOk result → (ticks : ℕ) → HasTimeFor ticks self.old.seen → HasTimeFor ticks self.new.seen }
         ensures good { IsOk result → (W.tape out.new).state ≡ SinkState.Good }
     {
-        let silent = self.kernel.advance(&mut self.rests, more, out);
+        let silent = self.kernel.advance(&mut self.is_settled, more, out);
         steps_or_fault(silent, &mut self.failed, out)
     }
 
@@ -219,7 +219,7 @@ impl<S: ListSpace> Machine<S> {
         requires time { HasTimeFor (sum_by event_ticks list.now) self.old.seen }
         ensures { Plays W.hearing (andthen starts (events list.now)) self.old self.new (W.told witness.old) (W.told witness.new) result }
     {
-        self.rests = false;
+        self.is_settled = false;
         self.kernel.start(witness);
         self.kernel.events(list, witness);
         self.failed = !witness.is_good();
@@ -233,7 +233,7 @@ impl<S: ListSpace> Machine<S> {
         requires time { HasTimeFor (sum_by event_ticks list.now) self.old.seen }
         ensures { Acts (andthen starts (events list.now)) self.old self.new (W.tape out.old) (W.tape out.new) result }
     {
-        self.rests = false;
+        self.is_settled = false;
         self.kernel.start(out);
         self.kernel.events(list, out);
         let stopped = self.kernel.is_stopped();

@@ -57,7 +57,7 @@ impl<S: ListSpace> Kernel<S> {
     }
 
     /// Steps of a settled machine that ask nothing of Exec, at most that many: those of an idle machine, or plain words. The answer is how many.
-    pub(crate) fn quiet_steps<W: Witness>(&mut self, most: u32, out: &mut W) -> u32
+    pub(crate) fn plain_steps<W: Witness>(&mut self, most: u32, out: &mut W) -> u32
         requires { IsSettled self.old }
         ensures within { result ≤ most }
         ensures follows { Follows W.hearing (steps result) self.old self.new (W.told out.old) (W.told out.new) }
@@ -96,7 +96,7 @@ impl<S: ListSpace> Kernel<S> {
     /// A step of a settled machine, if its running task does a plain word in it, or if it is idle; a word prints to a good sink only. A Print is looked
     /// for first, since a log comes to one Print at a time. The answer is whether the step was done.
     #[inline(always)]
-    fn quiet_step<W: Witness>(&mut self, out: &mut W) -> bool
+    fn plain_step<W: Witness>(&mut self, out: &mut W) -> bool
         requires { IsSettled self.old }
         ensures follows { IsTrue result → Follows W.hearing step self.old self.new (W.told out.old) (W.told out.new) }
         ensures settled { IsSettled self.new }
@@ -118,37 +118,42 @@ impl<S: ListSpace> Kernel<S> {
         }
     }
 
-    /// One step of a machine, which is settled if `rests` says so. The answer is whether nothing was due after it, so that the machine is settled.
+    /// One step of a machine, which is settled if `is_settled` says so. The answer is whether nothing was due after it, so that the machine is settled.
     #[inline(always)]
-    fn next_step<W: Witness>(&mut self, rests: bool, out: &mut W) -> bool
+    fn next_step<W: Witness>(&mut self, is_settled: bool, out: &mut W) -> bool
         requires agree { IsInOrder self.old }
-        requires settled { rests ≡ true → IsSettled self.old }
+        requires settled { is_settled ≡ true → IsSettled self.old }
         ensures follows { Follows W.hearing step self.old self.new (W.told out.old) (W.told out.new) }
         ensures settled { IsTrue result → IsSettled self.new }
     {
-        if rests && self.quiet_step(out) {
+        if is_settled && self.plain_step(out) {
             return true;
         }
         self.step(out)
     }
 
     /// One step, and those after it that ask nothing of Exec and print nothing; at most that many of these. The answer is how many these were.
-    /// The machine is settled before and after if `rests` says so; it does if the machine did plain words that print nothing, since others then
+    /// The machine is settled before and after if `is_settled` says so; it does if the machine did plain words that print nothing, since others then
     /// often follow.
     #[inline(always)]
-    pub(crate) fn advance<W: Witness>(&mut self, rests: &mut bool, more: u32, out: &mut W) -> u32
+    pub(crate) fn advance<W: Witness>(
+        &mut self,
+        is_settled: &mut bool,
+        more: u32,
+        out: &mut W,
+    ) -> u32
         requires agree { IsInOrder self.old }
-        requires settled { rests.old ≡ true → IsSettled self.old }
+        requires settled { is_settled.old ≡ true → IsSettled self.old }
         ensures within { result ≤ more }
         ensures steps { StepsSilently W.hearing result self.old self.new (W.told out.old) (W.told out.new) }
-        ensures settled { rests.new ≡ true → IsSettled self.new }
+        ensures settled { is_settled.new ≡ true → IsSettled self.new }
     {
-        if self.next_step(*rests, out) {
+        if self.next_step(*is_settled, out) {
             let silent = self.silent_steps(more);
-            *rests = 0 < silent;
+            *is_settled = 0 < silent;
             silent
         } else {
-            *rests = false;
+            *is_settled = false;
             0
         }
     }

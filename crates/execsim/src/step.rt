@@ -268,7 +268,7 @@ impl<S: ListSpace> Kernel<S> {
         ensures follows { Follows W.hearing (steps result) self.old self.new (W.told out.old) (W.told out.new) }
     {
         if self.step(out) {
-            self.quiet_steps(most - 1, out) + 1
+            self.plain_steps(most - 1, out) + 1
         } else {
             1
         }

@@ -27,7 +27,7 @@ impl<S: ListSpace> Machine<S> {
         ensures moves { OnOk result (Moves (fed t (command_view command)) self.old.seen self.new.seen) }
         ensures kept { OnErr result (self.new ≡ self.old) }
     {
-        self.rests = false;
+        self.is_settled = false;
         self.kernel.feed(t, command)
     }
 

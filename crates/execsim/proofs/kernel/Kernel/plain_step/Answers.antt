@@ -1,11 +1,11 @@
--- The proof of `Kernel::quiet_step`: a step of a settled machine, if it is a plain word or if the machine is idle.
+-- The proof of `Kernel::plain_step`: a step of a settled machine, if it is a plain word or if the machine is idle.
 use Rattle.std.proofs.Common.{Some, ap, subst, sym, ◌∙◌, is_some}
 use Rattle.execlist.specs.Order.{first}
 use Rattle.execmodel.specs.Step.{step, task_step}
 use Rattle.execsim.specs.Agreement.{Follows, Seen}
 use Rattle.execsim.proofs.Following.{follows_silence}
 use Rattle.execsim.proofs.Settling.{idle_step, none_caused, settled_scripts, word_step}
-use Rattle.execsim.proofs.kernel.Kernel.quiet_step.Goals as goal
+use Rattle.execsim.proofs.kernel.Kernel.plain_step.Goals as goal
 
 pub returns-in-None-clause-follows : goal.returns-in-None-clause-follows
 returns-in-None-clause-follows g c = λ done. idle_step c.requires (g.W.Witness.told c.args.out.now)

@@ -1,9 +1,9 @@
--- The proof of `Kernel::quiet_steps`: steps of a settled machine that ask nothing of Exec.
+-- The proof of `Kernel::plain_steps`: steps of a settled machine that ask nothing of Exec.
 use Rattle.std.proofs.Common.{ap, sym, ◌∙◌, is_some}
 use Rattle.execlist.specs.Order.{first}
 use Rattle.execsim.specs.Agreement.{Seen}
 use Rattle.execsim.proofs.Settling.{idle_steps, no_step, none_caused}
-use Rattle.execsim.proofs.kernel.Kernel.quiet_steps.Goals as goal
+use Rattle.execsim.proofs.kernel.Kernel.plain_steps.Goals as goal
 
 pub returns-then-any_caused-clause-follows : goal.returns-then-any_caused-clause-follows
 returns-then-any_caused-clause-follows g c = no_step c.args.self.now (g.W.Witness.told c.args.out.now)
