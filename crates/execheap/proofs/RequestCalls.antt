@@ -185,13 +185,13 @@ pub until_waits : (timer : Timer) (r : ℕ) → until_next timer ≡ Some r → 
 unfolding until_next
 until_waits timer r is = next_waits (λ (w : Waiting). is_system w.due && is_due timer w.due) timer r is
 
-pub both_true : (a b : Bool) → (a && b) ≡ true → (a ≡ true) × (b ≡ true)
-both_true true true e = (refl, refl)
-both_true true false e = let bad : false ≡ true = e in cc
-both_true false b e = let bad : false ≡ true = e in cc
+pub both_hold : (a b : Bool) → (a && b) ≡ true → (a ≡ true) × (b ≡ true)
+both_hold true true e = (refl, refl)
+both_hold true false e = let bad : false ≡ true = e in cc
+both_hold false b e = let bad : false ≡ true = e in cc
 
 -- one that waits lives and is in progress
 pub waiting_under_way : {s : Numbered} → IsKept s → (r : ℕ) → is_waiting r s.timing.timer ≡ true
     → IsTrue (is_request r s.requests) × IsTrue (is_under_way (request_at r s.requests))
 waiting_under_way {s} kept r waits =
-    both_true (is_request r s.requests) (is_under_way (request_at r s.requests)) (sym (kept.in_time.waits r) ∙ waits)
+    both_hold (is_request r s.requests) (is_under_way (request_at r s.requests)) (sym (kept.in_time.waits r) ∙ waits)

@@ -12,7 +12,7 @@ use Rattle.execheap.specs.Numbered.{Numbered, IsKept, address_in, is_way_at, mes
 use Rattle.execheap.specs.{declared.tag.Kind.Kind, Tags.kind_code, Table.Tabled}
 use Rattle.execheap.specs.declared.tag.Kind.TheVariants as variant
 use Rattle.execheap.proofs.Made.{IsMade, IsFreed, not_new, apart, beside, kept_new, shown_new, own_next, own_known, own_vacant, own_slots, own_given, apart_left, beside_left, kept_left, shown_left, own_there, own_released}
-use Rattle.execheap.proofs.{Beside.public_kept, Beside.timer_beside, Front.front, InTime.IsAlong, KeptRequests.not_way, KeptRequests.request_live, KeptRequests.way_of, MessagePlaces.request_standing, MessagePlaces.standing_new, MessagePlaces.standing_left, RequestCalls.both_true}
+use Rattle.execheap.proofs.{Beside.public_kept, Beside.timer_beside, Front.front, InTime.IsAlong, KeptRequests.not_way, KeptRequests.request_live, KeptRequests.way_of, MessagePlaces.request_standing, MessagePlaces.standing_new, MessagePlaces.standing_left, RequestCalls.both_hold}
 
 module _ {s : Numbered} (kept : IsKept s) where
   -- one that waits lives, and is in progress
@@ -20,7 +20,7 @@ module _ {s : Numbered} (kept : IsKept s) where
   waiting_way r there = sym (kept.in_time.waits r) ∙ there
 
   waiting_lives : (r : ℕ) → is_waiting r s.timing.timer ≡ true → IsSome (slot (places variant.Request s) r)
-  waiting_lives r there = request_live kept r (both_true (is_request r s.requests) (is_under_way (request_at r s.requests)) (waiting_way r there)).0
+  waiting_lives r there = request_live kept r (both_hold (is_request r s.requests) (is_under_way (request_at r s.requests)) (waiting_way r there)).0
 
 abbrev changed : Numbered → Tabled → Pooled TimerRequest → Numbered
 changed s t q = record s { table = t; requests = q }

@@ -19,7 +19,7 @@ use Rattle.execmodel.specs.Ports.{is_port, is_message, is_port_at, is_message_at
 use Rattle.execmodel.specs.Semaphores.{awaited_by, dropped, entered, queued, handed_on, released_once, is_semaphore_at, waiters_of, free_sem_alert, is_semaphore, leaving_queue, obtain_alert, obtains, passes, release_alert, sem_of, sem_of_object}
 use Rattle.execmodel.specs.Libraries.{is_library_at, count_of, is_delayed, with_library, base_of, library_at, library_opened, ready_to_open, entered_or_loaded}
 use Rattle.execmodel.specs.{Calls.argument, Calls.done, Calls.answered, Calls.waiting, Calls.alerted, Signals.waited, Nesting.gives_nesting, Tasks.is_caller, Tasks.ends_other, Objects.object_at, Objects.is_kind, Objects.is_allowed, Objects.place_for_object, LowMemory.after_asking_for_object, Memory.extents, Memory.allocates_block, Memory.makes_object, Memory.placed, Memory.freed, Memory.place_for, Memory.is_named, Memory.is_plain, Lists.is_list, Lists.is_node, Lists.is_list_at, Lists.with_nodes, Lists.unlinked, Deeds.concluded}
-use Rattle.execmodel.proofs.{Heaps.rid, Heaps.true_is_not_false, Taking.IsNew, Taking.Takes, Taking.nothing, Taking.places, Taking.recounts, Taking.IsTaking, Taking.number_is, Taking.after_asking_for_object_taking, Taking.after_asking_for_port_taking, Taking.ready_to_open_taking, Posts.Other, Posts.post_in, Posts.post_of_object, Posts.post_at, Posts.is_a_port, Posts.is_mail, Posts.port_there, Posts.message_there, Loaded.base_is_loaded, Commands.Touches, Commands.remains, Commands.IsAltered, Commands.none_some, Commands.passed_first, Commands.passed_other, Commands.is_loose_there}
+use Rattle.execmodel.proofs.{Heaps.rid, Heaps.true_is_not_false, Heaps.both_true, Taking.IsNew, Taking.Takes, Taking.nothing, Taking.places, Taking.recounts, Taking.IsTaking, Taking.number_is, Taking.after_asking_for_object_taking, Taking.after_asking_for_port_taking, Taking.ready_to_open_taking, Posts.Other, Posts.post_in, Posts.post_of_object, Posts.post_at, Posts.is_a_port, Posts.is_mail, Posts.port_there, Posts.message_there, Loaded.base_is_loaded, Commands.Touches, Commands.remains, Commands.IsAltered, Commands.none_some, Commands.passed_first, Commands.passed_other, Commands.is_loose_there}
 use Rattle.script.specs.declared.alert.Alert.TheVariants as an_alert
 use Rattle.script.specs.declared.alert.Alert.{Alert}
 
@@ -403,10 +403,6 @@ opened_makes found value t call s word =
     taking_makes t call s _ (ready_to_open_taking found s _ (subst (λ b. IsTaking b (on_memory (ready_to_open found) s)
     (answered t call value (on_memory (library_opened found) (on_memory (ready_to_open found) s)))) (sym word)
     (opened_taking found value t call (on_memory (ready_to_open found) s))))
-
-pub both_true : {A : Type 0} (b c : Bool) → (b && c) ≡ true → (b ≡ true → c ≡ true → A) → A
-both_true true c e f = f refl e
-both_true false c e f = true_is_not_false (sym e)
 
 pub closed_makes : (test : Bool) (base t : ℕ) (call : Call) (s : State) → call.word ≡ group.Libraries libraries.CloseLibrary → argument 0 call ≡ base
     → is_library_at base s.memory.heap ≡ true

@@ -455,9 +455,9 @@ module _ (n : ℕ) (task : TaskData) where
 
   -- ---- tasks
 
-  both_true : (a b c d : Bool) → (a ≡ true → c ≡ true) → d ≡ b → (a && b) ≡ true → (c && d) ≡ true
-  both_true true b c d first second is = ap (λ e. e && d) (first refl) ∙ second ∙ is
-  both_true false b c d first second is = true_is_not_false (sym is)
+  both_still : (a b c d : Bool) → (a ≡ true → c ≡ true) → d ≡ b → (a && b) ≡ true → (c && d) ≡ true
+  both_still true b c d first second is = ap (λ e. e && d) (first refl) ∙ second ∙ is
+  both_still false b c d first second is = true_is_not_false (sym is)
 
   first_of_both : (a b : Bool) → (a && b) ≡ true → (a ≡ true) × (b ≡ true)
   first_of_both true b is = (refl, is)
@@ -466,7 +466,7 @@ module _ (n : ℕ) (task : TaskData) where
   live_still : (number : ℕ) (s : State) → is_live_task number s.scripts s.schedule ≡ true
       → is_live_task number (more s.scripts) (joined_by task.pri task.name s.schedule) ≡ true
   live_still number s is =
-      both_true (is_task number s.scripts) (is_live (status_of s.schedule (number - 1))) (is_task number (more s.scripts)) _
+      both_still (is_task number s.scripts) (is_live (status_of s.schedule (number - 1))) (is_task number (more s.scripts)) _
       (task_still number s.scripts) (ap is_live (status_same n task.pri task.name (number - 1) s.schedule)) is
 
   live_other : (number : ℕ) (s : State) → Sized s → is_live_task number s.scripts s.schedule ≡ true → number - 1 ≢ n

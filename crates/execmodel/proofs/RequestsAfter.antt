@@ -12,7 +12,7 @@ use Rattle.execmodel.specs.State.{Call, Object, Request, Block, Heap, Due, AtClo
 use Rattle.execmodel.specs.Requests.{is_request, is_request_at, request_size, request_of, request_of_object, with_request, is_command, resting_alert, delete_request_alert, set_io_alert, can_begin, begin_alert, send_alert, do_alert, state_alert, answering_port, where_port, acting_at, appended_at, finished_at, with_reply, ended, heap_begun, timer_begun, outcome_at, begun_at, answering_begun, replying_port, reply_taken, looks_for, begins_and_looks, aborts}
 use Rattle.execmodel.specs.{Calls.done, Calls.answered, Calls.waiting, Objects.object_at, Objects.is_kind, Objects.place_for_object, LowMemory.after_asking_for_object, Memory.extents, Memory.block_at, Memory.placed, Memory.makes_object, Ports.is_port_at, Ports.is_queued, Ports.has_message, Ports.messages_in, Ports.messages_of, Ports.messages_of_object, Ports.performed, Ports.port_alert, Ports.wait_alert, Agreement.once_if, Laws.times_waiting}
 use Rattle.execmodel.proofs.Asking.{Asks, writes, IsLoose, IsRewritten, ports_written, request_written, written_again, waits_last, finished_rests, answering, reply_marks, reply_asks, ended_asks, without_reply}
-use Rattle.execmodel.proofs.{Heaps.true_is_not_false, LowMemory.asking_for_object_keeps, Queues.IsAway, Posts.Post, Posts.APort, Posts.post_at, Posts.messages_at, Posts.is_a_port, Posts.may_stand, Posts.IsTidy, Posts.messages_are, Posts.request_is, Posts.port_is, Posts.request_there, Fifo.is_away, Commands.none_some, Commands.passed_first, Commands.passed_other, Commands.is_port_there, Commands.performed_memory, BlocksAfter.Makes, BlocksAfter.MayGo, BlocksAfter.IsUnneeded, BlocksAfter.stays, BlocksAfter.both_true, BlocksAfter.mail_unneeded, BlocksAfter.object_makes}
+use Rattle.execmodel.proofs.{Heaps.true_is_not_false, LowMemory.asking_for_object_keeps, Queues.IsAway, Posts.Post, Posts.APort, Posts.post_at, Posts.messages_at, Posts.is_a_port, Posts.may_stand, Posts.IsTidy, Posts.messages_are, Posts.request_is, Posts.port_is, Posts.request_there, Fifo.is_away, Commands.none_some, Commands.passed_first, Commands.passed_other, Commands.is_port_there, Commands.performed_memory, BlocksAfter.Makes, BlocksAfter.MayGo, BlocksAfter.IsUnneeded, BlocksAfter.stays, Heaps.both_true, BlocksAfter.mail_unneeded, BlocksAfter.object_makes}
 use Rattle.script.specs.declared.alert.Alert.{Alert}
 
 pub data Works (t : ℕ) (call : Call) (s : State) (o : Outcome) : Type 0 where

@@ -11,7 +11,7 @@ use Rattle.script.specs.declared.event.Event.{Event}
 use Rattle.execmodel.specs.{State.State, State.Outcome, State.quiet, State.on_schedule, State.on_memory, State.on_timer, State.on_pending, State.andthen, State.unless_stopped, State.booted, Pending.with_latch_of, Pending.allows_interrupts, Interrupts.interrupts, Step.announced, Step.switches, Step.settle, Step.acts, Step.step, Step.steps, Step.request, Step.tick, Step.ticks, Step.starts, Step.all_added, Step.event, Step.events, Step.run, Laws.IsSettled, Laws.EachStateIsSettled}
 use Rattle.timerdev.specs.Timing.{clock_ticked}
 use Rattle.softint.specs.{declared.source.Source.Source, declared.source.Source.TheVariants.Vertb, Sources.is_latched}
-use Rattle.execmodel.proofs.{Heaps.true_is_not_false, NoStraysLaw.switches_quiet, Servings.interrupts_blocked}
+use Rattle.execmodel.proofs.{Heaps.true_is_not_false, Heaps.both_true, NoStraysLaw.switches_quiet, Servings.interrupts_blocked}
 
 announced_state : (c : Option Switch) (s : State) → (announced c s).state ≡ s
 announced_state None s = refl
@@ -89,10 +89,6 @@ chosen_greatest key xs t e = (subst (λ o. MatchOption o (xs ≡ []) (IsEarliest
 one_below : (key : ℕ → ℤ) (bound : ℤ) (r : ℕ) → key r ≤ℤ bound → NoneAbove key bound (r ∷ [])
 one_below key bound r h zero d l = h
 one_below key bound r h (suc k) d l = absurd (omega (arith, l))
-
-both_true : {A : Type 0} (b c : Bool) → (b && c) ≡ true → (b ≡ true → c ≡ true → A) → A
-both_true true c e f = f refl e
-both_true false c e f = true_is_not_false (sym e)
 
 -- who takes over is not below
 taken_over : (p q : ℤ) (over : Bool) → (int_lt p q || (int_le p q && over)) ≡ true → p ≤ℤ q
