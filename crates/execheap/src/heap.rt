@@ -1,6 +1,6 @@
-//! The memory of a machine and the objects that live in it, by address. Its value is the memory of the abstract machine,
-//! with the public ports in the order in which they are kept. Here is what every kind needs and plain blocks; the calls on objects are
-//! in `objects`, in the file of their kind.
+//! The memory of a machine and the objects that live in it, by address. Its value is the memory of the abstract
+//! machine, with the public ports in the order in which they are kept. Here is what every kind needs and plain blocks;
+//! the calls on objects are in `objects`, in the file of their kind.
 ghost use Rattle.std.specs.Prelude.{◌≡◌, ◌≤◌, ◌↔◌, [], true, false, length, map, IfOk};
 ghost use Rattle.execlib.specs.Libraries.{description_of};
 ghost use Rattle.memlist.specs.Fit.{avail};
@@ -17,10 +17,11 @@ use script::LibraryRecord;
 use std::alloc::{AllocError, Global};
 use std::marker::Model;
 
-/// The memory of a machine and the objects that live in it: lists and nodes, ports and messages, semaphores, the libraries that are
-/// loaded, and requests with the timer that finishes them, over list spaces of the type S.
+/// The memory of a machine and the objects that live in it: lists and nodes, ports and messages, semaphores, the
+/// libraries that are loaded, and requests with the timer that finishes them, over list spaces of the type S.
 ///
-/// An object is named by the address of its block. No method takes memory of the host: `new` makes room for all that can ever live.
+/// An object is named by the address of its block. No method takes memory of the host: `new` makes room for all that
+/// can ever live.
 #[derive(Drop)]
 pub struct Heap<S: ListSpace> {
     pub(crate) objects: Objects<S>,
@@ -59,8 +60,9 @@ impl<S: ListSpace> Heap<S> {
         Ok(Heap { objects })
     }
 
-    /// Makes the memory as `new` makes it of these, if it has the same regions, libraries and numbers of objects and tasks, and answers whether it has;
-    /// otherwise nothing changes. It takes no memory of the host, and the time grows with what was used, not with `pool`.
+    /// Makes the memory as `new` makes it of these, if it has the same regions, libraries and numbers of objects and
+    /// tasks, and answers whether it has; otherwise nothing changes. It takes no memory of the host, and the time grows
+    /// with what was used, not with `pool`.
     ///
     /// Source: project rule.
     pub fn reset(
@@ -97,8 +99,8 @@ impl<S: ListSpace> Heap<S> {
         self.objects.allocate(size, reqs)
     }
 
-    /// Frees the plain block that begins at an address, if the size names it, and answers whether it does; otherwise nothing changes
-    /// (autodoc exec.library/FreeMem).
+    /// Frees the plain block that begins at an address, if the size names it, and answers whether it does; otherwise
+    /// nothing changes (autodoc exec.library/FreeMem).
     pub fn free_mem(&mut self, address: u32, size: u32) -> bool
         ensures answer { result ≡ is_named size (block_at address self.old.heap) }
         ensures freed { result ≡ true → self.new ≡ freed address self.old }
@@ -108,7 +110,8 @@ impl<S: ListSpace> Heap<S> {
         self.objects.free(address, size)
     }
 
-    /// The bytes that are free in the suitable regions, their greatest gap or their installed size (autodoc exec.library/AvailMem).
+    /// The bytes that are free in the suitable regions, their greatest gap or their installed size (autodoc
+    /// exec.library/AvailMem).
     pub fn avail(&self, reqs: u32) -> u32
         requires { can_be_asked reqs ≡ true }
         ensures { result ≡ avail self.now.regions (extents self.now.heap) reqs }

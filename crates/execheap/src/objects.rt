@@ -1,4 +1,5 @@
-//! Objects by number, and the blocks in which they live. What a call by address means is in the file of its kind, below this one.
+//! Objects by number, and the blocks in which they live. What a call by address means is in the file of its kind, below
+//! this one.
 ghost use Rattle.std.specs.Prelude.{◌≡◌, ◌≤◌, not, ◌&&◌, true, false, Some, length, map, IfOk, IfSome, IsSome, IsTrue};
 ghost use Rattle.execlib.specs.Libraries.{description_of};
 ghost use Rattle.memlist.specs.{Fit.asks, Fit.avail, Memory.can_free, Memory.without_block};
@@ -29,9 +30,10 @@ use std::alloc::{AllocError, Global};
 use std::marker::Model;
 use timerdev::timer::Timer;
 
-/// The blocks of a memory, and the objects that live in them by number. The table says where each object is; the list space, the ports,
-/// the semaphores and the requests keep what they hold, and give the numbers that the table gives; the timer knows which requests wait.
-/// Each request is a message of the ports too, from the beginning on: their numbers are after those of the messages.
+/// The blocks of a memory, and the objects that live in them by number. The table says where each object is; the list
+/// space, the ports, the semaphores and the requests keep what they hold, and give the numbers that the table gives;
+/// the timer knows which requests wait. Each request is a message of the ports too, from the beginning on: their
+/// numbers are after those of the messages.
 #[derive(Drop)]
 pub struct Objects<S: ListSpace> {
     table: Table<S>,
@@ -154,8 +156,8 @@ impl<S: ListSpace> Objects<S> {
 
     // ---- numbers and addresses
 
-    /// The number of the object of a kind that begins at an address, if one does. A call on objects begins here, and learns here what
-    /// always holds of them.
+    /// The number of the object of a kind that begins at an address, if one does. A call on objects begins here, and
+    /// learns here what always holds of them.
     pub fn number_at(&self, kind: Kind, address: u32) -> Option<usize>
         ensures value { result ≡ number_at kind address self.now.table }
         ensures live { IfSome result (λ n. slot (places kind self.now) n ≡ Some address) }

@@ -1,5 +1,5 @@
-//! Which blocks are objects of which kind, and where each object is; and the libraries, which are loaded into blocks. Here is nothing of
-//! what objects hold.
+//! Which blocks are objects of which kind, and where each object is; and the libraries, which are loaded into blocks.
+//! Here is nothing of what objects hold.
 ghost use Rattle.std.specs.Prelude.{◌≡◌, ◌≤◌, ◌↔◌, not, ◌&&◌, true, false, length, map, slice_get, IfOk, IfSome, IsSome, IsTrue, None, Some};
 ghost use Rattle.memlist.specs.{Fit.asks, Fit.avail, Fit.fit, Memory.IsWellFormed, Memory.allocated, Memory.can_free, Memory.untouched, Memory.without_block, Readers.gap_from, Readers.gaps_in};
 ghost use Rattle.execlist.specs.Pool.{IsStocked, all_free, slot};
@@ -307,7 +307,8 @@ impl<S: ListSpace> Table<S> {
     }
 }
 
-/// The memory of these regions, which `check_regions` accepts, so that out of memory is all that can be in the way of it.
+/// The memory of these regions, which `check_regions` accepts, so that out of memory is all that can be in the way of
+/// it.
 fn memory_of(alloc: Global, regions: &[Region]) -> Result<MemList, AllocError>
     ensures { IfOk result (λ memory. memory ≡ untouched regions.now) }
 {

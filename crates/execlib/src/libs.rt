@@ -25,8 +25,8 @@ const FIRST_TAG: u32 = 0x8000_0000;
 
 /// Libraries, and which of them are loaded.
 ///
-/// All room is made by `new`; no other call takes memory of the host. The memory in which libraries are loaded is lent to each call.
-/// RKM Libraries, Exec Libraries.
+/// All room is made by `new`; no other call takes memory of the host. The memory in which libraries are loaded is lent
+/// to each call. RKM Libraries, Exec Libraries.
 #[derive(Drop)]
 pub struct Libs<S: ListSpace> {
     known: Vec<LibInit>,
@@ -79,12 +79,14 @@ impl<S: ListSpace> Libs<S> {
 
     // ---- taking memory
 
-    /// Takes a block of a size in bytes with those requirements and that tag, as `MemList::alloc_mem` does, and answers its address.
+    /// Takes a block of a size in bytes with those requirements and that tag, as `MemList::alloc_mem` does, and answers
+    /// its address.
     ///
-    /// If the libraries are asked, the size is not 0 and no gap is large enough, the loaded ones are asked in the order of
-    /// their numbers: one that is not open is expunged, an open one is to be expunged when it is closed for the last time (LIBF_DELEXP).
-    /// After each of them the gaps are looked at again, and the first that is large enough ends the asking. None is answered if none
-    /// is large enough then; what was expunged or marked stays so. The loaded libraries have to lie in the memory.
+    /// If the libraries are asked, the size is not 0 and no gap is large enough, the loaded ones are asked in the order
+    /// of their numbers: one that is not open is expunged, an open one is to be expunged when it is closed for the last
+    /// time (LIBF_DELEXP). After each of them the gaps are looked at again, and the first that is large enough ends the
+    /// asking. None is answered if none is large enough then; what was expunged or marked stays so. The loaded
+    /// libraries have to lie in the memory.
     ///
     /// Autodocs exec.library/AllocMem, exec.library/RemLibrary; the order of asking: project rule.
     pub fn alloc_mem(&mut self, size: u32, reqs: u32, tag: u32, memory: &mut MemList) -> Option<u32>
@@ -120,8 +122,8 @@ impl<S: ListSpace> Libs<S> {
         Some(base)
     }
 
-    /// Closes a loaded library once. If it is to be expunged and is now open no more, it is: its block is freed, and it is not loaded
-    /// any more. One that is not to be expunged stays loaded.
+    /// Closes a loaded library once. If it is to be expunged and is now open no more, it is: its block is freed, and it
+    /// is not loaded any more. One that is not to be expunged stays loaded.
     ///
     /// It is NotOpen if the library is open no more (project rule). The block of the library has to be in the memory.
     /// Autodoc exec.library/CloseLibrary.
@@ -151,8 +153,8 @@ impl<S: ListSpace> Libs<S> {
         Ok(())
     }
 
-    /// Removes a loaded library: if it is not open it is expunged, and else it is to be expunged when it is closed for the last time
-    /// (LIBF_DELEXP). The block of the library has to be in the memory. Autodoc exec.library/RemLibrary.
+    /// Removes a loaded library: if it is not open it is expunged, and else it is to be expunged when it is closed for
+    /// the last time (LIBF_DELEXP). The block of the library has to be in the memory. Autodoc exec.library/RemLibrary.
     pub fn remove(&mut self, i: LibId, memory: &mut MemList)
         requires loaded { IsTrue (is_loaded i self.old) }
         requires block { IsSome (block_at (base_of i self.old) memory.old.blocks) }
@@ -201,15 +203,16 @@ impl<S: ListSpace> Libs<S> {
         self.loaded_library(i).base
     }
 
-    /// Answers whether there is a library of that number and it is loaded: whether the calls that ask for one may be made. Project rule.
+    /// Answers whether there is a library of that number and it is loaded: whether the calls that ask for one may be
+    /// made. Project rule.
     pub fn is_loaded(&self, i: LibId) -> bool
         ensures { result ≡ is_loaded i self.now }
     {
         self.loaded_at(i).is_some()
     }
 
-    /// Answers, of a loaded library, how often it is open, and whether it is to be expunged when it is closed for the last time; none
-    /// if it is not loaded. RKM Libraries, Exec Libraries: `lib_OpenCnt`, `lib_Flags`.
+    /// Answers, of a loaded library, how often it is open, and whether it is to be expunged when it is closed for the
+    /// last time; none if it is not loaded. RKM Libraries, Exec Libraries: `lib_OpenCnt`, `lib_Flags`.
     pub fn loaded_at(&self, i: LibId) -> Option<Loaded>
         ensures { result ≡ loaded_at i self.now }
     {

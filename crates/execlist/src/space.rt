@@ -38,7 +38,8 @@ pub trait ListSpace: Drop {
         ensures unlinked { IfOk result (λ s. homes s ≡ replicate nodes None) }
         ensures blank { IfOk result (λ s. keys s ≡ replicate nodes blank) };
 
-    /// Makes the space as `new` made it: each header is empty, and each node is in none, of priority 0 and with no name.
+    /// Makes the space as `new` made it: each header is empty, and each node is in none, of priority 0 and with no
+    /// name.
     ///
     /// Source: project rule.
     fn reset(&mut self)

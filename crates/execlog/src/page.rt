@@ -14,14 +14,15 @@ use std::marker::Model;
 /// How many cells a short row is written in, of which the last ones may be left over.
 const ROW: usize = 128;
 
-/// How many bytes are put at once: more than a buffer before a file keeps, so that they are not copied once more, and whole blocks of a file, which takes
-/// those with less work.
+/// How many bytes are put at once: more than a buffer before a file keeps, so that they are not copied once more, and
+/// whole blocks of a file, which takes those with less work.
 const MOST_KEPT: usize = 524_288;
 
 /// How many bytes a file has mostly taken before: those of a line that names the columns.
 const HEADING: usize = 74;
 
-/// Bytes that are kept in the first ones of cells, of which the others are spare: a row is written there with no test of its own for room.
+/// Bytes that are kept in the first ones of cells, of which the others are spare: a row is written there with no test
+/// of its own for room.
 #[derive(Drop)]
 pub struct Page {
     cells: Vec<u8>,

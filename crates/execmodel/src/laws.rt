@@ -7,8 +7,8 @@ ghost use Rattle.execmodel.specs.OtherBlocks.{ListWordsLeaveOtherBlocks, Library
 ghost use Rattle.execmodel.specs.VersionOne.{UnaskedWordsTakeMemoryAsItIs, VersionOneTakesMemoryAsItIs, UnaskedLibrariesStay};
 ghost use Rattle.execmodel.specs.{State.State, State.Outcome, State.quiet, State.andthen, State.unless_stopped, Step.event, Step.events};
 
-/// After an alert no event does anything: the state stays as it is, no line is printed and no mark is left. If an alert comes between
-/// two parts of an action, as in the midst of a body or of a settle, the second part does nothing.
+/// After an alert no event does anything: the state stays as it is, no line is printed and no mark is left. If an alert
+/// comes between two parts of an action, as in the midst of a body or of a settle, the second part does nothing.
 #[tactic(auto, using(crate::proofs::Stopped::event_stopped, crate::proofs::Stopped::events_stopped, crate::proofs::Stopped::stopped_between))]
 pub fn an_alert_ends_all()
     ensures event { (e : Event) (s : State) → s.stopped ≡ true → event e s ≡ quiet s }
@@ -54,9 +54,10 @@ pub fn each_group_keeps_to_its_part()
     ensures blocks_of_requests { RequestWordsLeaveOtherBlocks }
 {}
 
-/// Messages leave a port in the order in which they came: over every stretch of every run, the messages that the port had at first and
-/// those that were put there, less each that was then taken out, are those that GetMsg answered, in order, followed by those that the
-/// port has at last. The reply of a request is such a message: it is put when the request finishes, and WaitIO and DoIO take it out.
+/// Messages leave a port in the order in which they came: over every stretch of every run, the messages that the port
+/// had at first and those that were put there, less each that was then taken out, are those that GetMsg answered, in
+/// order, followed by those that the port has at last. The reply of a request is such a message: it is put when the
+/// request finishes, and WaitIO and DoIO take it out.
 ///
 /// Source: RKM Libraries, Exec Messages and Ports; RKM Devices, Introduction to Amiga System Devices.
 #[tactic(auto, using(crate::proofs::FifoLaw::first_in_first_out))]
@@ -64,8 +65,8 @@ pub fn fifo()
     ensures { FirstInFirstOut }
 {}
 
-/// Each byte has one owner: in every state of every run each unit of 8 bytes of a region lies in exactly one block or gap, and their sizes
-/// add up to the region's. An object begins at a block of its own, which FreeMem refuses.
+/// Each byte has one owner: in every state of every run each unit of 8 bytes of a region lies in exactly one block or
+/// gap, and their sizes add up to the region's. An object begins at a block of its own, which FreeMem refuses.
 ///
 /// Source: RKM Libraries, Exec Memory Allocation.
 #[tactic(auto, using(crate::proofs::OneOwner::each_byte_has_one_owner, crate::proofs::OneOwner::free_mem_refuses_objects))]
@@ -74,10 +75,10 @@ pub fn one_owner()
     ensures refuses { FreeMemRefusesObjects }
 {}
 
-/// A semaphore excludes: its owner changes only from none, or at the release that brings its count to zero; nobody waits for one that no
-/// task owns; and tasks get it in the order in which they asked: over every stretch of every run, the tasks that waited for it at first and
-/// those that began to wait, less each that was then removed, are those that a release made the owner, in order, followed by those that wait
-/// at last.
+/// A semaphore excludes: its owner changes only from none, or at the release that brings its count to zero; nobody
+/// waits for one that no task owns; and tasks get it in the order in which they asked: over every stretch of every run,
+/// the tasks that waited for it at first and those that began to wait, less each that was then removed, are those that
+/// a release made the owner, in order, followed by those that wait at last.
 ///
 /// Source: RKM Libraries, Exec Semaphores.
 #[tactic(auto, using(crate::proofs::OwnersLaw::owners_change_at_the_last_release, crate::proofs::OwnersLaw::free_semaphores_have_no_waiters, crate::proofs::WaitingLaw::semaphores_pass_in_order))]
@@ -87,8 +88,9 @@ pub fn exclusion()
     ensures order { SemaphoresPassInOrder }
 {}
 
-/// The queues agree with the schedule: in every state of every run exactly the running task has the state Running, exactly the ready tasks are
-/// in the ready sequence, each once, and exactly those that wait for a semaphore are in the queue of one, each once and in no other.
+/// The queues agree with the schedule: in every state of every run exactly the running task has the state Running,
+/// exactly the ready tasks are in the ready sequence, each once, and exactly those that wait for a semaphore are in the
+/// queue of one, each once and in no other.
 ///
 /// Source: RKM Libraries, Exec Tasks: task states.
 pub fn agreement()
@@ -109,16 +111,17 @@ pub fn priority()
     ensures only { OnlySwitchesSaySo }
 {}
 
-/// Each line of a switch to a task in the text of a run is said by the switch of the run's start, or of a step, a tick or a request in a state
-/// that the run comes to. Of each such switch `priority` says that it goes to the chosen task.
+/// Each line of a switch to a task in the text of a run is said by the switch of the run's start, or of a step, a tick
+/// or a request in a state that the run comes to. Of each such switch `priority` says that it goes to the chosen task.
 ///
 /// RKM Libraries, Exec Tasks: task scheduling.
 pub fn switch_lines()
     ensures { EachSwitchLineIsAChoice }
 {}
 
-/// No signal is lost: in every state of every run a task that waits for signals has received none of them; and a signal that a task has
-/// received stays received, unless in this step it makes a call by which a task takes, sets or clears signals of its own.
+/// No signal is lost: in every state of every run a task that waits for signals has received none of them; and a signal
+/// that a task has received stays received, unless in this step it makes a call by which a task takes, sets or clears
+/// signals of its own.
 ///
 /// Source: RKM Libraries, Exec Signals.
 #[tactic(auto, using(crate::proofs::Received::waiters_have_received_none, crate::proofs::Received::received_signals_stay))]
@@ -127,8 +130,8 @@ pub fn no_lost_signal()
     ensures stay { ReceivedSignalsStay }
 {}
 
-/// Interrupts leave the tasks' nestings as they are: neither the body of a software interrupt nor that of a server changes how a task has
-/// nested Forbid and Disable. One settle serves three times at most.
+/// Interrupts leave the tasks' nestings as they are: neither the body of a software interrupt nor that of a server
+/// changes how a task has nested Forbid and Disable. One settle serves three times at most.
 ///
 /// Source: RKM Libraries, Exec Interrupts.
 #[tactic(auto, using(crate::proofs::Servings::interrupts_keep_nestings, crate::proofs::Servings::three_servings_at_most))]
@@ -137,9 +140,9 @@ pub fn interrupts()
     ensures servings { ThreeServingsAtMost }
 {}
 
-/// An open library stays: whatever a step, a tick or a request does, a library that is open keeps its base, its number and the block that
-/// it lies in, of the same size, unless the running task in this step closes it for the last time and it was to be expunged then. So no
-/// interrupt and no other call takes away an open library.
+/// An open library stays: whatever a step, a tick or a request does, a library that is open keeps its base, its number
+/// and the block that it lies in, of the same size, unless the running task in this step closes it for the last time
+/// and it was to be expunged then. So no interrupt and no other call takes away an open library.
 ///
 /// Source: RKM Libraries, Exec Libraries.
 #[tactic(auto, using(crate::proofs::Libraries::open_libraries_stay))]
@@ -186,8 +189,9 @@ pub fn libraries_give_way()
     ensures closed { OnlyClosedLibrariesGiveWay }
 {}
 
-/// The reply port of a request that is in progress lives, in every state of every run: so whatever finishes the request, a tick, a setting of
-/// system time or AbortIO, finds the port where the reply is to be put. No port at which a request in progress is to be replied is deleted.
+/// The reply port of a request that is in progress lives, in every state of every run: so whatever finishes the
+/// request, a tick, a setting of system time or AbortIO, finds the port where the reply is to be put. No port at which
+/// a request in progress is to be replied is deleted.
 ///
 /// Source: RKM Devices, Introduction to Amiga System Devices; that the port may not be deleted: project rule.
 #[tactic(auto, using(crate::proofs::RequestsLaw::reply_ports_live))]
@@ -195,8 +199,8 @@ pub fn reply_ports_live()
     ensures { ReplyPortsLive }
 {}
 
-/// Exactly the requests that are in progress wait for the timer, each once, in every state of every run: none is forgotten, and none finishes
-/// twice.
+/// Exactly the requests that are in progress wait for the timer, each once, in every state of every run: none is
+/// forgotten, and none finishes twice.
 ///
 /// Source: RKM Devices, Timer Device.
 #[tactic(auto, using(crate::proofs::RequestsLaw::requests_under_way_wait))]
@@ -204,8 +208,8 @@ pub fn requests_under_way_wait()
     ensures { RequestsUnderWayWait }
 {}
 
-/// The clock is the number of ticks times what it gains at each, in every state of every run, also under Disable: nothing else moves it. After an
-/// alert it is still.
+/// The clock is the number of ticks times what it gains at each, in every state of every run, also under Disable:
+/// nothing else moves it. After an alert it is still.
 ///
 /// Source: RKM Devices, Timer Device; that the clock begins at 0 and counts under Disable too: project rule.
 #[tactic(auto, using(crate::proofs::ClockLaw::the_clock_counts_ticks))]
@@ -213,25 +217,27 @@ pub fn the_clock_counts_ticks()
     ensures { TheClockCountsTicks }
 {}
 
-/// System time goes with the clock: what it is ahead of it, or after it, stays in each step, tick and request of every run, unless the
-/// running task in this step begins a request of the command TR_SETSYSTIME, by SendIO or DoIO; then system time is the time of that request.
+/// System time goes with the clock: what it is ahead of it, or after it, stays in each step, tick and request of every
+/// run, unless the running task in this step begins a request of the command TR_SETSYSTIME, by SendIO or DoIO; then
+/// system time is the time of that request.
 ///
-/// Source: RKM Devices, Timer Device; autodoc timer.device/TR_SETSYSTIME; that system time begins with the clock: project rule.
+/// Source: RKM Devices, Timer Device; autodoc timer.device/TR_SETSYSTIME; that system time begins with the clock:
+/// project rule.
 #[tactic(auto, using(crate::proofs::SystemLaw::system_time_goes_with_the_clock))]
 pub fn system_time_goes_with_the_clock()
     ensures { SystemTimeGoesWithTheClock }
 {}
 
-/// No line is long: each line of every run has at most 160 bytes, its line feed included. A name has at most 31 bytes, and a call has at
-/// most four arguments, of which at most one is a name.
+/// No line is long: each line of every run has at most 160 bytes, its line feed included. A name has at most 31 bytes,
+/// and a call has at most four arguments, of which at most one is a name.
 #[tactic(auto, using(crate::proofs::LinesLaw::lines_are_short))]
 pub fn lines_are_short()
     ensures { LinesAreShort }
 {}
 
-/// A call has the arguments of its word, one of each kind: in every state of every run so have the call that a task is to make, one that it
-/// waits in too, and each call of the body of a software interrupt or of a server. If the word asks for a value a value is, and
-/// if it asks for a name a name.
+/// A call has the arguments of its word, one of each kind: in every state of every run so have the call that a task is
+/// to make, one that it waits in too, and each call of the body of a software interrupt or of a server. If the word
+/// asks for a value a value is, and if it asks for a name a name.
 #[tactic(auto, using(crate::proofs::LinesLaw::calls_fit_their_words))]
 pub fn calls_fit_their_words()
     ensures { CallsFitTheirWords }

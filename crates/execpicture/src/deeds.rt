@@ -191,8 +191,8 @@ pub(crate) fn waits(state: TaskState) -> bool {
     matches!(state, TaskState::Waiting(_))
 }
 
-/// Whether a deed wakes whom it reaches, a task that was as in `before`; none if it reaches no one: the task that does it, or one that was not
-/// added or has ended.
+/// Whether a deed wakes whom it reaches, a task that was as in `before`; none if it reaches no one: the task that does
+/// it, or one that was not added or has ended.
 fn wakes(machine: &Shown, deed: &Arrow, before: &[TaskState]) -> Option<bool> {
     let Aim::Task(t) = deed.aim else {
         return Some(true);

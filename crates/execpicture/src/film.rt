@@ -44,7 +44,8 @@ pub(crate) struct Point {
     pub number: u64,
     /// What has been done last.
     pub kind: PointKind,
-    /// The place in the event text of what has been done last: the number of the event, from 0; the start has that of the first.
+    /// The place in the event text of what has been done last: the number of the event, from 0; the start has that of
+    /// the first.
     pub event: usize,
     /// What the clock shows, in microseconds.
     pub clock: u64,
@@ -252,7 +253,8 @@ fn turn_all<V: Watch>(
     Ok(())
 }
 
-/// Starts a machine, does events one step and one tick at a time, and shows the machine to a watcher after each. Answers how it ended.
+/// Starts a machine, does events one step and one tick at a time, and shows the machine to a watcher after each.
+/// Answers how it ended.
 fn film_on<V: Watch>(
     alloc: Global,
     machine: &mut Shown,
@@ -278,8 +280,8 @@ fn film_on<V: Watch>(
     })
 }
 
-/// Boots the machine of a file, and shows it to a watcher after its start and after each step, tick and request of the events, up to number
-/// `to` or to an alert. Answers how it ended.
+/// Boots the machine of a file, and shows it to a watcher after its start and after each step, tick and request of the
+/// events, up to number `to` or to an alert. Answers how it ended.
 ///
 /// # Errors
 ///

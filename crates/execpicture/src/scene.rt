@@ -1,6 +1,7 @@
 //! What a picture shows of a run, point by point: the columns, and the tracks of tasks, interrupts and objects.
 //!
-//! Column 0 is the point at which the picture begins; what is shown after column k is what the machine shows at that point.
+//! Column 0 is the point at which the picture begins; what is shown after column k is what the machine shows at that
+//! point.
 use crate::deeds::{Arrow, read_deeds, read_states};
 use crate::fault::PictureFault;
 use crate::film::{Point, Shown, Watch};

@@ -1,5 +1,5 @@
-//! The calls that a body makes, how they end, and a whole body. A body has the shared variables alone, prints under its own name, and runs to
-//! its end at once, or to an alert.
+//! The calls that a body makes, how they end, and a whole body. A body has the shared variables alone, prints under its
+//! own name, and runs to its end at once, or to an alert.
 ghost use Rattle.std.specs.Prelude.{◌≡◌, ◌≤◌, ℕ, List, [], ◌∷◌, IfSome, None, Some, true, map, slice_get, take};
 ghost use Rattle.execlist.specs.Disciplines.{by_priority};
 ghost use Rattle.exectrace.specs.{Short.short_argument, Shown.shown_outcome, Trace.Quoted, Trace.Value};
@@ -113,7 +113,8 @@ impl<S: ListSpace> Kernel<S> {
         }
     }
 
-    /// Puts the values of the first `count` arguments of a command of a body if they are to be; what is past them is unused.
+    /// Puts the values of the first `count` arguments of a command of a body if they are to be; what is past them is
+    /// unused.
     #[inline(always)]
     fn evaluate_all_in_body(
         &self,
@@ -236,7 +237,8 @@ impl<S: ListSpace> Kernel<S> {
         self.store_in_body(call.target, value);
     }
 
-    /// A word that is no call of Exec answers, into its target if it has one, and prints nothing, in the body of any name.
+    /// A word that is no call of Exec answers, into its target if it has one, and prints nothing, in the body of any
+    /// name.
     #[inline(always)]
     pub(crate) fn end_silently_in_body(&mut self, target: Option<Variable>, value: u32)
         ensures { (name : List ℕ) (call : model.Call) → call.target ≡ target
@@ -347,7 +349,8 @@ impl<S: ListSpace> Kernel<S> {
         }
     }
 
-    /// Prints the line of a call that answers nothing, of the body of that name, from its command, whose word has this text: no call is made of it.
+    /// Prints the line of a call that answers nothing, of the body of that name, from its command, whose word has this
+    /// text: no call is made of it.
     #[cold]
     #[inline(never)]
     fn line_in_body<W: Witness>(&self, word: Word, command: &Command, name: &Name, out: &mut W)
@@ -367,7 +370,8 @@ impl<S: ListSpace> Kernel<S> {
         });
     }
 
-    /// Prints the line of a call that mostly has one argument, as `line_in_body` does. One argument is put in no list of values.
+    /// Prints the line of a call that mostly has one argument, as `line_in_body` does. One argument is put in no list
+    /// of values.
     #[inline(always)]
     fn short_line_in_body<W: Witness>(
         &self,
@@ -420,7 +424,8 @@ impl<S: ListSpace> Kernel<S> {
         }
     }
 
-    /// The signalling of a command of the body of that name, if it is of the word Signal and is not refused. Then its line is printed.
+    /// The signalling of a command of the body of that name, if it is of the word Signal and is not refused. Then its
+    /// line is printed.
     #[inline(always)]
     fn signalling_in_body<W: Witness>(
         &self,
@@ -463,8 +468,8 @@ impl<S: ListSpace> Kernel<S> {
         }
     }
 
-    /// The number of the software interrupt that a command of the body of that name causes, if it is of the word Cause and its argument is a name.
-    /// Then its line is printed.
+    /// The number of the software interrupt that a command of the body of that name causes, if it is of the word Cause
+    /// and its argument is a name. Then its line is printed.
     #[inline(always)]
     fn causing_in_body<W: Witness>(
         &self,
@@ -524,8 +529,8 @@ impl<S: ListSpace> Kernel<S> {
         }
     }
 
-    /// The command at a place of a body is done, unless an alert has stopped the machine. A Signal is done at once if it is not refused, and
-    /// so is a Cause.
+    /// The command at a place of a body is done, unless an alert has stopped the machine. A Signal is done at once if
+    /// it is not refused, and so is a Cause.
     #[inline(always)]
     fn ask_at_place<W: Witness>(&mut self, body: Body, place: usize, name: &Name, out: &mut W)
         ensures { Follows W.hearing (does_at_place name.now.bytes (slice_get (code_of_body body self.old.bodies) place))
@@ -546,8 +551,8 @@ impl<S: ListSpace> Kernel<S> {
         }
     }
 
-    /// The command at a place of a body is done, unless an alert has stopped the machine. A plain word that prints nothing, and Print, are done at
-    /// once: no call is made of them, and none has room here.
+    /// The command at a place of a body is done, unless an alert has stopped the machine. A plain word that prints
+    /// nothing, and Print, are done at once: no call is made of them, and none has room here.
     #[inline(always)]
     fn do_place<W: Witness>(&mut self, body: Body, place: usize, name: &Name, out: &mut W)
         ensures { Follows W.hearing (does_at_place name.now.bytes (slice_get (code_of_body body self.old.bodies) place))

@@ -1,5 +1,5 @@
-//! The parts of a machine, made from its file, and the machine put together of them: of no more than four parts at once, since each part that
-//! can fail multiplies the proof.
+//! The parts of a machine, made from its file, and the machine put together of them: of no more than four parts at
+//! once, since each part that can fail multiplies the proof.
 ghost use Rattle.std.specs.Prelude.{◌≡◌, ◌≤◌, [], All, length, map, nat_eq, IfOk};
 ghost use Rattle.script.specs.{Commands.command_view, Machines.IsMachine, Records.library_view, Records.server_view, Records.softint_view, Records.task_view};
 ghost use Rattle.scheduler.specs.Schedule.{unstarted};

@@ -1,5 +1,5 @@
-//! How a call of a task ends: done, answered, waiting, or refused by an alert; and how one ends whoever makes it. Whatever else the call does
-//! has been done before.
+//! How a call of a task ends: done, answered, waiting, or refused by an alert; and how one ends whoever makes it.
+//! Whatever else the call does has been done before.
 ghost use Rattle.std.specs.Prelude.{◌≡◌, ◌∷◌, [], map};
 ghost use Rattle.exectrace.specs.Short.{short_argument};
 ghost use Rattle.exectrace.specs.Trace as trace;

@@ -57,8 +57,8 @@ impl<S: ListSpace> Kernel<S> {
         }
     }
 
-    /// Cause name: the software interrupt of that name is to run, after those of its priority; one that is caused already stays where it is
-    /// (autodoc exec.library/Cause).
+    /// Cause name: the software interrupt of that name is to run, after those of its priority; one that is caused
+    /// already stays where it is (autodoc exec.library/Cause).
     pub(crate) fn cause_named<W: Witness>(&mut self, caller: &Caller, call: &Call, out: &mut W)
         requires { HasCaller caller.now self.old }
         ensures { Follows W.hearing (does_cause_by (caller_view caller.now) (call_view call.now)) self.old self.new (W.told out.old) (W.told out.new) }

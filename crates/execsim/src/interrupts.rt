@@ -1,5 +1,5 @@
-//! Interrupts: how they are caused and requested, and how they run, software interrupts one a step, the servers of a source when it is
-//! served (RKM Libraries, Exec Interrupts).
+//! Interrupts: how they are caused and requested, and how they run, software interrupts one a step, the servers of a
+//! source when it is served (RKM Libraries, Exec Interrupts).
 ghost use Rattle.std.specs.Prelude.{◌≡◌, is_some, true, slice_get, ◌∷◌, []};
 ghost use Rattle.exectrace.specs.Trace.{Serve};
 ghost use Rattle.softint.specs.Sources.{highest, source_text};
@@ -20,8 +20,8 @@ const SOURCES: u32 = 3;
 impl<S: ListSpace> Kernel<S> {
     // ---- causing and requesting
 
-    /// A software interrupt is caused: it is to run after the caused ones of its priority, unless it is caused already. A number that none
-    /// has does nothing.
+    /// A software interrupt is caused: it is to run after the caused ones of its priority, unless it is caused already.
+    /// A number that none has does nothing.
     #[inline(always)]
     pub(crate) fn cause(&mut self, i: IntId)
         ensures { self.new ≡ caused i self.old }
@@ -113,7 +113,8 @@ impl<S: ListSpace> Kernel<S> {
 
     // ---- serving
 
-    /// The source that is served next: the latched one of highest level, if interrupts are allowed. Its latch is cleared.
+    /// The source that is served next: the latched one of highest level, if interrupts are allowed. Its latch is
+    /// cleared.
     fn take_request(&mut self) -> Option<Source>
         ensures answer { result ≡ source_seen self.old }
         ensures next { self.new ≡ record self.old { pending = without_request result self.old.pending } }
@@ -143,7 +144,8 @@ impl<S: ListSpace> Kernel<S> {
         out.hear(&Said::Serve(source));
     }
 
-    /// A source is served, whose latch is cleared: VERTB counts the quantum and finishes the requests that are due, and then the servers run.
+    /// A source is served, whose latch is cleared: VERTB counts the quantum and finishes the requests that are due, and
+    /// then the servers run.
     #[inline(never)]
     fn serve<W: Witness>(&mut self, source: Source, out: &mut W)
         ensures { Follows W.hearing (served source) self.old self.new (W.told out.old) (W.told out.new) }
@@ -161,7 +163,8 @@ impl<S: ListSpace> Kernel<S> {
         self.ints.any_raised()
     }
 
-    /// All sources that ask are served, if interrupts are allowed: there are three sources, and no serving sets a latch.
+    /// All sources that ask are served, if interrupts are allowed: there are three sources, and no serving sets a
+    /// latch.
     #[inline(never)]
     fn serve_all<W: Witness>(&mut self, out: &mut W)
         ensures { Follows W.hearing interrupts self.old self.new (W.told out.old) (W.told out.new) }
@@ -179,7 +182,8 @@ impl<S: ListSpace> Kernel<S> {
         }
     }
 
-    /// All sources that ask are served, if interrupts are allowed. Mostly none asks, and nothing else is looked at then.
+    /// All sources that ask are served, if interrupts are allowed. Mostly none asks, and nothing else is looked at
+    /// then.
     #[inline(always)]
     pub(crate) fn interrupt<W: Witness>(&mut self, out: &mut W)
         ensures { Follows W.hearing interrupts self.old self.new (W.told out.old) (W.told out.new) }

@@ -22,8 +22,8 @@ use taskq::{TaskId, TaskInit};
 /// How many variables all bodies share.
 const SHARED_VARIABLES: usize = 64;
 
-/// The tasks, what they execute, the memory with its objects, what interrupts execute, which of them are pending, and whether an alert has
-/// stopped the machine.
+/// The tasks, what they execute, the memory with its objects, what interrupts execute, which of them are pending, and
+/// whether an alert has stopped the machine.
 #[derive(Drop)]
 pub struct Kernel<S: ListSpace> {
     pub(crate) sched: Sched<S>,
@@ -162,7 +162,8 @@ impl<S: ListSpace> Kernel<S> {
         }
     }
 
-    /// Puts the values of that many arguments of a command for task t where they are to be; what is past them is unused.
+    /// Puts the values of that many arguments of a command for task t where they are to be; what is past them is
+    /// unused.
     #[inline(always)]
     pub(crate) fn evaluate_all(
         &self,

@@ -1,5 +1,5 @@
-//! The machine: it runs what a machine file states over a list of events, and prints the trace.
-//! `Machine` is what callers use, `simulate` the whole way from two texts to a trace. `Kernel` is the machine without its failure to
+//! The machine: it runs what a machine file states over a list of events, and prints the trace. `Machine` is what
+//! callers use, `simulate` the whole way from two texts to a trace. `Kernel` is the machine without its failure to
 //! write; each word group has a module of its own.
 #![tactic(auto)]
 

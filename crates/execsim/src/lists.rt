@@ -1,5 +1,5 @@
-//! Lists and nodes: how they are made and freed, linked, unlinked and scanned. An object is named by the address of its block.
-//! The calls of `Heap` have the effects; a word hands its arguments on, and ends as the answer says.
+//! Lists and nodes: how they are made and freed, linked, unlinked and scanned. An object is named by the address of its
+//! block. The calls of `Heap` have the effects; a word hands its arguments on, and ends as the answer says.
 ghost use Rattle.std.specs.Prelude.{◌≡◌, [], IfOk, IsTrue, option_map, unwrap_or};
 ghost use Rattle.std.specs.Int.{cast_signed, w32};
 ghost use Rattle.script.specs.declared.word.lists.ListWord.TheVariants as lists;
@@ -42,7 +42,8 @@ impl<S: ListSpace> Kernel<S> {
         self.memory.new_node(pri.cast_signed() as i8, name)
     }
 
-    /// NewList: answers the address of a new empty list, or 0 (autodoc amiga.lib/NewList; that it takes the memory: project rule).
+    /// NewList: answers the address of a new empty list, or 0 (autodoc amiga.lib/NewList; that it takes the memory:
+    /// project rule).
     #[tactic(auto, using(crate::proofs::Listing::list_made))]
     fn new_list<W: Witness>(&mut self, t: TaskId, call: &Call, out: &mut W)
         requires { HasTask t self.old }
@@ -62,8 +63,8 @@ impl<S: ListSpace> Kernel<S> {
         self.conclude(tried, t, call, out);
     }
 
-    /// NewNode pri name: answers the address of a new node, which is not linked, or 0. VALUE if the priority, read as a signed word, is
-    /// not in -128 to 127 (project rule).
+    /// NewNode pri name: answers the address of a new node, which is not linked, or 0. VALUE if the priority, read as a
+    /// signed word, is not in -128 to 127 (project rule).
     fn new_node<W: Witness>(&mut self, t: TaskId, call: &Call, out: &mut W)
         requires { HasTask t self.old }
         ensures { Follows W.hearing (does_lists lists.NewNode t (call_view call.now)) self.old self.new (W.told out.old) (W.told out.new) }
@@ -112,8 +113,8 @@ impl<S: ListSpace> Kernel<S> {
         self.conclude(tried, t, call, out);
     }
 
-    /// Enqueue list node: puts the node before the first one of lower priority, or last. The alerts are those of AddHead (autodoc
-    /// exec.library/Enqueue).
+    /// Enqueue list node: puts the node before the first one of lower priority, or last. The alerts are those of
+    /// AddHead (autodoc exec.library/Enqueue).
     fn enqueue<W: Witness>(&mut self, t: TaskId, call: &Call, out: &mut W)
         requires { HasTask t self.old }
         ensures { Follows W.hearing (does_lists lists.Enqueue t (call_view call.now)) self.old self.new (W.told out.old) (W.told out.new) }
@@ -124,8 +125,8 @@ impl<S: ListSpace> Kernel<S> {
         self.conclude(tried, t, call, out);
     }
 
-    /// Insert list node pred: puts the node after pred, or first if pred is 0. HANDLE if one of them is none, LINK if the node is
-    /// linked or pred is not in the list (autodoc exec.library/Insert; the alerts: project rule).
+    /// Insert list node pred: puts the node after pred, or first if pred is 0. HANDLE if one of them is none, LINK if
+    /// the node is linked or pred is not in the list (autodoc exec.library/Insert; the alerts: project rule).
     fn insert<W: Witness>(&mut self, t: TaskId, call: &Call, out: &mut W)
         requires { HasTask t self.old }
         ensures { Follows W.hearing (does_lists lists.Insert t (call_view call.now)) self.old self.new (W.told out.old) (W.told out.new) }
@@ -150,8 +151,8 @@ impl<S: ListSpace> Kernel<S> {
         self.conclude(tried, t, call, out);
     }
 
-    /// RemHead list: takes the first node out and answers it, or 0 for an empty list. HANDLE if no list begins there (autodoc
-    /// exec.library/RemHead; the alert: project rule).
+    /// RemHead list: takes the first node out and answers it, or 0 for an empty list. HANDLE if no list begins there
+    /// (autodoc exec.library/RemHead; the alert: project rule).
     fn rem_head<W: Witness>(&mut self, t: TaskId, call: &Call, out: &mut W)
         requires { HasTask t self.old }
         ensures { Follows W.hearing (does_lists lists.RemHead t (call_view call.now)) self.old self.new (W.told out.old) (W.told out.new) }
@@ -161,8 +162,8 @@ impl<S: ListSpace> Kernel<S> {
         self.conclude_with(tried, t, call, out);
     }
 
-    /// RemTail list: takes the last node out and answers it, or 0 for an empty list. HANDLE if no list begins there (autodoc
-    /// exec.library/RemTail; the alert: project rule).
+    /// RemTail list: takes the last node out and answers it, or 0 for an empty list. HANDLE if no list begins there
+    /// (autodoc exec.library/RemTail; the alert: project rule).
     fn rem_tail<W: Witness>(&mut self, t: TaskId, call: &Call, out: &mut W)
         requires { HasTask t self.old }
         ensures { Follows W.hearing (does_lists lists.RemTail t (call_view call.now)) self.old self.new (W.told out.old) (W.told out.new) }
@@ -174,8 +175,8 @@ impl<S: ListSpace> Kernel<S> {
 
     // ---- scanned
 
-    /// First list: answers the first node, or 0 for an empty list. HANDLE if no list begins there (RKM Libraries, Exec Lists and
-    /// Queues: scanning a list; the alert: project rule).
+    /// First list: answers the first node, or 0 for an empty list. HANDLE if no list begins there (RKM Libraries, Exec
+    /// Lists and Queues: scanning a list; the alert: project rule).
     fn first<W: Witness>(&mut self, t: TaskId, call: &Call, out: &mut W)
         requires { HasTask t self.old }
         ensures { Follows W.hearing (does_lists lists.First t (call_view call.now)) self.old self.new (W.told out.old) (W.told out.new) }
@@ -185,8 +186,8 @@ impl<S: ListSpace> Kernel<S> {
         self.conclude_with(tried, t, call, out);
     }
 
-    /// Last list: answers the last node, or 0 for an empty list. HANDLE if no list begins there (RKM Libraries, Exec Lists and
-    /// Queues: scanning a list; the alert: project rule).
+    /// Last list: answers the last node, or 0 for an empty list. HANDLE if no list begins there (RKM Libraries, Exec
+    /// Lists and Queues: scanning a list; the alert: project rule).
     fn last<W: Witness>(&mut self, t: TaskId, call: &Call, out: &mut W)
         requires { HasTask t self.old }
         ensures { Follows W.hearing (does_lists lists.Last t (call_view call.now)) self.old self.new (W.told out.old) (W.told out.new) }
@@ -196,8 +197,8 @@ impl<S: ListSpace> Kernel<S> {
         self.conclude_with(tried, t, call, out);
     }
 
-    /// Succ node: answers the node after a linked one, or 0. HANDLE if none begins there, LINK if it is not linked (RKM Libraries,
-    /// Exec Lists and Queues: `ln_Succ`; the alerts: project rule).
+    /// Succ node: answers the node after a linked one, or 0. HANDLE if none begins there, LINK if it is not linked (RKM
+    /// Libraries, Exec Lists and Queues: `ln_Succ`; the alerts: project rule).
     fn succ<W: Witness>(&mut self, t: TaskId, call: &Call, out: &mut W)
         requires { HasTask t self.old }
         ensures { Follows W.hearing (does_lists lists.Succ t (call_view call.now)) self.old self.new (W.told out.old) (W.told out.new) }
@@ -207,8 +208,8 @@ impl<S: ListSpace> Kernel<S> {
         self.conclude_with(tried, t, call, out);
     }
 
-    /// Pred node: answers the node before a linked one, or 0. HANDLE if none begins there, LINK if it is not linked (RKM Libraries,
-    /// Exec Lists and Queues: `ln_Pred`; the alerts: project rule).
+    /// Pred node: answers the node before a linked one, or 0. HANDLE if none begins there, LINK if it is not linked
+    /// (RKM Libraries, Exec Lists and Queues: `ln_Pred`; the alerts: project rule).
     fn pred<W: Witness>(&mut self, t: TaskId, call: &Call, out: &mut W)
         requires { HasTask t self.old }
         ensures { Follows W.hearing (does_lists lists.Pred t (call_view call.now)) self.old self.new (W.told out.old) (W.told out.new) }
@@ -218,7 +219,8 @@ impl<S: ListSpace> Kernel<S> {
         self.conclude_with(tried, t, call, out);
     }
 
-    /// The address of the first node of that name in a list, or after a linked node, or 0. If no name is given it is the empty one.
+    /// The address of the first node of that name in a list, or after a linked node, or 0. If no name is given it is
+    /// the empty one.
     fn find(&self, start: u32, name: Option<Name>) -> Result<u32, Refusal>
         ensures alert { alert_of result ≡ find_alert start self.now.memory.heap }
         ensures answer { IfOk result (λ answer. answer ≡ found_node start (unwrap_or (option_map (λ n. n.bytes) name) []) self.now.memory.heap) }
@@ -229,8 +231,9 @@ impl<S: ListSpace> Kernel<S> {
         }
     }
 
-    /// FindName start name: answers the first node of that name in a list, or after a linked node, or 0. HANDLE if neither begins at
-    /// the start, LINK if the node is not linked (autodoc exec.library/FindName; the alerts: project rule).
+    /// FindName start name: answers the first node of that name in a list, or after a linked node, or 0. HANDLE if
+    /// neither begins at the start, LINK if the node is not linked (autodoc exec.library/FindName; the alerts: project
+    /// rule).
     fn find_name<W: Witness>(&mut self, t: TaskId, call: &Call, out: &mut W)
         requires { HasTask t self.old }
         ensures { Follows W.hearing (does_lists lists.FindName t (call_view call.now)) self.old self.new (W.told out.old) (W.told out.new) }

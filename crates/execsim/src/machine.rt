@@ -105,12 +105,14 @@ impl<S: ListSpace> Machine<S> {
         })
     }
 
-    /// Puts the machine back to its first state, that of a file before its start, if it was made of a file that is as large, and answers whether it
-    /// was. No memory is taken, and the time grows with what the machine used, not with `pool`.
+    /// Puts the machine back to its first state, that of a file before its start, if it was made of a file that is as
+    /// large, and answers whether it was. No memory is taken, and the time grows with what the machine used, not with
+    /// `pool`.
     ///
-    /// A machine is as large if the file has the same regions and libraries, the same number of objects of each kind, as many tasks, software interrupts
-    /// and servers, each with as many commands, and the same names, sources, priorities and claims of the interrupts. Of the same file it always is.
-    /// If it is not, the machine has failed. A machine that has failed can be reset too.
+    /// A machine is as large if the file has the same regions and libraries, the same number of objects of each kind,
+    /// as many tasks, software interrupts and servers, each with as many commands, and the same names, sources,
+    /// priorities and claims of the interrupts. Of the same file it always is. If it is not, the machine has failed. A
+    /// machine that has failed can be reset too.
     ///
     /// Source: project rule.
     pub fn reset(&mut self, file: &MachineFile) -> bool
@@ -126,15 +128,16 @@ impl<S: ListSpace> Machine<S> {
         is_reset
     }
 
-    /// Starts the machine: its tasks are added in the order of the file, and it settles once. It is called once, before the first event, and once after
-    /// each `reset`.
+    /// Starts the machine: its tasks are added in the order of the file, and it settles once. It is called once, before
+    /// the first event, and once after each `reset`.
     ///
     /// The lines that the start prints are written to `out`, which is good unless the machine has failed.
     ///
     /// # Errors
     ///
-    /// A write failed: a prefix of the lines was taken, the sink is then failed or has taken nothing 16 times in a row, and the machine
-    /// has failed. What it holds then is of no account: a machine that has failed writes nothing and answers the same again.
+    /// A write failed: a prefix of the lines was taken, the sink is then failed or has taken nothing 16 times in a row,
+    /// and the machine has failed. What it holds then is of no account: a machine that has failed writes nothing and
+    /// answers the same again.
     pub fn start<W: Sink>(&mut self, out: &mut W) -> Result<Flow, WriteFault>
         requires { self.old.failed ≡ false → (W.tape out.old).state ≡ SinkState.Good }
         ensures acts { self.old.failed ≡ false → Acts starts self.old self.new (W.tape out.old) (W.tape out.new) result }
@@ -152,12 +155,13 @@ impl<S: ListSpace> Machine<S> {
         flow_or_fault(stopped, &mut self.failed, out)
     }
 
-    /// Does one event: that many steps or ticks, each followed by a settle, or a request of an interrupt, followed by one. After an alert nothing
-    /// happens, and the answer is `Alerted`.
+    /// Does one event: that many steps or ticks, each followed by a settle, or a request of an interrupt, followed by
+    /// one. After an alert nothing happens, and the answer is `Alerted`.
     ///
-    /// The lines that the event prints are written to `out`, which is good unless the machine has failed. The sums of the clock are to stay
-    /// below 2 to the power 64 microseconds: each tick adds the file's `tick_micros` to it, which a machine bears for a million ticks at
-    /// least, and what system time and the time of a request add is less than 2 to the power 54.
+    /// The lines that the event prints are written to `out`, which is good unless the machine has failed. The sums of
+    /// the clock are to stay below 2 to the power 64 microseconds: each tick adds the file's `tick_micros` to it, which
+    /// a machine bears for a million ticks at least, and what system time and the time of a request add is less than 2
+    /// to the power 54.
     ///
     /// # Errors
     ///
@@ -180,8 +184,9 @@ impl<S: ListSpace> Machine<S> {
         flow_or_fault(stopped, &mut self.failed, out)
     }
 
-    /// Does a step, and after it steps that print nothing: plain words of the running task, or those of an idle machine; at most `more` of
-    /// these. The answer is how many these were, so one step more was done. It may be 0 though the next step would print nothing.
+    /// Does a step, and after it steps that print nothing: plain words of the running task, or those of an idle
+    /// machine; at most `more` of these. The answer is how many these were, so one step more was done. It may be 0
+    /// though the next step would print nothing.
     ///
     /// # Errors
     ///
@@ -200,15 +205,17 @@ impl<S: ListSpace> Machine<S> {
         steps_or_fault(silent, &mut self.failed, out)
     }
 
-    /// Does nothing: its clause is what always holds of a machine that has not failed. Just the running task has the state of one, and it
-    /// waits for no semaphore; and exactly the tasks that wait for a semaphore are in its queue, each in one and once.
+    /// Does nothing: its clause is what always holds of a machine that has not failed. Just the running task has the
+    /// state of one, and it waits for no semaphore; and exactly the tasks that wait for a semaphore are in its queue,
+    /// each in one and once.
     pub fn facts(&self)
         ensures { self.now.failed ≡ false → QueuesAgree self.now.seen }
     {
         let _ = &self.kernel;
     }
 
-    /// Plays a run: starts the machine, does one event after another, and says to `witness` what happens, as it happens.
+    /// Plays a run: starts the machine, does one event after another, and says to `witness` what happens, as it
+    /// happens.
     ///
     /// A witness that listens no more ends the run, and the machine has failed. After it the machine can be looked at.
     ///

@@ -1,5 +1,6 @@
-//! Ports and messages: how they are made and freed, made public, and how messages are put, replied, taken and waited for. An object is
-//! named by the address of its block. The calls of `Heap` have the effects on memory; what a message does to a task is done here.
+//! Ports and messages: how they are made and freed, made public, and how messages are put, replied, taken and waited
+//! for. An object is named by the address of its block. The calls of `Heap` have the effects on memory; what a message
+//! does to a task is done here.
 ghost use Rattle.std.specs.Prelude.{◌≡◌, ◌^◌, ◌<◌, ◌≤◌, negsuc, [], find, true, IfOk, IfSome, IsTrue, OnErr, OnOk, None, Some, option_map, unwrap_or};
 ghost use Rattle.std.specs.Int.{cast_signed, w32};
 ghost use Rattle.execlist.specs.Disciplines.{by_priority};
@@ -112,8 +113,9 @@ impl<S: ListSpace> Kernel<S> {
         }
     }
 
-    /// DeleteMsgPort port: frees a port and gives its signal back to its task; 0 does nothing. HANDLE if no port begins there, PORT
-    /// if it has messages, is public, or is the reply port of a request in progress (autodoc exec.library/DeleteMsgPort; the alerts: project rule).
+    /// DeleteMsgPort port: frees a port and gives its signal back to its task; 0 does nothing. HANDLE if no port begins
+    /// there, PORT if it has messages, is public, or is the reply port of a request in progress (autodoc
+    /// exec.library/DeleteMsgPort; the alerts: project rule).
     fn delete_msg_port<W: Witness>(&mut self, t: TaskId, call: &Call, out: &mut W)
         requires { HasTask t self.old }
         ensures { Follows W.hearing (does_delete_msg_port t (call_view call.now)) self.old self.new (W.told out.old) (W.told out.new) }
@@ -142,8 +144,9 @@ impl<S: ListSpace> Kernel<S> {
             .add_port(port, name_or_empty(name), pri.cast_signed() as i8)
     }
 
-    /// AddPort port name pri: makes a port public. HANDLE if no port begins there, VALUE if the priority, read as a signed word, is
-    /// not in -128 to 127, LINK if the port is public (autodoc exec.library/AddPort; the alerts: project rule).
+    /// AddPort port name pri: makes a port public. HANDLE if no port begins there, VALUE if the priority, read as a
+    /// signed word, is not in -128 to 127, LINK if the port is public (autodoc exec.library/AddPort; the alerts:
+    /// project rule).
     fn add_port<W: Witness>(&mut self, t: TaskId, call: &Call, out: &mut W)
         requires { HasTask t self.old }
         ensures { Follows W.hearing (does_add_port t (call_view call.now)) self.old self.new (W.told out.old) (W.told out.new) }
@@ -193,8 +196,8 @@ impl<S: ListSpace> Kernel<S> {
 
     // ---- the action of a port
 
-    /// PortSignal port: the port signals its task, as a new port does. HANDLE if no port begins there (RKM Libraries, Exec Messages and
-    /// Ports: mp_Flags, PA_SIGNAL; that there is a call for it: project rule).
+    /// PortSignal port: the port signals its task, as a new port does. HANDLE if no port begins there (RKM Libraries,
+    /// Exec Messages and Ports: mp_Flags, PA_SIGNAL; that there is a call for it: project rule).
     fn port_signal<W: Witness>(&mut self, t: TaskId, call: &Call, out: &mut W)
         requires { HasTask t self.old }
         ensures { Follows W.hearing (does_port_signal t (call_view call.now)) self.old self.new (W.told out.old) (W.told out.new) }
@@ -204,8 +207,8 @@ impl<S: ListSpace> Kernel<S> {
         self.conclude(tried, t, call, out);
     }
 
-    /// PortCause port name: the port causes the software interrupt of that name. HANDLE if no port begins there (RKM Libraries, Exec
-    /// Messages and Ports: mp_Flags, PA_SOFTINT; that there is a call for it: project rule).
+    /// PortCause port name: the port causes the software interrupt of that name. HANDLE if no port begins there (RKM
+    /// Libraries, Exec Messages and Ports: mp_Flags, PA_SOFTINT; that there is a call for it: project rule).
     fn port_cause<W: Witness>(&mut self, t: TaskId, call: &Call, out: &mut W)
         requires { HasTask t self.old }
         ensures { Follows W.hearing (does_port_cause t (call_view call.now)) self.old self.new (W.told out.old) (W.told out.new) }
@@ -216,8 +219,8 @@ impl<S: ListSpace> Kernel<S> {
         self.conclude(tried, t, call, out);
     }
 
-    /// PortIgnore port: the port does nothing when a message arrives. HANDLE if no port begins there (RKM Libraries, Exec Messages and
-    /// Ports: mp_Flags, PA_IGNORE; that there is a call for it: project rule).
+    /// PortIgnore port: the port does nothing when a message arrives. HANDLE if no port begins there (RKM Libraries,
+    /// Exec Messages and Ports: mp_Flags, PA_IGNORE; that there is a call for it: project rule).
     fn port_ignore<W: Witness>(&mut self, t: TaskId, call: &Call, out: &mut W)
         requires { HasTask t self.old }
         ensures { Follows W.hearing (does_port_ignore t (call_view call.now)) self.old self.new (W.told out.old) (W.told out.new) }
@@ -229,8 +232,8 @@ impl<S: ListSpace> Kernel<S> {
 
     // ---- messages made and freed
 
-    /// NewMsg port word: answers the address of a new message with that reply port, or none for 0, and that word; or 0. HANDLE if the
-    /// reply port is not 0 and no port begins there (project rule).
+    /// NewMsg port word: answers the address of a new message with that reply port, or none for 0, and that word; or 0.
+    /// HANDLE if the reply port is not 0 and no port begins there (project rule).
     fn new_msg<W: Witness>(&mut self, t: TaskId, call: &Call, out: &mut W)
         requires { HasTask t self.old }
         ensures { Follows W.hearing (does_new_msg t (call_view call.now)) self.old self.new (W.told out.old) (W.told out.new) }
@@ -287,8 +290,8 @@ impl<S: ListSpace> Kernel<S> {
         }
     }
 
-    /// MsgType message: answers its type, 0 for a new one. HANDLE if no message begins there (RKM Libraries, Exec Messages and Ports:
-    /// ln_Type; that a new one has type 0, and the alert: project rule).
+    /// MsgType message: answers its type, 0 for a new one. HANDLE if no message begins there (RKM Libraries, Exec
+    /// Messages and Ports: ln_Type; that a new one has type 0, and the alert: project rule).
     fn msg_type<W: Witness>(&mut self, t: TaskId, call: &Call, out: &mut W)
         requires { HasTask t self.old }
         ensures { Follows W.hearing (does_msg_type t (call_view call.now)) self.old self.new (W.told out.old) (W.told out.new) }
@@ -320,7 +323,8 @@ impl<S: ListSpace> Kernel<S> {
         }
     }
 
-    /// A call that puts a message, of a task or of a body: what is to be done for it is done, or the call is refused by its alert.
+    /// A call that puts a message, of a task or of a body: what is to be done for it is done, or the call is refused by
+    /// its alert.
     pub(crate) fn end_putting<W: Witness>(
         &mut self,
         tried: Result<Action, Refusal>,
@@ -340,8 +344,8 @@ impl<S: ListSpace> Kernel<S> {
         }
     }
 
-    /// PutMsg port message: puts a message at a port, after those that it has. HANDLE if either is none, LINK if a port has the
-    /// message (autodoc exec.library/PutMsg; the alerts: project rule).
+    /// PutMsg port message: puts a message at a port, after those that it has. HANDLE if either is none, LINK if a port
+    /// has the message (autodoc exec.library/PutMsg; the alerts: project rule).
     pub(crate) fn put_msg<W: Witness>(&mut self, caller: &Caller, call: &Call, out: &mut W)
         requires { HasCaller caller.now self.old }
         ensures { Follows W.hearing (does_put_msg_by (caller_view caller.now) (call_view call.now)) self.old self.new (W.told out.old) (W.told out.new) }
@@ -352,9 +356,9 @@ impl<S: ListSpace> Kernel<S> {
         self.end_putting(tried, caller, call, out);
     }
 
-    /// ReplyMsg message: puts a message at its reply port; one without gets the type NT_FREEMSG. HANDLE if no message begins there,
-    /// LINK if a port has it, HANDLE if no port begins at its reply port's address (autodoc exec.library/ReplyMsg; the alerts: project
-    /// rule).
+    /// ReplyMsg message: puts a message at its reply port; one without gets the type NT_FREEMSG. HANDLE if no message
+    /// begins there, LINK if a port has it, HANDLE if no port begins at its reply port's address (autodoc
+    /// exec.library/ReplyMsg; the alerts: project rule).
     pub(crate) fn reply_msg<W: Witness>(&mut self, caller: &Caller, call: &Call, out: &mut W)
         requires { HasCaller caller.now self.old }
         ensures { Follows W.hearing (does_reply_msg_by (caller_view caller.now) (call_view call.now)) self.old self.new (W.told out.old) (W.told out.new) }
@@ -410,7 +414,8 @@ impl<S: ListSpace> Kernel<S> {
         self.change_signals(t, 0, mask);
     }
 
-    /// The call at a port with that first message, or with none, and with that signal: it answers the message, or waits.
+    /// The call at a port with that first message, or with none, and with that signal: it answers the message, or
+    /// waits.
     fn look<W: Witness>(
         &mut self,
         message: Option<u32>,
@@ -430,9 +435,10 @@ impl<S: ListSpace> Kernel<S> {
         }
     }
 
-    /// WaitPort port: answers the first message of the port, and leaves it there; if there is none, the task waits for the port's
-    /// signal, and looks again when it next runs, after that signal is cleared. HANDLE if no port begins there, PORT if it does not
-    /// signal the caller (autodoc exec.library/WaitPort; how a task waits and looks again, and the alerts: project rule).
+    /// WaitPort port: answers the first message of the port, and leaves it there; if there is none, the task waits for
+    /// the port's signal, and looks again when it next runs, after that signal is cleared. HANDLE if no port begins
+    /// there, PORT if it does not signal the caller (autodoc exec.library/WaitPort; how a task waits and looks again,
+    /// and the alerts: project rule).
     fn wait_port<W: Witness>(&mut self, t: TaskId, call: &Call, out: &mut W)
         requires known { HasTask t self.old }
         requires runs { Runs t self.old }

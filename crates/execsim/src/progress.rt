@@ -80,7 +80,8 @@ pub struct Program {
     code: Vec<Command>,
     place: usize,
     variables: [u32; PRIVATE_VARIABLES],
-    // The call that the task waits in, if `waits` says that it does. They are separate so that one that goes on writes one byte.
+    // The call that the task waits in, if `waits` says that it does. They are separate so that one that goes on writes
+    // one byte.
     call: Call,
     waits: bool,
     starts: bool,
@@ -104,7 +105,8 @@ impl Model for Program {
 }
 
 impl Program {
-    /// The program of these commands, at its first one, with every variable 0, of a task that starts with the machine or not.
+    /// The program of these commands, at its first one, with every variable 0, of a task that starts with the machine
+    /// or not.
     pub fn new(code: Vec<Command>, starts: bool) -> Self
         ensures { result ≡ begun_with (map command_view code.items) starts }
     {

@@ -1,5 +1,5 @@
-//! Steps of a machine in which nothing is due: its running task does plain words, or it is idle. Between them nothing is settled, since a
-//! plain word leaves a machine settled.
+//! Steps of a machine in which nothing is due: its running task does plain words, or it is idle. Between them nothing
+//! is settled, since a plain word leaves a machine settled.
 ghost use Rattle.std.specs.Prelude.{◌≡◌, ◌≤◌, true, false, IsTrue};
 ghost use Rattle.execmodel.specs.Step.{step, steps};
 ghost use Rattle.execsim.specs.{Advancing.GoesSilently, Advancing.StepsSilently, Agreement.Follows, Callers.HasTask, Reached.IsInOrder, Resting.IsSettled, Resting.Rests};
@@ -11,7 +11,8 @@ use script::Word;
 use taskq::TaskId;
 
 impl<S: ListSpace> Kernel<S> {
-    /// Task t, which rests, does plain words that print nothing, as long as its next command is one, and at most that many. The answer is how many.
+    /// Task t, which rests, does plain words that print nothing, as long as its next command is one, and at most that
+    /// many. The answer is how many.
     #[inline(always)]
     fn silent_words(&mut self, t: TaskId, most: u32) -> u32
         requires { Rests t self.old }
@@ -26,8 +27,8 @@ impl<S: ListSpace> Kernel<S> {
         most
     }
 
-    /// Task t, which rests, does plain words, as long as its next command is one, and at most that many; it prints to a good sink only. The answer
-    /// is how many.
+    /// Task t, which rests, does plain words, as long as its next command is one, and at most that many; it prints to a
+    /// good sink only. The answer is how many.
     #[inline(never)]
     fn plain_words<W: Witness>(&mut self, t: TaskId, most: u32, out: &mut W) -> u32
         requires { Rests t self.old }
@@ -56,7 +57,8 @@ impl<S: ListSpace> Kernel<S> {
         }
     }
 
-    /// Steps of a settled machine that ask nothing of Exec, at most that many: those of an idle machine, or plain words. The answer is how many.
+    /// Steps of a settled machine that ask nothing of Exec, at most that many: those of an idle machine, or plain
+    /// words. The answer is how many.
     pub(crate) fn plain_steps<W: Witness>(&mut self, most: u32, out: &mut W) -> u32
         requires { IsSettled self.old }
         ensures within { result ≤ most }
@@ -93,8 +95,9 @@ impl<S: ListSpace> Kernel<S> {
         }
     }
 
-    /// A step of a settled machine, if its running task does a plain word in it, or if it is idle; a word prints to a good sink only. A Print is looked
-    /// for first, since a log comes to one Print at a time. The answer is whether the step was done.
+    /// A step of a settled machine, if its running task does a plain word in it, or if it is idle; a word prints to a
+    /// good sink only. A Print is looked for first, since a log comes to one Print at a time. The answer is whether the
+    /// step was done.
     #[inline(always)]
     fn plain_step<W: Witness>(&mut self, out: &mut W) -> bool
         requires { IsSettled self.old }
@@ -118,7 +121,8 @@ impl<S: ListSpace> Kernel<S> {
         }
     }
 
-    /// One step of a machine, which is settled if `is_settled` says so. The answer is whether nothing was due after it, so that the machine is settled.
+    /// One step of a machine, which is settled if `is_settled` says so. The answer is whether nothing was due after it,
+    /// so that the machine is settled.
     #[inline(always)]
     fn next_step<W: Witness>(&mut self, is_settled: bool, out: &mut W) -> bool
         requires agree { IsInOrder self.old }
@@ -132,9 +136,9 @@ impl<S: ListSpace> Kernel<S> {
         self.step(out)
     }
 
-    /// One step, and those after it that ask nothing of Exec and print nothing; at most that many of these. The answer is how many these were.
-    /// The machine is settled before and after if `is_settled` says so; it does if the machine did plain words that print nothing, since others then
-    /// often follow.
+    /// One step, and those after it that ask nothing of Exec and print nothing; at most that many of these. The answer
+    /// is how many these were. The machine is settled before and after if `is_settled` says so; it does if the machine
+    /// did plain words that print nothing, since others then often follow.
     #[inline(always)]
     pub(crate) fn advance<W: Witness>(
         &mut self,

@@ -1,5 +1,5 @@
-//! Signal semaphores: how they are made and freed, obtained and released. A semaphore is named by the address of its block. The calls of
-//! `Heap` have the effects on memory; which task waits and which is made ready is done here.
+//! Signal semaphores: how they are made and freed, obtained and released. A semaphore is named by the address of its
+//! block. The calls of `Heap` have the effects on memory; which task waits and which is made ready is done here.
 ghost use Rattle.std.specs.Prelude.{◌≡◌, ◌<◌, [], if◌then◌else◌, IfOk, IfSome};
 ghost use Rattle.execlist.specs.Disciplines.{by_priority};
 ghost use Rattle.taskq.specs.{declared.TaskState.TaskState, declared.Why.Why};
@@ -38,8 +38,8 @@ impl<S: ListSpace> Kernel<S> {
         self.memory.new_semaphore()
     }
 
-    /// NewSem: answers the address of a new semaphore, which no task owns, or 0 (autodoc exec.library/InitSemaphore; that it takes the
-    /// memory: project rule).
+    /// NewSem: answers the address of a new semaphore, which no task owns, or 0 (autodoc exec.library/InitSemaphore;
+    /// that it takes the memory: project rule).
     #[tactic(auto, using(crate::proofs::Obtaining::semaphore_made))]
     fn new_sem<W: Witness>(&mut self, t: TaskId, call: &Call, out: &mut W)
         requires { HasTask t self.old }
@@ -77,7 +77,8 @@ impl<S: ListSpace> Kernel<S> {
         self.sched.wait_sem();
     }
 
-    /// A call by which task t asks for a semaphore: it is done if the task has it, else the task waits; or it is refused by its alert.
+    /// A call by which task t asks for a semaphore: it is done if the task has it, else the task waits; or it is
+    /// refused by its alert.
     fn obtains<W: Witness>(
         &mut self,
         tried: Result<Obtained, Refusal>,
@@ -101,9 +102,10 @@ impl<S: ListSpace> Kernel<S> {
         }
     }
 
-    /// ObtainSemaphore semaphore: a free semaphore is the caller's, with the count 1; the owner's count is one more; any other task waits,
-    /// after those that asked before. The call of a task that has waited is complete. HANDLE if no semaphore begins there, SEM if the
-    /// count would go past 32767 (autodoc exec.library/ObtainSemaphore; the alerts: project rule).
+    /// ObtainSemaphore semaphore: a free semaphore is the caller's, with the count 1; the owner's count is one more;
+    /// any other task waits, after those that asked before. The call of a task that has waited is complete. HANDLE if
+    /// no semaphore begins there, SEM if the count would go past 32767 (autodoc exec.library/ObtainSemaphore; the
+    /// alerts: project rule).
     fn obtain_semaphore<W: Witness>(&mut self, t: TaskId, call: &Call, out: &mut W)
         requires known { HasTask t self.old }
         requires runs { Runs t self.old }
@@ -120,9 +122,9 @@ impl<S: ListSpace> Kernel<S> {
         }
     }
 
-    /// AttemptSemaphore semaphore: as ObtainSemaphore if no wait is needed, and answers 1; else nothing changes and the answer is 0.
-    /// HANDLE if no semaphore begins there, SEM if the count would go past 32767 (autodoc exec.library/AttemptSemaphore; the alerts:
-    /// project rule).
+    /// AttemptSemaphore semaphore: as ObtainSemaphore if no wait is needed, and answers 1; else nothing changes and the
+    /// answer is 0. HANDLE if no semaphore begins there, SEM if the count would go past 32767 (autodoc
+    /// exec.library/AttemptSemaphore; the alerts: project rule).
     fn attempt_semaphore<W: Witness>(&mut self, t: TaskId, call: &Call, out: &mut W)
         requires { HasTask t self.old }
         ensures { Follows W.hearing (does_attempt_semaphore t (call_view call.now)) self.old self.new (W.told out.old) (W.told out.new) }
@@ -144,7 +146,8 @@ impl<S: ListSpace> Kernel<S> {
         self.sched.wake_sem(t);
     }
 
-    /// A call that releases a semaphore: the new owner, if there is one, becomes ready; or the call is refused by its alert.
+    /// A call that releases a semaphore: the new owner, if there is one, becomes ready; or the call is refused by its
+    /// alert.
     fn passes<W: Witness>(
         &mut self,
         tried: Result<Option<TaskId>, Refusal>,
@@ -168,9 +171,10 @@ impl<S: ListSpace> Kernel<S> {
         }
     }
 
-    /// ReleaseSemaphore semaphore: the owner has to release the semaphore once less. The last release hands it on: the first of the tasks
-    /// that wait there is the owner with the count 1, and ready; if none waits, no task owns it. HANDLE if no semaphore begins there,
-    /// SEM if the caller does not own it (autodoc exec.library/ReleaseSemaphore; the alerts: project rule).
+    /// ReleaseSemaphore semaphore: the owner has to release the semaphore once less. The last release hands it on: the
+    /// first of the tasks that wait there is the owner with the count 1, and ready; if none waits, no task owns it.
+    /// HANDLE if no semaphore begins there, SEM if the caller does not own it (autodoc exec.library/ReleaseSemaphore;
+    /// the alerts: project rule).
     fn release_semaphore<W: Witness>(&mut self, t: TaskId, call: &Call, out: &mut W)
         requires known { HasTask t self.old }
         requires agree { QueuesAgree self.old }

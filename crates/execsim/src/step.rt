@@ -113,8 +113,8 @@ impl<S: ListSpace> Kernel<S> {
 
     // ---- step
 
-    /// A call of task t, by the group of its word. If it sets system time, those that wait for that are looked at after the call's own
-    /// line.
+    /// A call of task t, by the group of its word. If it sets system time, those that wait for that are looked at after
+    /// the call's own line.
     #[tactic(auto, unfolding(execmodel::specs::Step::does))]
     fn does<W: Witness>(&mut self, t: TaskId, call: &Call, out: &mut W)
         requires known { HasTask t self.old }
@@ -259,7 +259,8 @@ impl<S: ListSpace> Kernel<S> {
         self.settle_after_step(out)
     }
 
-    /// One step, and those after it that ask nothing of Exec; at most that many, of which there is one. The answer is how many.
+    /// One step, and those after it that ask nothing of Exec; at most that many, of which there is one. The answer is
+    /// how many.
     fn some_steps<W: Witness>(&mut self, most: u32, out: &mut W) -> u32
         requires one { 0 < most }
         requires agree { IsInOrder self.old }
@@ -274,7 +275,8 @@ impl<S: ListSpace> Kernel<S> {
         }
     }
 
-    /// Some steps, as long as the sink is good; after a failed write nothing more is simulated, and all of them are done.
+    /// Some steps, as long as the sink is good; after a failed write nothing more is simulated, and all of them are
+    /// done.
     fn some_steps_while_good<W: Witness>(&mut self, most: u32, out: &mut W) -> u32
         requires one { 0 < most }
         requires agree { W.hearing.good (W.told out.old) ≡ true → IsInOrder self.old }

@@ -36,7 +36,8 @@ fn is_own_signal(n: u32) -> bool
 }
 
 impl<S: ListSpace> Kernel<S> {
-    /// The running task allocates a signal; its number, or the word of -1 for none. The word of -1 asks for the highest free one.
+    /// The running task allocates a signal; its number, or the word of -1 for none. The word of -1 asks for the highest
+    /// free one.
     pub(crate) fn allocate_signal(&mut self, t: TaskId, asked: u32) -> u32
         requires { Runs t self.old }
         ensures answer { result ≡ cast_unsigned w32 (grant_number (grant (cast_signed w32 asked) (signals_of self.old.schedule t))) }
@@ -123,8 +124,8 @@ impl<S: ListSpace> Kernel<S> {
         self.sched.wait(mask)
     }
 
-    /// Signal t mask: the task of that number receives the signals of the mask. HANDLE if there is no such task, MASK if the mask
-    /// holds a signal that scripts may not name (autodoc exec.library/Signal; the alerts: project rule).
+    /// Signal t mask: the task of that number receives the signals of the mask. HANDLE if there is no such task, MASK
+    /// if the mask holds a signal that scripts may not name (autodoc exec.library/Signal; the alerts: project rule).
     pub(crate) fn signal<W: Witness>(&mut self, caller: &Caller, call: &Call, out: &mut W)
         requires { HasCaller caller.now self.old }
         ensures { Follows W.hearing (does_signal_by (caller_view caller.now) (call_view call.now)) self.old self.new (W.told out.old) (W.told out.new) }

@@ -20,7 +20,8 @@ const IOERR_NOCMD: i8 = -3;
 /// The microseconds of a second.
 const SECOND: u64 = 1_000_000;
 
-/// How far a request has come. RKM Devices, Introduction to Amiga System Devices; that an idle one is distinguished: project rule.
+/// How far a request has come. RKM Devices, Introduction to Amiga System Devices; that an idle one is distinguished:
+/// project rule.
 #[derive(Clone, Copy, Debug)]
 pub enum ReqState {
     /// It was never begun.

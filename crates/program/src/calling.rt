@@ -59,7 +59,8 @@ fn explore<R: Env + Files + Clock + AllocGlobal, W: Write + Drop, E: Write + IsT
     execexplore::run_on_arguments(rt, out, err)
 }
 
-/// Runs the command by whose name the program was called on the process's arguments, and answers the status with which it ends.
+/// Runs the command by whose name the program was called on the process's arguments, and answers the status with which
+/// it ends.
 ///
 /// Each command but `execsim`, whose command line is two paths, takes the word `--version` too.
 ///

@@ -1,6 +1,7 @@
-//! Asks for memory in one way. After the word `allocate` an argument names a part of a machine, which is made once and let go, or says `boot` or
-//! `run`, with a machine file and an event text after it. `boot` makes the machine, and `run` makes it and runs it over the events.
-//! `.ci/allocations` refuses each allocation of each way in turn; `parts` prints the names for it.
+//! Asks for memory in one way. After the word `allocate` an argument names a part of a machine, which is made once and
+//! let go, or says `boot` or `run`, with a machine file and an event text after it. `boot` makes the machine, and `run`
+//! makes it and runs it over the events. `.ci/allocations` refuses each allocation of each way in turn; `parts` prints
+//! the names for it.
 //!
 //! Nothing is taken for the arguments: an allocation is one of the part, of the texts, of the machine or of the run.
 use crate::part::{PARTS, Part, make};
@@ -49,7 +50,8 @@ fn boot(rt: &HostRuntime) -> Result<(), Unmade> {
     Ok(())
 }
 
-/// Makes the machine of a machine file, and runs it over an event text. The trace goes to standard output, which takes no memory.
+/// Makes the machine of a machine file, and runs it over an event text. The trace goes to standard output, which takes
+/// no memory.
 fn run(rt: &HostRuntime) -> Result<(), Unmade> {
     let (machine, events) = (text_of(rt, 3)?, text_of(rt, 4)?);
     let mut out = WriteSink::new(rt.stdout());
@@ -88,8 +90,8 @@ pub(crate) fn is_asked(rt: &HostRuntime) -> bool {
     argument(rt, 1, &mut room) == Some(WORD)
 }
 
-/// Makes what the arguments ask for. The status is 0 if it was made, 4 if memory was refused, and 1 if another fault came or the
-/// words are none of these.
+/// Makes what the arguments ask for. The status is 0 if it was made, 4 if memory was refused, and 1 if another fault
+/// came or the words are none of these.
 pub(crate) fn allocate(rt: &HostRuntime) -> ExitCode {
     match asked(rt) {
         Ok(()) => ExitCode::SUCCESS,

@@ -1,6 +1,6 @@
-//! The running task, its quantum, and the signals and the nesting of each task.
-//! A `Sched` decides which task runs; what a task does while it runs is not kept here. Its calls on signals are in `task_signals`, and
-//! those of Forbid and Disable in `nesting`.
+//! The running task, its quantum, and the signals and the nesting of each task. A `Sched` decides which task runs; what
+//! a task does while it runs is not kept here. Its calls on signals are in `task_signals`, and those of Forbid and
+//! Disable in `nesting`.
 #![tactic(auto)]
 
 ghost use Rattle.std.specs.Prelude.{◌≡◌, ◌≢◌, ℕ, ◌<◌, ◌≤◌, length, slice_set, map, if◌then◌else◌, Some, None, IsTrue, IsSome, IfSome, IfOk};
@@ -103,7 +103,8 @@ impl<S: ListSpace> Sched<S> {
         })
     }
 
-    /// Makes the schedule as `new` made it, with these names, first priorities and full quantum: of as many tasks as there are.
+    /// Makes the schedule as `new` made it, with these names, first priorities and full quantum: of as many tasks as
+    /// there are.
     ///
     /// Source: project rule.
     pub fn reset(&mut self, tasks: &[TaskInit], quantum: u8)
@@ -287,10 +288,10 @@ impl<S: ListSpace> Sched<S> {
     /// Lets another task run, or the machine be idle, if that is due, and answers what the machine turned
     /// to.
     ///
-    /// If no task runs, the first ready task does, and if there is none the machine is idle, which is
-    /// answered once. A running task that allows switching is pre-empted by a ready one of higher priority, and by one of equal
-    /// priority if its quantum has ended; it then is ready, after those of its priority. A quantum that has ended
-    /// otherwise begins anew. A task that begins to run has a full quantum.
+    /// If no task runs, the first ready task does, and if there is none the machine is idle, which is answered once. A
+    /// running task that allows switching is pre-empted by a ready one of higher priority, and by one of equal priority
+    /// if its quantum has ended; it then is ready, after those of its priority. A quantum that has ended otherwise
+    /// begins anew. A task that begins to run has a full quantum.
     ///
     /// Source: RKM Libraries, Exec Tasks: task scheduling. Project rule: when a quantum begins.
     #[inline(always)]

@@ -1,4 +1,5 @@
-//! The signals of the tasks: how they come, are taken and waited for, allocated and freed (RKM Libraries, Exec Signals).
+//! The signals of the tasks: how they come, are taken and waited for, allocated and freed (RKM Libraries, Exec
+//! Signals).
 ghost use Rattle.std.specs.Prelude.{◌≡◌, negsuc, ◌<◌, ◌≤◌, not, nat_eq, Some, IsSome, IfSome};
 ghost use Rattle.std.specs.Borrow.{sem};
 ghost use Rattle.execlist.specs.Disciplines.{by_priority};

@@ -15,8 +15,8 @@ use std::marker::Model;
 
 /// Which software interrupts are caused, which sources ask to be served, and which servers each source has.
 ///
-/// All room is made by `new`; no other call takes memory, and none but `reset` looks at all software interrupts or all servers.
-/// RKM Libraries, Exec Interrupts.
+/// All room is made by `new`; no other call takes memory, and none but `reset` looks at all software interrupts or all
+/// servers. RKM Libraries, Exec Interrupts.
 #[derive(Drop)]
 pub struct Ints<S: ListSpace> {
     softs: Vec<Soft>,
@@ -47,8 +47,8 @@ impl<S: ListSpace> Model for Ints<S> {
 }
 
 impl<S: ListSpace> Ints<S> {
-    /// Software interrupts of these priorities and these servers, at most 32 of each, numbered in the order given. No software interrupt
-    /// is caused and no source asks to be served.
+    /// Software interrupts of these priorities and these servers, at most 32 of each, numbered in the order given. No
+    /// software interrupt is caused and no source asks to be served.
     ///
     /// The priority of a software interrupt is -32, -16, 0, 16 or 32. An error means that memory is refused.
     pub fn new(alloc: Global, softs: &[Soft], servers: &[Server]) -> Result<Self, AllocError>
@@ -84,8 +84,8 @@ impl<S: ListSpace> Ints<S> {
 
     // ---- software interrupts
 
-    /// Causes a software interrupt: it is to run after the caused ones of its priority. One that is caused already stays where it is.
-    /// Autodoc exec.library/Cause.
+    /// Causes a software interrupt: it is to run after the caused ones of its priority. One that is caused already
+    /// stays where it is. Autodoc exec.library/Cause.
     pub fn cause(&mut self, i: IntId)
         requires { i < length self.old.priorities }
         ensures { self.new ≡ causes i self.old }
@@ -97,15 +97,16 @@ impl<S: ListSpace> Ints<S> {
         }
     }
 
-    /// Answers whether a software interrupt is caused. It looks at none of them. Project rule: Exec reports it by the interrupt that it asks for.
+    /// Answers whether a software interrupt is caused. It looks at none of them. Project rule: Exec reports it by the
+    /// interrupt that it asks for.
     pub fn any_caused(&self) -> bool
         ensures { result ≡ is_some (first self.now.caused) }
     {
         self.some_caused
     }
 
-    /// Answers the caused software interrupt that is to run after `after`, or the one that is to run next for none; none at the end, and if
-    /// `after` is not caused. RKM Libraries, Exec Interrupts: software interrupts.
+    /// Answers the caused software interrupt that is to run after `after`, or the one that is to run next for none;
+    /// none at the end, and if `after` is not caused. RKM Libraries, Exec Interrupts: software interrupts.
     pub fn caused_after(&self, after: Option<IntId>) -> Option<IntId>
         ensures { result ≡ first (part_from after self.now.caused) }
     {
@@ -162,8 +163,8 @@ impl<S: ListSpace> Ints<S> {
         self.latches.any()
     }
 
-    /// Clears the latch of the source of highest level among those that ask to be served and answers the source, or answers none.
-    /// RKM Libraries, Exec Interrupts: the order of their priorities.
+    /// Clears the latch of the source of highest level among those that ask to be served and answers the source, or
+    /// answers none. RKM Libraries, Exec Interrupts: the order of their priorities.
     pub fn serve(&mut self) -> Option<Source>
         ensures value { result ≡ highest self.old.latches }
         ensures next { self.new ≡ served (highest self.old.latches) self.old }
@@ -173,7 +174,8 @@ impl<S: ListSpace> Ints<S> {
         Some(source)
     }
 
-    /// Answers the server that runs at place `k`, from 0, when a source is served, or none if the source has no more servers.
+    /// Answers the server that runs at place `k`, from 0, when a source is served, or none if the source has no more
+    /// servers.
     ///
     /// The servers of a source run by priority, and those of one priority in the order of their numbers.
     /// Autodoc exec.library/AddIntServer.

@@ -137,7 +137,8 @@ fn event_on<W: Sink>(
     }
 }
 
-/// Does an event from where a machine is, leaves in `line` the last line that it writes, and answers whether it ended in an alert.
+/// Does an event from where a machine is, leaves in `line` the last line that it writes, and answers whether it ended
+/// in an alert.
 fn go_on(
     machine: &mut Machine<LinkSpace>,
     _file: &MachineFile,

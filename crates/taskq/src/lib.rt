@@ -100,7 +100,8 @@ impl<S: ListSpace> TaskQ<S> {
         })
     }
 
-    /// Makes the tasks absent, with these names and priorities, as `new` made them: as many as there are, in the order given.
+    /// Makes the tasks absent, with these names and priorities, as `new` made them: as many as there are, in the order
+    /// given.
     ///
     /// Source: project rule.
     pub fn reset(&mut self, tasks: &[TaskInit])
@@ -125,8 +126,8 @@ impl<S: ListSpace> TaskQ<S> {
         self.space.first(0)
     }
 
-    /// Answers the ready task that is to run after `after`, or the one that is to run next for none; none at the end, and if `after` is not
-    /// ready. RKM Libraries, Exec Tasks: scheduling.
+    /// Answers the ready task that is to run after `after`, or the one that is to run next for none; none at the end,
+    /// and if `after` is not ready. RKM Libraries, Exec Tasks: scheduling.
     pub fn ready_after(&self, after: Option<TaskId>) -> Option<TaskId>
         ensures value { result ≡ first (part_from after self.now.ready) }
         ensures ready { IfSome result (λ t. state_at self.now.states t ≡ TaskState.Ready) }

@@ -63,7 +63,8 @@ fn add_label(
     }
 }
 
-// A command is read, which is in the line of that number; TooMany if it has a variable past its limit, after the faults that it has by its body.
+// A command is read, which is in the line of that number; TooMany if it has a variable past its limit, after the faults
+// that it has by its body.
 fn add_command(
     setting: Setting<'_>,
     body: &mut Body,

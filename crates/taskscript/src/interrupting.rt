@@ -1,5 +1,5 @@
-//! Which commands a body may have: that of a software interrupt or of a server has few words and no variables of its own, and a word that
-//! names a software interrupt names one of the file.
+//! Which commands a body may have: that of a software interrupt or of a server has few words and no variables of its
+//! own, and a word that names a software interrupt names one of the file.
 ghost use Rattle.std.specs.Prelude.{◌≡◌, ◌++◌, ◌∷◌, [], bytes_eq, length, map, option_map};
 ghost use Rattle.std.specs.List.{list_all, list_any};
 ghost use Rattle.script.specs.Interrupting.{is_word_of_interrupt};
@@ -85,8 +85,8 @@ fn are_known(softints: &[Name], kinds: &[Kind], arguments: &[NamedArgument]) -> 
     true
 }
 
-/// Judges a command by its body: BadCommand if it names a software interrupt that the file lacks, and NotInInterrupt where it may not be
-/// in the body of an interrupt. The words of interrupts are a project rule.
+/// Judges a command by its body: BadCommand if it names a software interrupt that the file lacks, and NotInInterrupt
+/// where it may not be in the body of an interrupt. The words of interrupts are a project rule.
 pub fn judge_command(setting: Setting<'_>, command: &NamedCommand) -> Result<(), FileFault>
     ensures { let s = setting_view setting.entry in
         let said = named_command_view command.now in

@@ -1,4 +1,5 @@
-//! Ports and messages: by number, with the blocks in which they live; how they are found by address; and the calls by address.
+//! Ports and messages: by number, with the blocks in which they live; how they are found by address; and the calls by
+//! address.
 ghost use Rattle.std.specs.Prelude.{◌≡◌, ◌<◌, ◌≤◌, not, [], None, Some, IfSome, IsSome, IsTrue, ◌≢◌, IfOk, option_map, OnErr, OnOk, find};
 ghost use Rattle.execlist.specs.{Order.first, Lists.home, Pool.slot};
 ghost use Rattle.msgport.specs.Ports.{has_messages, is_message, is_port, is_public, message_at, messages_of, new_message, port_at, made_private, made_public, nt_freemsg, nt_message, nt_replymsg, posted, taken_off, typed, with_message, with_port};
@@ -28,7 +29,8 @@ impl<S: ListSpace> Objects<S> {
 
     // ---- numbers and addresses
 
-    /// The address of what may be in a port: of a live message, or of a live request, whose numbers as messages are after.
+    /// The address of what may be in a port: of a live message, or of a live request, whose numbers as messages are
+    /// after.
     pub fn address_of_message(&self, m: MsgId) -> u32
         requires { IsSome (slot (message_places self.now) m) }
         ensures { slot (message_places self.now) m ≡ Some result }
@@ -225,7 +227,8 @@ impl<S: ListSpace> Objects<S> {
         }
     }
 
-    /// The port that begins at an address, which has no message, is not public, and is the reply port of no request that is in progress.
+    /// The port that begins at an address, which has no message, is not public, and is the reply port of no request
+    /// that is in progress.
     pub fn port_to_delete(&self, port: u32) -> Result<PortId, Refusal>
         ensures alert { alert_of result ≡ model.delete_alert port (shown_memory self.now) }
         ensures found { IfOk result (λ p. slot (places variant.Port self.now) p ≡ Some port) }
@@ -405,9 +408,9 @@ impl<S: ListSpace> Heap<S> {
         self.objects.number_at(Kind::Port, port).is_some()
     }
 
-    /// Frees a port, and answers its task and the number of its signal. It is refused if no port begins at the address (Handle), and
-    /// if the port has messages, is public, or is the reply port of a request that is in progress (Port). Autodoc exec.library/DeleteMsgPort;
-    /// the refusals: project rule.
+    /// Frees a port, and answers its task and the number of its signal. It is refused if no port begins at the address
+    /// (Handle), and if the port has messages, is public, or is the reply port of a request that is in progress (Port).
+    /// Autodoc exec.library/DeleteMsgPort; the refusals: project rule.
     pub fn delete_port(&mut self, port: u32) -> Result<(TaskId, u32), Refusal>
         ensures alert { alert_of result ≡ model.delete_alert port self.old }
         ensures task { IfOk result (λ owner. owner.0 ≡ (model.port_of port self.old.heap).task) }
@@ -423,8 +426,9 @@ impl<S: ListSpace> Heap<S> {
 
     // ---- public ports
 
-    /// Makes a port public under a name, before the first public port of lower priority. It is refused if no port begins at the
-    /// address (Handle), and if the port is public already (Link). Autodoc exec.library/AddPort; the refusals: project rule.
+    /// Makes a port public under a name, before the first public port of lower priority. It is refused if no port
+    /// begins at the address (Handle), and if the port is public already (Link). Autodoc exec.library/AddPort; the
+    /// refusals: project rule.
     pub fn add_port(&mut self, port: u32, name: Name, pri: i8) -> Result<(), Refusal>
         ensures alert { alert_of result ≡ model.add_port_alert port pri self.old }
         ensures next { OnOk result (self.new ≡ listed port name.bytes pri self.old) }
@@ -435,8 +439,8 @@ impl<S: ListSpace> Heap<S> {
         Ok(())
     }
 
-    /// Makes a port public no more. It is refused if no port begins at the address (Handle), and if the port is not public (Link).
-    /// Autodoc exec.library/RemPort; the refusals: project rule.
+    /// Makes a port public no more. It is refused if no port begins at the address (Handle), and if the port is not
+    /// public (Link). Autodoc exec.library/RemPort; the refusals: project rule.
     pub fn rem_port(&mut self, port: u32) -> Result<(), Refusal>
         ensures alert { alert_of result ≡ model.rem_port_alert port self.old }
         ensures next { OnOk result (self.new ≡ model.made_private port self.old) }
@@ -447,8 +451,9 @@ impl<S: ListSpace> Heap<S> {
         Ok(())
     }
 
-    /// Answers the address of the first public port of a name, or 0; names compare byte for byte. The public ports are by priority, and
-    /// those of one priority in the order in which they were made public. Autodoc exec.library/FindPort.
+    /// Answers the address of the first public port of a name, or 0; names compare byte for byte. The public ports are
+    /// by priority, and those of one priority in the order in which they were made public. Autodoc
+    /// exec.library/FindPort.
     pub fn find_port(&self, name: &str) -> u32
         ensures { result ≡ model.port_or_none (find (model.is_called name.now) self.now.public) }
     {
@@ -483,7 +488,8 @@ impl<S: ListSpace> Heap<S> {
         Ok(self.objects.make_message(reply, word))
     }
 
-    /// Frees a message. It is refused if no message begins at the address (Handle), and if a port has it (Link). Project rule.
+    /// Frees a message. It is refused if no message begins at the address (Handle), and if a port has it (Link).
+    /// Project rule.
     pub fn free_message(&mut self, message: u32) -> Result<(), Refusal>
         ensures alert { alert_of result ≡ model.loose_alert message self.old.heap }
         ensures next { OnOk result (self.new ≡ freed message self.old) }
@@ -516,8 +522,9 @@ impl<S: ListSpace> Heap<S> {
         Ok(())
     }
 
-    /// Answers the type of a message: 0 for a new one, NT_MESSAGE, NT_REPLYMSG or NT_FREEMSG. It is refused if no message begins at
-    /// the address (Handle). RKM Libraries, Exec Messages and Ports: `ln_Type`; the refusal: project rule.
+    /// Answers the type of a message: 0 for a new one, NT_MESSAGE, NT_REPLYMSG or NT_FREEMSG. It is refused if no
+    /// message begins at the address (Handle). RKM Libraries, Exec Messages and Ports: `ln_Type`; the refusal: project
+    /// rule.
     pub fn kind(&self, message: u32) -> Result<u8, Refusal>
         ensures alert { alert_of result ≡ model.message_alert message self.now.heap }
         ensures answer { IfOk result (λ kind. kind ≡ (model.content_of message self.now.heap).kind) }
@@ -528,9 +535,9 @@ impl<S: ListSpace> Heap<S> {
 
     // ---- putting and replying
 
-    /// Puts a message at a port, after those that it has, as one of type NT_MESSAGE, and answers what is to be done for it. It is refused
-    /// if no port or no message begins at its address (Handle), and if a port has the message already (Link).
-    /// Autodoc exec.library/PutMsg; the refusals: project rule.
+    /// Puts a message at a port, after those that it has, as one of type NT_MESSAGE, and answers what is to be done for
+    /// it. It is refused if no port or no message begins at its address (Handle), and if a port has the message already
+    /// (Link). Autodoc exec.library/PutMsg; the refusals: project rule.
     pub fn put_message(&mut self, port: u32, message: u32) -> Result<Action, Refusal>
         ensures alert { alert_of result ≡ model.put_alert port message self.old.heap }
         ensures answer { IfOk result (λ action. action ≡ arrival_action (model.port_of port self.old.heap)) }
@@ -541,10 +548,10 @@ impl<S: ListSpace> Heap<S> {
         Ok(self.objects.put(p, m))
     }
 
-    /// Puts a message at its reply port, the one that begins at that address now, as one of type NT_REPLYMSG, and answers what is to be
-    /// done for it; one without a reply port gets the type NT_FREEMSG. It is refused if no message begins at the address (Handle),
-    /// if a port has it already (Link), and if it has a reply port and no port begins there (Handle).
-    /// Autodoc exec.library/ReplyMsg; the refusals: project rule.
+    /// Puts a message at its reply port, the one that begins at that address now, as one of type NT_REPLYMSG, and
+    /// answers what is to be done for it; one without a reply port gets the type NT_FREEMSG. It is refused if no
+    /// message begins at the address (Handle), if a port has it already (Link), and if it has a reply port and no port
+    /// begins there (Handle). Autodoc exec.library/ReplyMsg; the refusals: project rule.
     pub fn reply_message(&mut self, message: u32) -> Result<Action, Refusal>
         ensures alert { alert_of result ≡ model.reply_alert message self.old.heap }
         ensures answer { IfOk result (λ action. action ≡ replying message self.old.heap) }
@@ -563,8 +570,9 @@ impl<S: ListSpace> Heap<S> {
 
     // ---- taking and waiting
 
-    /// Takes what is first in a port, a message or a request that is replied, and answers its address, or 0 if there is none. It is
-    /// refused if no port begins at the address (Handle). Autodoc exec.library/GetMsg; the refusal: project rule.
+    /// Takes what is first in a port, a message or a request that is replied, and answers its address, or 0 if there is
+    /// none. It is refused if no port begins at the address (Handle). Autodoc exec.library/GetMsg; the refusal: project
+    /// rule.
     pub fn take_message(&mut self, port: u32) -> Result<u32, Refusal>
         ensures alert { alert_of result ≡ model.port_alert port self.old.heap }
         ensures answer { IfOk result (λ message. message ≡ or_none (first (model.messages_of port self.old.heap))) }
@@ -577,9 +585,10 @@ impl<S: ListSpace> Heap<S> {
         Ok(self.objects.message_or_0(m))
     }
 
-    /// Answers the address of what is first in a port at which a task may wait, a message or a request that is replied, or none, and the
-    /// number of the port's signal (0 to 31). It is refused if no port begins at the address (Handle), and if the port does not signal
-    /// the task (Port). Autodoc exec.library/WaitPort: what it answers; the refusals: project rule.
+    /// Answers the address of what is first in a port at which a task may wait, a message or a request that is replied,
+    /// or none, and the number of the port's signal (0 to 31). It is refused if no port begins at the address (Handle),
+    /// and if the port does not signal the task (Port). Autodoc exec.library/WaitPort: what it answers; the refusals:
+    /// project rule.
     pub fn message_to_wait_for(
         &self,
         task: TaskId,

@@ -1,5 +1,5 @@
-//! Requests and the timer: by number, with the blocks in which they live and their replies; how they are found by address; and the calls
-//! by address (RKM Devices, Introduction to Amiga System Devices; Devices, timer device).
+//! Requests and the timer: by number, with the blocks in which they live and their replies; how they are found by
+//! address; and the calls by address (RKM Devices, Introduction to Amiga System Devices; Devices, timer device).
 ghost use Rattle.std.specs.Prelude.{◌≡◌, ◌<◌, ◌≤◌, ◌+◌, ◌^◌, false, negsuc, None, Some, IfSome, IsSome, IsTrue, length, option_map, IfOk, true, OnErr, OnOk};
 ghost use Rattle.execlist.specs.{Lists.home, Pool.slot};
 ghost use Rattle.iorequest.specs.{declared.request.ReqState.TheVariants.Replied, Request.finished, Request.idle_request, Request.is_opened, Request.is_under_way, Request.reply_port, Request.time_of, Requests.closed, Requests.is_request, Requests.opened, Requests.request_at, Requests.unit_error, Requests.with_request, Requests.written_with};
@@ -87,7 +87,8 @@ impl<S: ListSpace> Objects<S> {
 
     // ---- opening and writing
 
-    /// Opens a request that is not in progress for a unit of the timer, none if another device is meant, and answers the error.
+    /// Opens a request that is not in progress for a unit of the timer, none if another device is meant, and answers
+    /// the error.
     ///
     /// Source: autodoc exec.library/OpenDevice.
     pub fn open_request(&mut self, r: ReqId, unit: Option<u32>) -> i8
@@ -203,8 +204,8 @@ impl<S: ListSpace> Objects<S> {
         )
     }
 
-    /// Ends the first request whose time has come, if there is one, with error 0, and answers its number and what is to be done for its
-    /// reply.
+    /// Ends the first request whose time has come, if there is one, with error 0, and answers its number and what is to
+    /// be done for its reply.
     ///
     /// Source: RKM Devices, timer device: TR_ADDREQUEST.
     pub fn finish_due(&mut self) -> Option<(ReqId, Action)>
@@ -291,8 +292,8 @@ impl<S: ListSpace> Objects<S> {
 
     // ---- the clock, and system time
 
-    /// Clock and system time gain the microseconds of a tick. The clock stays so far below 2 to the power 64 that system time
-    /// and the longest time of a request can be added to it, which are less than 2 to the power 54.
+    /// Clock and system time gain the microseconds of a tick. The clock stays so far below 2 to the power 64 that
+    /// system time and the longest time of a request can be added to it, which are less than 2 to the power 54.
     ///
     /// Source: RKM Devices, timer device: UNIT_VBLANK; that ticks alone move the clock is a project rule.
     pub fn tick(&mut self)
@@ -355,7 +356,8 @@ impl<S: ListSpace> Objects<S> {
         if queued { Err(Refusal::Link) } else { Ok(r) }
     }
 
-    /// The request that begins at an address, which may begin but for its reply port: it is not in progress, open, and its reply is in no port.
+    /// The request that begins at an address, which may begin but for its reply port: it is not in progress, open, and
+    /// its reply is in no port.
     fn request_to_begin(&self, request: u32) -> Result<ReqId, Refusal>
         ensures alert { alert_of result ≡ model.begin_alert None request (shown_heap self.now) }
         ensures found { IfOk result (λ r. slot (places variant.Request self.now) r ≡ Some request) }
@@ -394,8 +396,8 @@ impl<S: ListSpace> Objects<S> {
         Ok(r)
     }
 
-    /// The request that begins at an address and that a task may do: it may begin, and its reply port signals the task by the signal of the number
-    /// that is answered.
+    /// The request that begins at an address and that a task may do: it may begin, and its reply port signals the task
+    /// by the signal of the number that is answered.
     pub fn request_to_do(&self, task: TaskId, request: u32) -> Result<(ReqId, u32), Refusal>
         ensures alert { alert_of result ≡ model.do_alert task request (shown_heap self.now) }
         ensures found { IfOk result (λ pair. slot (places variant.Request self.now) pair.0 ≡ Some request) }
@@ -413,8 +415,9 @@ impl<S: ListSpace> Objects<S> {
         Ok((r, bit))
     }
 
-    /// The request that begins at an address and that a task may wait for: it was begun; if it is in progress, its reply port signals the task, by
-    /// the signal of the number that is answered; if it is replied, its reply is in a port.
+    /// The request that begins at an address and that a task may wait for: it was begun; if it is in progress, its
+    /// reply port signals the task, by the signal of the number that is answered; if it is replied, its reply is in a
+    /// port.
     pub fn request_to_wait_for(&self, task: TaskId, request: u32) -> Result<(ReqId, u32), Refusal>
         ensures alert { alert_of result ≡ model.wait_io_alert task request (shown_heap self.now) }
         ensures found { IfOk result (λ pair. slot (places variant.Request self.now) pair.0 ≡ Some request) }
@@ -457,8 +460,8 @@ impl<S: ListSpace> Objects<S> {
     }
 }
 
-/// Finishes a request that is in progress with an error, puts its message as a reply at its reply port, if it has one that lives and is not
-/// done quick, and answers what is to be done for it. The message is not held any more.
+/// Finishes a request that is in progress with an error, puts its message as a reply at its reply port, if it has one
+/// that lives and is not done quick, and answers what is to be done for it. The message is not held any more.
 fn finish<S: ListSpace>(
     table: &Table<S>,
     requests: &mut Requests,
@@ -512,8 +515,8 @@ impl<S: ListSpace> Heap<S> {
         self.objects.number_at(Kind::Request, request).is_some()
     }
 
-    /// Frees a request. It is refused if no request begins at the address (Handle), if it is in progress (Io), and if its reply is
-    /// queued (Link). Autodoc exec.library/DeleteIORequest; the refusals: project rule.
+    /// Frees a request. It is refused if no request begins at the address (Handle), if it is in progress (Io), and if
+    /// its reply is queued (Link). Autodoc exec.library/DeleteIORequest; the refusals: project rule.
     pub fn delete_request(&mut self, request: u32) -> Result<(), Refusal>
         ensures alert { alert_of result ≡ model.delete_request_alert request self.old.heap }
         ensures next { OnOk result (self.new ≡ freed request self.old) }
@@ -526,9 +529,9 @@ impl<S: ListSpace> Heap<S> {
 
     // ---- opening and writing
 
-    /// Opens a request for a unit of timer.device, none if another device is meant, and answers the error, which the request has then: 0, or
-    /// IOERR_OPENFAIL (-1), and it is then not open. It is refused if no request begins at the address (Handle), and if it is in progress
-    /// (Io). Autodoc exec.library/OpenDevice; the refusals: project rule.
+    /// Opens a request for a unit of timer.device, none if another device is meant, and answers the error, which the
+    /// request has then: 0, or IOERR_OPENFAIL (-1), and it is then not open. It is refused if no request begins at the
+    /// address (Handle), and if it is in progress (Io). Autodoc exec.library/OpenDevice; the refusals: project rule.
     pub fn open_device(&mut self, request: u32, unit: Option<u32>) -> Result<i8, Refusal>
         ensures alert { alert_of result ≡ model.resting_alert request self.old.heap }
         ensures answer { IfOk result (λ error. error ≡ unit_error unit) }
@@ -539,8 +542,8 @@ impl<S: ListSpace> Heap<S> {
         Ok(self.objects.open_request(r, unit))
     }
 
-    /// Leaves a request not open. It is refused if no request begins at the address (Handle), and if it is in progress (Io). Autodoc
-    /// exec.library/CloseDevice; the refusals: project rule.
+    /// Leaves a request not open. It is refused if no request begins at the address (Handle), and if it is in progress
+    /// (Io). Autodoc exec.library/CloseDevice; the refusals: project rule.
     pub fn close_device(&mut self, request: u32) -> Result<(), Refusal>
         ensures alert { alert_of result ≡ model.resting_alert request self.old.heap }
         ensures next { OnOk result (self.new ≡ on_heap (model.closed_device request) self.old) }
@@ -551,9 +554,9 @@ impl<S: ListSpace> Heap<S> {
         Ok(())
     }
 
-    /// Gives a request a command and a time in seconds and microseconds. It is refused if no request begins at the address (Handle), and
-    /// if it is in progress (Io). RKM Devices, Introduction to Amiga System Devices: `io_Command`; Devices, timer device: `tr_time`; the
-    /// refusals: project rule.
+    /// Gives a request a command and a time in seconds and microseconds. It is refused if no request begins at the
+    /// address (Handle), and if it is in progress (Io). RKM Devices, Introduction to Amiga System Devices:
+    /// `io_Command`; Devices, timer device: `tr_time`; the refusals: project rule.
     pub fn set_request(
         &mut self,
         request: u32,
@@ -572,10 +575,11 @@ impl<S: ListSpace> Heap<S> {
 
     // ---- beginning
 
-    /// Begins a request with IOF_QUICK cleared, and answers what is to be done for its reply, if it is done at once; else it waits for its
-    /// time. TR_SETSYSTIME is done at once, and system time is then the time of the request. It is refused if no request begins at the
-    /// address (Handle), if it is in progress or not open (Io), if its reply is queued (Link), and if its reply port does not live
-    /// (Handle). Autodocs exec.library/SendIO and timer.device: TR_SETSYSTIME; the refusals: project rule.
+    /// Begins a request with IOF_QUICK cleared, and answers what is to be done for its reply, if it is done at once;
+    /// else it waits for its time. TR_SETSYSTIME is done at once, and system time is then the time of the request. It
+    /// is refused if no request begins at the address (Handle), if it is in progress or not open (Io), if its reply is
+    /// queued (Link), and if its reply port does not live (Handle). Autodocs exec.library/SendIO and timer.device:
+    /// TR_SETSYSTIME; the refusals: project rule.
     pub fn send_request(&mut self, request: u32) -> Result<Action, Refusal>
         ensures alert { alert_of result ≡ model.send_alert request self.old.heap }
         ensures answer { IfOk result (λ action. action ≡ acting_begun false request self.old) }
@@ -586,9 +590,10 @@ impl<S: ListSpace> Heap<S> {
         Ok(self.objects.begin_request(r, false))
     }
 
-    /// Begins a request with IOF_QUICK set, and answers its error, if it is done at once; else it waits for its time, and the answer is the
-    /// number of the signal by which its reply port notifies the task (0 to 31). It is refused as by `send_request`, and if the reply port does
-    /// not signal the task (Port). Autodoc exec.library/DoIO; the refusals: project rule.
+    /// Begins a request with IOF_QUICK set, and answers its error, if it is done at once; else it waits for its time,
+    /// and the answer is the number of the signal by which its reply port notifies the task (0 to 31). It is refused as
+    /// by `send_request`, and if the reply port does not signal the task (Port). Autodoc exec.library/DoIO; the
+    /// refusals: project rule.
     pub fn do_request(&mut self, task: TaskId, request: u32) -> Result<Awaited, Refusal>
         ensures alert { alert_of result ≡ model.do_alert task request self.old.heap }
         ensures answer { IfOk result (λ answer. answer ≡ awaited_for request self.new.heap) }
@@ -603,8 +608,8 @@ impl<S: ListSpace> Heap<S> {
 
     // ---- waiting and aborting
 
-    /// Answers whether a request is in progress. It is refused if no request begins at the address (Handle). Autodoc exec.library/CheckIO; the
-    /// refusal: project rule.
+    /// Answers whether a request is in progress. It is refused if no request begins at the address (Handle). Autodoc
+    /// exec.library/CheckIO; the refusal: project rule.
     pub fn is_under_way(&self, request: u32) -> Result<bool, Refusal>
         ensures alert { alert_of result ≡ model.request_alert request self.now.heap }
         ensures answer { IfOk result (λ answer. answer ≡ is_under_way (model.request_of request self.now.heap)) }
@@ -613,10 +618,11 @@ impl<S: ListSpace> Heap<S> {
         Ok(self.objects.is_under_way(r))
     }
 
-    /// Answers the error of a request that is done, and takes its reply, if it has one, out of its reply port; for one that is in progress the
-    /// number of the signal by which its reply port notifies the task (0 to 31). It is refused if no request begins at the address (Handle),
-    /// if it never was begun (Io), if it is replied and its reply is not queued (Link), and if it is in progress and its reply port does
-    /// not signal the task (Port). Autodoc exec.library/WaitIO; the refusals: project rule.
+    /// Answers the error of a request that is done, and takes its reply, if it has one, out of its reply port; for one
+    /// that is in progress the number of the signal by which its reply port notifies the task (0 to 31). It is refused
+    /// if no request begins at the address (Handle), if it never was begun (Io), if it is replied and its reply is not
+    /// queued (Link), and if it is in progress and its reply port does not signal the task (Port). Autodoc
+    /// exec.library/WaitIO; the refusals: project rule.
     pub fn wait_for_request(&mut self, task: TaskId, request: u32) -> Result<Awaited, Refusal>
         ensures alert { alert_of result ≡ model.wait_io_alert task request self.old.heap }
         ensures answer { IfOk result (λ answer. answer ≡ awaited_for request self.old.heap) }
@@ -629,8 +635,9 @@ impl<S: ListSpace> Heap<S> {
         Ok(self.objects.looked_for(r, bit))
     }
 
-    /// Ends a request that is in progress with IOERR_ABORTED (-2), and answers what is to be done for its reply; none, and nothing changes, if
-    /// it is not in progress. It is refused if no request begins at the address (Handle). Autodoc exec.library/AbortIO; the refusal: project rule.
+    /// Ends a request that is in progress with IOERR_ABORTED (-2), and answers what is to be done for its reply; none,
+    /// and nothing changes, if it is not in progress. It is refused if no request begins at the address (Handle).
+    /// Autodoc exec.library/AbortIO; the refusal: project rule.
     pub fn abort_request(&mut self, request: u32) -> Result<Option<Action>, Refusal>
         ensures alert { alert_of result ≡ model.request_alert request self.old.heap }
         ensures answer { IfOk result (λ answer. answer ≡ aborting request self.old.heap) }
@@ -647,8 +654,8 @@ impl<S: ListSpace> Heap<S> {
 
     // ---- what a request holds
 
-    /// Answers the seconds of the time of a request. It is refused if no request begins at the address (Handle). Devices, timer device:
-    /// `tr_time`; the refusal: project rule.
+    /// Answers the seconds of the time of a request. It is refused if no request begins at the address (Handle).
+    /// Devices, timer device: `tr_time`; the refusal: project rule.
     pub fn secs(&self, request: u32) -> Result<u32, Refusal>
         ensures alert { alert_of result ≡ model.request_alert request self.now.heap }
         ensures answer { IfOk result (λ secs. secs ≡ (model.request_of request self.now.heap).secs) }
@@ -657,7 +664,8 @@ impl<S: ListSpace> Heap<S> {
         Ok(self.objects.requests().secs(r))
     }
 
-    /// Answers the microseconds of the time of a request. It is refused as `secs`. Devices, timer device: `tr_time`; the refusal: project rule.
+    /// Answers the microseconds of the time of a request. It is refused as `secs`. Devices, timer device: `tr_time`;
+    /// the refusal: project rule.
     pub fn micros(&self, request: u32) -> Result<u32, Refusal>
         ensures alert { alert_of result ≡ model.request_alert request self.now.heap }
         ensures answer { IfOk result (λ micros. micros ≡ (model.request_of request self.now.heap).micros) }
@@ -666,8 +674,8 @@ impl<S: ListSpace> Heap<S> {
         Ok(self.objects.requests().micros(r))
     }
 
-    /// Answers the error of a request: 0, IOERR_OPENFAIL (-1), IOERR_ABORTED (-2) or IOERR_NOCMD (-3). It is refused as `secs`. RKM Devices,
-    /// Introduction to Amiga System Devices: `io_Error`; the refusal: project rule.
+    /// Answers the error of a request: 0, IOERR_OPENFAIL (-1), IOERR_ABORTED (-2) or IOERR_NOCMD (-3). It is refused as
+    /// `secs`. RKM Devices, Introduction to Amiga System Devices: `io_Error`; the refusal: project rule.
     pub fn error(&self, request: u32) -> Result<i8, Refusal>
         ensures alert { alert_of result ≡ model.request_alert request self.now.heap }
         ensures answer { IfOk result (λ error. error ≡ (model.request_of request self.now.heap).error) }
@@ -676,8 +684,8 @@ impl<S: ListSpace> Heap<S> {
         Ok(self.objects.requests().error(r))
     }
 
-    /// Answers whether IOF_QUICK of a request is set. It is refused as `secs`. RKM Devices, Introduction to Amiga System Devices: `io_Flags`; the
-    /// refusal: project rule.
+    /// Answers whether IOF_QUICK of a request is set. It is refused as `secs`. RKM Devices, Introduction to Amiga
+    /// System Devices: `io_Flags`; the refusal: project rule.
     pub fn quick(&self, request: u32) -> Result<bool, Refusal>
         ensures alert { alert_of result ≡ model.request_alert request self.now.heap }
         ensures answer { IfOk result (λ quick. quick ≡ (model.request_of request self.now.heap).quick) }
@@ -688,8 +696,9 @@ impl<S: ListSpace> Heap<S> {
 
     // ---- the clock, and system time
 
-    /// Clock and system time gain the microseconds of a tick. The clock stays 2 to the power 54 below 2 to the power 64, so that system time
-    /// and the longest time of a request can be added. Devices, timer device; project rule: both count ticks alone.
+    /// Clock and system time gain the microseconds of a tick. The clock stays 2 to the power 54 below 2 to the power
+    /// 64, so that system time and the longest time of a request can be added. Devices, timer device; project rule:
+    /// both count ticks alone.
     pub fn tick(&mut self)
         requires { self.old.timer.clock + self.old.timer.tick_micros + 2 ^ 54 ≤ 2 ^ 64 }
         ensures { self.new ≡ on_timer clock_ticked self.old }
@@ -697,7 +706,8 @@ impl<S: ListSpace> Heap<S> {
         self.objects.tick();
     }
 
-    /// Answers whether system time was set since this was asked last, so that those that wait for it are to be looked at. Project rule.
+    /// Answers whether system time was set since this was asked last, so that those that wait for it are to be looked
+    /// at. Project rule.
     pub fn take_setting(&mut self) -> bool
         ensures answer { result ≡ self.old.timer.is_set }
         ensures next { self.new ≡ on_timer looked_at self.old }
@@ -705,9 +715,10 @@ impl<S: ListSpace> Heap<S> {
         self.objects.take_setting()
     }
 
-    /// Finishes the first request whose time has come, with error 0, and answers its address and what is to be done for its reply; none if
-    /// no time has come. First is the one of the first due time, and of those of one due time the one that was begun first; the due time of a
-    /// request that waits for system time is that time less how far system time is ahead of the clock now. Devices, timer device: TR_ADDREQUEST.
+    /// Finishes the first request whose time has come, with error 0, and answers its address and what is to be done for
+    /// its reply; none if no time has come. First is the one of the first due time, and of those of one due time the
+    /// one that was begun first; the due time of a request that waits for system time is that time less how far system
+    /// time is ahead of the clock now. Devices, timer device: TR_ADDREQUEST.
     pub fn finish_due(&mut self) -> Option<(u32, Action)>
         ensures answer { result ≡ finishing self.old.heap (due_next self.old.timer) }
         ensures next { self.new ≡ ended_if (due_next self.old.timer) self.old }
@@ -717,8 +728,9 @@ impl<S: ListSpace> Heap<S> {
         Some((self.objects.address_of(Kind::Request, r), action))
     }
 
-    /// Finishes, with error 0, the first request that waits for system time and whose time has come, and answers its address and what is to
-    /// be done for its reply; none if there is none. Autodoc timer.device: TR_SETSYSTIME; Devices, timer device: UNIT_WAITUNTIL.
+    /// Finishes, with error 0, the first request that waits for system time and whose time has come, and answers its
+    /// address and what is to be done for its reply; none if there is none. Autodoc timer.device: TR_SETSYSTIME;
+    /// Devices, timer device: UNIT_WAITUNTIL.
     pub fn finish_until(&mut self) -> Option<(u32, Action)>
         ensures answer { result ≡ finishing self.old.heap (until_next self.old.timer) }
         ensures next { self.new ≡ ended_if (until_next self.old.timer) self.old }

@@ -10,7 +10,8 @@ use memlist::Region;
 use script::LibraryRecord;
 
 impl<S: ListSpace> Objects<S> {
-    /// Whether the memory has these regions, room for that many objects of each kind and for that many tasks, and these libraries.
+    /// Whether the memory has these regions, room for that many objects of each kind and for that many tasks, and these
+    /// libraries.
     ///
     /// Source: project rule.
     pub fn is_as_large(

@@ -136,7 +136,8 @@ impl<S: ListSpace> Heap<S> {
         self.objects.make_semaphore()
     }
 
-    /// Frees a semaphore. It is refused if no semaphore begins at the address (Handle), and if a task owns it (Sem); project rule.
+    /// Frees a semaphore. It is refused if no semaphore begins at the address (Handle), and if a task owns it (Sem);
+    /// project rule.
     pub fn free_semaphore(&mut self, semaphore: u32) -> Result<(), Refusal>
         ensures alert { alert_of result ≡ model.free_sem_alert semaphore self.old.heap }
         ensures next { OnOk result (self.new ≡ freed semaphore self.old) }
@@ -149,9 +150,9 @@ impl<S: ListSpace> Heap<S> {
 
     // ---- obtaining and releasing
 
-    /// Asks for a semaphore for one of the tasks, which waits for none. A free one is the task's, with the count 1; the owner's count is
-    /// one more; any other task waits, after those that asked before. Answers which of these came of it. It is refused if no semaphore
-    /// begins at the address (Handle), and if the count would go past 32767 (Sem).
+    /// Asks for a semaphore for one of the tasks, which waits for none. A free one is the task's, with the count 1; the
+    /// owner's count is one more; any other task waits, after those that asked before. Answers which of these came of
+    /// it. It is refused if no semaphore begins at the address (Handle), and if the count would go past 32767 (Sem).
     /// Autodoc exec.library/ObtainSemaphore; the refusals: project rule.
     pub fn obtain_semaphore(&mut self, task: TaskId, semaphore: u32) -> Result<Obtained, Refusal>
         requires task { task < self.old.tasks }
@@ -165,9 +166,9 @@ impl<S: ListSpace> Heap<S> {
         as_refusal(self.objects.obtain(n, task))
     }
 
-    /// Asks for a semaphore for a task that is not to wait, and answers whether it has it: if it would have to wait, nothing changes. It
-    /// is refused if no semaphore begins at the address (Handle), and if the count would go past 32767 (Sem).
-    /// Autodoc exec.library/AttemptSemaphore; the refusals: project rule.
+    /// Asks for a semaphore for a task that is not to wait, and answers whether it has it: if it would have to wait,
+    /// nothing changes. It is refused if no semaphore begins at the address (Handle), and if the count would go past
+    /// 32767 (Sem). Autodoc exec.library/AttemptSemaphore; the refusals: project rule.
     pub fn attempt_semaphore(&mut self, task: TaskId, semaphore: u32) -> Result<bool, Refusal>
         ensures alert { alert_of result ≡ model.obtain_alert task semaphore self.old.heap }
         ensures answer { IfOk result (λ has. has ≡ is_free_for task (model.sem_of semaphore self.old.heap)) }
@@ -178,10 +179,11 @@ impl<S: ListSpace> Heap<S> {
         as_refusal(self.objects.attempt(n, task))
     }
 
-    /// Releases a semaphore once, for its owner. The last release hands it on: the first of the tasks that wait there waits no more and is
-    /// the owner with the count 1, and if none waits no task owns it. Answers the new owner, or none if the owner stays or no task is
-    /// the owner any more. It is refused if no semaphore begins at the address (Handle), and if the task does not own it (Sem).
-    /// Autodoc exec.library/ReleaseSemaphore; the refusals: project rule.
+    /// Releases a semaphore once, for its owner. The last release hands it on: the first of the tasks that wait there
+    /// waits no more and is the owner with the count 1, and if none waits no task owns it. Answers the new owner, or
+    /// none if the owner stays or no task is the owner any more. It is refused if no semaphore begins at the address
+    /// (Handle), and if the task does not own it (Sem). Autodoc exec.library/ReleaseSemaphore; the refusals: project
+    /// rule.
     pub fn release_semaphore(
         &mut self,
         task: TaskId,
@@ -196,7 +198,8 @@ impl<S: ListSpace> Heap<S> {
         as_refusal(self.objects.release(n, task))
     }
 
-    /// One of the tasks waits for no semaphore any more; the others keep their order. Project rule: a task that waits may be removed.
+    /// One of the tasks waits for no semaphore any more; the others keep their order. Project rule: a task that waits
+    /// may be removed.
     pub fn drop_waiter(&mut self, task: TaskId)
         requires { task < self.old.tasks }
         ensures { self.new ≡ on_heap (model.dropped task) self.old }

@@ -202,8 +202,8 @@ fn step_for(last: u32) -> Px {
     }
 }
 
-/// Where each part of the picture of a scene is, with the places of the objects that have a row. `longest` is how many characters the longest
-/// call has.
+/// Where each part of the picture of a scene is, with the places of the objects that have a row. `longest` is how many
+/// characters the longest call has.
 pub(super) fn plan_of<'a>(scene: &Scene<'_>, objects: &'a [usize], longest: usize) -> Plan<'a> {
     let many = scene.file.machine.tasks().len();
     let dense = many >= MANY_TASKS;

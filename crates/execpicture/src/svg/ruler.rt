@@ -17,7 +17,8 @@ struct Lanes {
 }
 
 impl Lanes {
-    /// Puts a label into the lowest line in which it has room, and answers how far that is above the lowest; none if it has room in none.
+    /// Puts a label into the lowest line in which it has room, and answers how far that is above the lowest; none if it
+    /// has room in none.
     fn put(&mut self, from: Px, to: Px) -> Option<Px> {
         if from.is_above(self.first) {
             self.first = to;

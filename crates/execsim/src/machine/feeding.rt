@@ -1,5 +1,6 @@
-//! A machine whose bodies grow while it runs: a command is fed to a task, at the end of its body, and a caller sees when a task comes to the end of
-//! its body. The laws `execmodel::feeding` say that what comes of it is what comes of the machine whose bodies are whole from the start.
+//! A machine whose bodies grow while it runs: a command is fed to a task, at the end of its body, and a caller sees
+//! when a task comes to the end of its body. The laws `execmodel::feeding` say that what comes of it is what comes of
+//! the machine whose bodies are whole from the start.
 ghost use Rattle.std.specs.Prelude.{◌≡◌, OnErr, OnOk};
 ghost use Rattle.script.specs.Commands.{command_view};
 ghost use Rattle.execmodel.specs.{Calls.next_call, Feeding.at_end, Feeding.fed, Feeding.fed_to, Feeding.if_no_call, Feeding.without_call, State.State};
@@ -13,9 +14,10 @@ use std::alloc::AllocError;
 use taskq::TaskId;
 
 impl<S: ListSpace> Machine<S> {
-    /// Feeds a command to a task, by its number from 0 in the order of the file: it becomes the last one of the task's body. Nothing changes if there
-    /// is no such task. A task that is at the end of its body then goes on with it. The command jumps nowhere, and has no variable, as `read_fed` of
-    /// `taskscript` reads it, so it is the same in each body.
+    /// Feeds a command to a task, by its number from 0 in the order of the file: it becomes the last one of the task's
+    /// body. Nothing changes if there is no such task. A task that is at the end of its body then goes on with it. The
+    /// command jumps nowhere, and has no variable, as `read_fed` of `taskscript` reads it, so it is the same in each
+    /// body.
     ///
     /// # Errors
     ///
@@ -31,8 +33,9 @@ impl<S: ListSpace> Machine<S> {
         self.kernel.feed(t, command)
     }
 
-    /// Answers the task that the next step finds at the end of its body: it runs, no software interrupt runs first, it waits in no call, and none of
-    /// its commands is left. That step ends the task, unless it is fed before. None if the next step finds no task so.
+    /// Answers the task that the next step finds at the end of its body: it runs, no software interrupt runs first, it
+    /// waits in no call, and none of its commands is left. That step ends the task, unless it is fed before. None if
+    /// the next step finds no task so.
     ///
     /// Source: project rule.
     pub fn at_end(&self) -> Option<TaskId>

@@ -9,8 +9,8 @@ use exectrace::sinks::written;
 use exectrace::{Sink, WriteFault};
 
 impl<S: ListSpace> Machine<S> {
-    /// Writes how the tasks are: `NAME runs` or `idle`, and for each task that waits, in the order of the file, the line of the call that it
-    /// waits in. Nothing of the machine changes.
+    /// Writes how the tasks are: `NAME runs` or `idle`, and for each task that waits, in the order of the file, the
+    /// line of the call that it waits in. Nothing of the machine changes.
     ///
     /// # Errors
     ///
