@@ -2,7 +2,7 @@
 use Rattle.std.proofs.Common.{◌≡◌, ℕ, zero, suc, List, Bool, true, false, map, refl, ap, sym, ◌∙◌, Option, None, Some, codes, is_some, not, if◌then◌else◌, unwrap_or, IsSome, option_map}
 use Rattle.std.specs.Option.{ForSome}
 use Rattle.execlist.specs.{Order.first, Lists.home, Lists.part_after, Lists.sequence, Pool.slot}
-use Rattle.execmodel.specs.Lists.{find_alert, free_list_alert, free_node_alert, insert_alert, link_alert, linked_alert, list_alert, is_linked, is_list_at, is_node_at, is_pred_at, is_pred_in, nodes_of, pred_alert, predecessor, searched, sequence_with, stands_in}
+use Rattle.execmodel.specs.Lists.{find_alert, free_list_alert, free_node_alert, insert_alert, link_alert, linked_alert, list_alert, is_linked, is_list_at, is_node_at, is_pred_at, is_pred_in, nodes_of, pred_alert, predecessor, searched, sequence_with, is_in_nodes}
 use Rattle.execmodel.specs.State.{Heap}
 use Rattle.execheap.specs.declared.tag.Kind.TheVariants as variant
 use Rattle.execheap.specs.{Numbered.Numbered, Numbered.IsSoundHeap, Numbered.IsSpace, Numbered.address_in, Numbered.shown_heap, Numbered.places, Table.number_at, Refusals.is_none_or_in}
@@ -199,8 +199,8 @@ module _ {s : Numbered} (sound : IsSoundHeap s) (space : IsSpace s) (list h : �
   pred_in_shown None found live = refl
   pred_in_shown (Some m) found live =
       let lives = some_is (slot (places variant.Node s) m) (live m refl) in
-      ap (stands_in (address_in (places variant.Node s) m)) (nodes_shown s list h found)
-      ∙ ap (λ a. stands_in a (map (address_in (places variant.Node s)) (sequence s.sequences h))) (ap (λ o. unwrap_or o 0) lives.1)
+      ap (is_in_nodes (address_in (places variant.Node s) m)) (nodes_shown s list h found)
+      ∙ ap (λ a. is_in_nodes a (map (address_in (places variant.Node s)) (sequence s.sequences h))) (ap (λ o. unwrap_or o 0) lives.1)
       ∙ stands_shown sound space h m lives.0 lives.1
 
   -- if the list, the node and the predecessor are there, and the node is not linked, the predecessor has to be in the list

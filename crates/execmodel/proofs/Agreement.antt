@@ -7,7 +7,7 @@ use Rattle.taskq.specs.{Tasks.state_at, Tasks.is_ready, Tasks.is_live, declared.
 use Rattle.scheduler.specs.Schedule.{Schedule, status_of, signals_of, is_absent, is_at_semaphore, awaits, departs, begins, task_removed, renewed, switch_for, takes_over, is_switching_allowed, is_quantum_over, waits_at_semaphore, with_signals}
 use Rattle.scheduler.specs.{declared.Switch.TheVariants.To, declared.Switch.TheVariants.Idle, Dispatch.arrives, Dispatch.added, Dispatch.displaced, Dispatch.after_switch, Dispatch.switch_of, Dispatch.rescheduled, Dispatch.signalled, Sound.is_running}
 use Rattle.signals.specs.Signals.{after_post}
-use Rattle.execmodel.specs.{Agreement.once_if, Agreement.StandsInOne, Agreement.Agrees, Queues.Turn, Queues.Came, Queues.Served, Marks.turn_at}
+use Rattle.execmodel.specs.{Agreement.once_if, Agreement.IsInOneQueue, Agreement.Agrees, Queues.Turn, Queues.Came, Queues.Served, Marks.turn_at}
 use Rattle.execmodel.proofs.{Heaps.true_is_not_false, Queues.IsAway, Queues.Turns, Queues.Follows}
 
 -- ---- how often a task is in a sequence
@@ -97,7 +97,7 @@ all_absent (suc n) (suc t) = all_absent n t
 abbrev pub AllAgree : Schedule → (ℕ → List ℕ) → Type 0
 AllAgree s waiters = (t : ℕ) → Agrees t s waiters
 
-stands_same : (test : Bool) (t : ℕ) (q p : ℕ → List ℕ) → ((a : ℕ) → times t (p a) ≡ times t (q a)) → StandsInOne test t q → StandsInOne test t p
+stands_same : (test : Bool) (t : ℕ) (q p : ℕ → List ℕ) → ((a : ℕ) → times t (p a) ≡ times t (q a)) → IsInOneQueue test t q → IsInOneQueue test t p
 stands_same true t q p e stands = (stands.0, λ other. e other ∙ stands.1 other)
 stands_same false t q p e stands = λ other. e other ∙ stands other
 
@@ -107,16 +107,16 @@ pub untouched : (t : ℕ) (s r : Schedule) (q p : ℕ → List ℕ) → status_o
 untouched t s r q p status running ready queues old = record {
   runs = running ∙ old.runs ∙ sym (ap is_running status);
   ready = ready ∙ old.ready ∙ sym (ap (λ x. once_if (is_ready x)) status);
-  waits = subst (λ x. StandsInOne (is_at_semaphore x) t p) (sym status) (stands_same (is_at_semaphore (status_of s t)) t q p queues old.waits);
+  waits = subst (λ x. IsInOneQueue (is_at_semaphore x) t p) (sym status) (stands_same (is_at_semaphore (status_of s t)) t q p queues old.waits);
 }
 
 -- a task of a known state
 stands : (t : ℕ) (s : Schedule) (q : ℕ → List ℕ) (x : TaskState) → status_of s t ≡ x → is_at s.running t ≡ is_running x
-    → times t s.queue.ready ≡ once_if (is_ready x) → StandsInOne (is_at_semaphore x) t q → Agrees t s q
+    → times t s.queue.ready ≡ once_if (is_ready x) → IsInOneQueue (is_at_semaphore x) t q → Agrees t s q
 stands t s q x status running ready queues = record {
   runs = running ∙ sym (ap is_running status);
   ready = ready ∙ sym (ap (λ y. once_if (is_ready y)) status);
-  waits = subst (λ y. StandsInOne (is_at_semaphore y) t q) (sym status) queues;
+  waits = subst (λ y. IsInOneQueue (is_at_semaphore y) t q) (sym status) queues;
 }
 
 -- ---- what a known state reports
@@ -151,8 +151,8 @@ ready_at : (t : ℕ) (s : Schedule) (q : ℕ → List ℕ) (x : TaskState) → s
     → times t s.queue.ready ≡ once_if (is_ready x)
 ready_at t s q x status old = old.ready ∙ ap (λ y. once_if (is_ready y)) status
 
-pub waits_at : (t : ℕ) (s : Schedule) (q : ℕ → List ℕ) (x : TaskState) → status_of s t ≡ x → Agrees t s q → StandsInOne (is_at_semaphore x) t q
-waits_at t s q x status old = subst (λ y. StandsInOne (is_at_semaphore y) t q) status old.waits
+pub waits_at : (t : ℕ) (s : Schedule) (q : ℕ → List ℕ) (x : TaskState) → status_of s t ≡ x → Agrees t s q → IsInOneQueue (is_at_semaphore x) t q
+waits_at t s q x status old = subst (λ y. IsInOneQueue (is_at_semaphore y) t q) status old.waits
 
 -- the running task has the state Running
 pub running_state : (t : ℕ) (s : Schedule) (q : ℕ → List ℕ) → s.running ≡ Some t → Agrees t s q → status_of s t ≡ Running
@@ -184,7 +184,7 @@ no_more t k q apart =
 
 -- a task that neither runs nor is ready, and is in no queue any more
 pub arrives_agrees : (k : ℕ) (s : Schedule) (q p : ℕ → List ℕ) (x : TaskState) → status_of s k ≡ x → k < length s.queue.states
-    → is_running x ≡ false → is_ready x ≡ false → StandsInOne false k p → ((j a : ℕ) → j ≢ k → times j (p a) ≡ times j (q a))
+    → is_running x ≡ false → is_ready x ≡ false → IsInOneQueue false k p → ((j a : ℕ) → j ≢ k → times j (p a) ≡ times j (q a))
     → AllAgree s q → AllAgree (arrives by_arrival k s) p
 unfolding arrives
 arrives_agrees k s q p x status range idle unready none others old t =
@@ -217,7 +217,7 @@ absent_agrees t s q status none unready nowhere = stands t s q Absent status (ap
 
 pub stops_agrees : (t : ℕ) (x : TaskState) (s r : Schedule) (q p : ℕ → List ℕ) → s.running ≡ Some t
     → r.queue.states ≡ slice_set s.queue.states t x → r.queue.ready ≡ s.queue.ready → r.running ≡ None → is_running x ≡ false → is_ready x ≡ false
-    → StandsInOne (is_at_semaphore x) t p → ((j a : ℕ) → j ≢ t → times j (p a) ≡ times j (q a)) → AllAgree s q → AllAgree r p
+    → IsInOneQueue (is_at_semaphore x) t p → ((j a : ℕ) → j ≢ t → times j (p a) ≡ times j (q a)) → AllAgree s q → AllAgree r p
 stops_agrees t x s r q p runs states ready none idle unready queues others old j =
     let status = running_state t s q runs (old t) in
     cases_eq j t
@@ -372,7 +372,7 @@ removed_agrees k t s q p runs apart queues old j =
     (λ here. subst (λ i. Agrees i (task_removed k s) p) (sym here) (record {
       runs = not_running t k s runs apart ∙ sym (set_state s.queue.states k Removed is_running refl refl);
       ready = times_gone k s.queue.ready ∙ sym (ap once_if (set_state s.queue.states k Removed is_ready refl refl));
-      waits = subst (λ b. StandsInOne b k p) (sym (set_state s.queue.states k Removed is_at_semaphore refl refl))
+      waits = subst (λ b. IsInOneQueue b k p) (sym (set_state s.queue.states k Removed is_at_semaphore refl refl))
           (λ a. ap (λ l. times k l) (queues a) ∙ times_gone k (q a));
     }))
     (λ other. untouched j s (task_removed k s) q p (set_there s.queue.states k j Removed other) refl (times_others j k s.queue.ready other)
@@ -411,19 +411,19 @@ asks_agrees semaphore t s q p runs follows old =
     (λ other. ap (λ l. times j l) (there a other))) old
 
 -- one who is in a queue waits for a semaphore, that one
-pub waits_there : (b : Bool) (t : ℕ) (q : ℕ → List ℕ) (a : ℕ) → StandsInOne b t q → 0 < times t (q a) → b ≡ true
+pub waits_there : (b : Bool) (t : ℕ) (q : ℕ → List ℕ) (a : ℕ) → IsInOneQueue b t q → 0 < times t (q a) → b ≡ true
 waits_there true t q a one h = refl
 waits_there false t q a one h = let none = one a in absurd (omega (arith, none, h))
 
 -- and is in no other
-pub only_there : (b : Bool) (t : ℕ) (q : ℕ → List ℕ) (a : ℕ) → StandsInOne b t q → 0 < times t (q a) → (c : ℕ) → c ≢ a → times t (q c) ≡ 0
+pub only_there : (b : Bool) (t : ℕ) (q : ℕ → List ℕ) (a : ℕ) → IsInOneQueue b t q → 0 < times t (q a) → (c : ℕ) → c ≢ a → times t (q c) ≡ 0
 only_there true t q a one h c apart =
     cases_eq a one.0
     (λ same. one.1 c ∙ ap once_if (nat_eq-other c one.0 (λ e. apart (e ∙ sym same))))
     (λ other. let none = one.1 a ∙ ap once_if (nat_eq-other a one.0 other) in absurd (omega (arith, none, h)))
 only_there false t q a one h c apart = one c
 
-pub once_there : (b : Bool) (t : ℕ) (q : ℕ → List ℕ) (a : ℕ) → StandsInOne b t q → times t (q a) ≤ 1
+pub once_there : (b : Bool) (t : ℕ) (q : ℕ → List ℕ) (a : ℕ) → IsInOneQueue b t q → times t (q a) ≤ 1
 once_there true t q a one = subst (λ n. n ≤ 1) (sym (one.1 a)) (at_most (nat_eq a one.0))
   where
     at_most : (b : Bool) → once_if b ≤ 1

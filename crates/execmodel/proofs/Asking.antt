@@ -9,7 +9,7 @@ use Rattle.execmodel.specs.Requests.{is_request, is_request_at, request_of, with
 use Rattle.execmodel.specs.{Objects.replaced, Ports.is_port_at, Ports.messages_of, Ports.port_of, Ports.with_port, Ports.appended, Ports.performed, Agreement.once_if, Laws.times_waiting}
 use Rattle.exectrace.specs.Trace.{Timer as TimerLine}
 use Rattle.timerdev.specs.Timing.{sooner, next_of, due_next, until_next, waits_no_more}
-use Rattle.execmodel.proofs.Posts.{Post, ARequest, post_at, messages_at, asked_at, is_a_port, may_stand, IsTidy, messages_are, request_is, port_is, request_there, request_from, under_way_there, post_elsewhere, post_here}
+use Rattle.execmodel.proofs.Posts.{Post, ARequest, post_at, messages_at, asked_at, is_a_port, may_be_in, IsTidy, messages_are, request_is, port_is, request_there, request_from, under_way_there, post_elsewhere, post_here}
 use Rattle.execmodel.proofs.{Heaps.true_is_not_false, Agreement.times_last, Agreement.times_gone, Agreement.times_others, Agreement.first_stands, Agreement.later_stands, Commands.none_some, Commands.IsCalm, Commands.Reaches, Commands.performed_reaches, Commands.performed_memory, Commands.performed_scripts, Commands.settings_of, Queues.IsAway}
 
 -- a request is in no port
@@ -285,7 +285,7 @@ pub way_loose : (request : ℕ) (s : State) → IsTidy s → is_under_way (reque
 way_loose request s tidy under port =
     subst (λ messages. IsAway request messages) (sym (messages_are port s.memory.heap))
     (tidy.order.stands request port
-    (ap (may_stand port) (request_there request s.memory.heap (under_way_there request s.memory.heap under))
+    (ap (may_be_in port) (request_there request s.memory.heap (under_way_there request s.memory.heap under))
     ∙ ap (λ b. not b && nat_eq port (request_of request s.memory.heap).port) under))
 
 pub ended_asks : (error : ℤ) (request : ℕ) (s : State) → (IsTidy s → is_under_way (request_of request s.memory.heap) ≡ true)

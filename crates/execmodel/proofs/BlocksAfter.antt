@@ -15,7 +15,7 @@ use Rattle.script.specs.declared.word.semaphores.SemaphoreWord.TheVariants as se
 use Rattle.script.specs.declared.word.libraries.LibraryWord.TheVariants as libraries
 use Rattle.iorequest.specs.Request.{is_under_way}
 use Rattle.execmodel.specs.State.{Call, Object, Plain, ListHead, Node, MsgPort, Message, Semaphore, Library, Request, Block, Heap, Memory, Mark, asked, passed, left, State, Outcome, on_schedule, on_memory, on_heap}
-use Rattle.execmodel.specs.Ports.{is_port, is_message, is_port_at, is_message_at, port_size, port_created, makes_port, after_asking_for_port, messages_of, messages_of_object, with_action, is_queued, is_public, is_awaited_at, delete_alert, loose_alert, looked}
+use Rattle.execmodel.specs.Ports.{is_port, is_message, is_port_at, is_message_at, port_size, port_created, makes_port, after_asking_for_port, messages_of, messages_of_object, with_action, is_queued, is_public, is_awaited_at, delete_alert, unqueued_alert, looked}
 use Rattle.execmodel.specs.Semaphores.{awaited_by, dropped, entered, queued, handed_on, released_once, is_semaphore_at, waiters_of, free_sem_alert, is_semaphore, leaving_queue, obtain_alert, obtains, passes, release_alert, sem_of, sem_of_object}
 use Rattle.execmodel.specs.Libraries.{is_library_at, count_of, is_delayed, with_library, base_of, library_at, library_opened, ready_to_open, entered_or_loaded}
 use Rattle.execmodel.specs.{Calls.argument, Calls.done, Calls.answered, Calls.waiting, Calls.alerted, Signals.waited, Nesting.gives_nesting, Tasks.is_caller, Tasks.ends_other, Objects.object_at, Objects.is_kind, Objects.is_allowed, Objects.place_for_object, LowMemory.after_asking_for_object, Memory.extents, Memory.allocates_block, Memory.makes_object, Memory.placed, Memory.freed, Memory.place_for, Memory.is_named, Memory.is_plain, Lists.is_list, Lists.is_node, Lists.is_list_at, Lists.with_nodes, Lists.unlinked, Deeds.concluded}
@@ -287,11 +287,11 @@ message_goes None is = tt
 message_goes (Some (Message content)) is = tt
 message_goes (Some _) is = true_is_not_false (sym is)
 
-pub frees_message : (message : ℕ) (heap : Heap) → loose_alert message heap ≡ None → MayGo (object_at message heap)
+pub frees_message : (message : ℕ) (heap : Heap) → unqueued_alert message heap ≡ None → MayGo (object_at message heap)
 unfolding is_message_at
 frees_message message heap none = message_goes (object_at message heap) (is_loose_there message heap none).0
 
-pub unneeded_message : (message : ℕ) (heap : Heap) → loose_alert message heap ≡ None → IsUnneeded message heap
+pub unneeded_message : (message : ℕ) (heap : Heap) → unqueued_alert message heap ≡ None → IsUnneeded message heap
 unneeded_message message heap none =
     let loose = is_loose_there message heap none in
     mail_unneeded message heap (ap is_a_port (message_there message heap loose.0)) loose.1

@@ -55,7 +55,7 @@ use Rattle.execmodel.specs.Step.{does, does_word}
 use Rattle.execmodel.specs.Tasks.{does_tasks, ends_other, is_caller, task_rules}
 use Rattle.execmodel.specs.Libraries.{close_alert, library_alert}
 use Rattle.execmodel.specs.Nesting.{gives_nesting, nest_alert}
-use Rattle.execmodel.specs.Ports.{add_port_alert, delete_alert, loose_alert, message_alert, port_alert, put_alert, rem_port_alert, reply_alert, reply_port_alert, wait_alert}
+use Rattle.execmodel.specs.Ports.{add_port_alert, delete_alert, unqueued_alert, message_alert, port_alert, put_alert, rem_port_alert, reply_alert, reply_port_alert, wait_alert}
 use Rattle.execmodel.specs.Requests.{delete_request_alert, do_alert, request_alert, resting_alert, send_alert, set_io_alert, wait_io_alert}
 use Rattle.execmodel.specs.Semaphores.{free_sem_alert, obtain_alert, release_alert}
 use Rattle.execmodel.specs.Signals.{free_signal_alert, mask_alert, signal_alert}
@@ -329,7 +329,7 @@ module _ (u : ℕ) (command : CommandData) where
   fed_ports ports.FindPort t call s = fed_answered t call _ s
   fed_ports ports.NewMsg t call s = refused_by (reply_port_alert (argument 0 call) s.memory.heap) (ByTask t) call _ s (fed_answered t call _ _)
   fed_ports ports.MsgWord t call s = refused_by (message_alert (argument 0 call) s.memory.heap) (ByTask t) call _ s (fed_answered t call _ s)
-  fed_ports ports.FreeMsg t call s = refused_by (loose_alert (argument 0 call) s.memory.heap) (ByTask t) call _ s (fed_done t call _)
+  fed_ports ports.FreeMsg t call s = refused_by (unqueued_alert (argument 0 call) s.memory.heap) (ByTask t) call _ s (fed_done t call _)
   fed_ports ports.SetMsgWord t call s = refused_by (message_alert (argument 0 call) s.memory.heap) (ByTask t) call _ s (fed_done t call _)
   fed_ports ports.MsgType t call s = refused_by (message_alert (argument 0 call) s.memory.heap) (ByTask t) call _ s (fed_answered t call _ s)
   fed_ports ports.PutMsg t call s = fed_put_msg (ByTask t) call s

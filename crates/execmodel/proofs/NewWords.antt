@@ -60,7 +60,7 @@ use Rattle.execmodel.specs.Objects.{place_for_object}
 use Rattle.execmodel.specs.Pending.{softint_number}
 use Rattle.execmodel.specs.Places.{freed, placed}
 use Rattle.execmodel.specs.Plain.{does_add, does_and, does_jump, does_jump_not_zero, does_jump_zero, does_or, does_plain, does_print, does_set, does_sub}
-use Rattle.execmodel.specs.Ports.{add_port_alert, after_asking_for_port, content_of, delete_alert, delivered, does_add_port, does_create_msg_port, does_delete_msg_port, does_find_port, does_free_msg, does_get_msg, does_get_msg_by, does_msg_type, does_msg_word, does_new_msg, does_port_cause, does_port_ignore, does_port_signal, does_ports, does_put_msg, does_put_msg_by, does_rem_port, does_reply_msg, does_reply_msg_by, does_set_msg_word, does_wait_port, found_port, is_message, is_port, looked, loose_alert, loses, made_private, made_public, makes_port, message_alert, message_size, messages_of, port_alert, port_created, port_of, port_size, posted, put_alert, rem_port_alert, reply_alert, reply_port_alert, taken_by, taken_off, typed, wait_alert, with_action, with_message_word}
+use Rattle.execmodel.specs.Ports.{add_port_alert, after_asking_for_port, content_of, delete_alert, delivered, does_add_port, does_create_msg_port, does_delete_msg_port, does_find_port, does_free_msg, does_get_msg, does_get_msg_by, does_msg_type, does_msg_word, does_new_msg, does_port_cause, does_port_ignore, does_port_signal, does_ports, does_put_msg, does_put_msg_by, does_rem_port, does_reply_msg, does_reply_msg_by, does_set_msg_word, does_wait_port, found_port, is_message, is_port, looked, unqueued_alert, loses, made_private, made_public, makes_port, message_alert, message_size, messages_of, port_alert, port_created, port_of, port_size, posted, put_alert, rem_port_alert, reply_alert, reply_port_alert, taken_by, taken_off, typed, wait_alert, with_action, with_message_word}
 use Rattle.execmodel.specs.Requests.{aborts, acting_at, answering_port, begins_and_looks, begun_at, closed_device, delete_request_alert, do_alert, does_abort_io, does_check_io, does_close_device, does_create_io_request, does_delete_io_request, does_do_io, does_io_error, does_io_flags, does_io_micros, does_io_secs, does_open_device, does_requests, does_send_io, does_set_io, does_wait_io, ended, ends_with, is_request, looks_for, opened_for, reply_taken, replying_port, request_alert, request_of, request_size, resting_alert, send_alert, set_io_alert, timer_unit, wait_io_alert, with_command, with_reply}
 use Rattle.execmodel.specs.Semaphores.{attempted, awaited_by, does_attempt_semaphore, does_free_sem, does_new_sem, does_obtain_semaphore, does_release_semaphore, does_semaphores, dropped, free_sem_alert, heir, is_semaphore, is_tried_again, leaving_queue, obtain_alert, obtained, obtains, passes, release_alert, released, sem_of, semaphore_size}
 use Rattle.execmodel.specs.Signals.{does_alloc_signal, does_free_signal, does_set_signal, does_signal, does_signal_by, does_signals, does_wait, free_signal_alert, mask_alert, signal_alert, waited}
@@ -632,7 +632,7 @@ module _ (n : ℕ) (task : TaskData) where
       refused_by (reply_port_alert (argument 0 call) s.memory.heap) _ (ByTask t) call _ (grown s) s (λ none. none)
       (λ none on. made_with t call is_message message_size _ s sized apart) going
   ports_with ports.FreeMsg t call s sized apart going =
-      refused_by (loose_alert (argument 0 call) s.memory.heap) _ (ByTask t) call _ (grown s) s (λ none. none)
+      refused_by (unqueued_alert (argument 0 call) s.memory.heap) _ (ByTask t) call _ (grown s) s (λ none. none)
       (λ none on. done_with t call _ _ (remembered (freed (argument 0 call)) (grown s) s (itself s sized) (λ m. refl)) apart) going
   ports_with ports.MsgWord t call s sized apart going =
       refused_by (message_alert (argument 0 call) s.memory.heap) _ (ByTask t) call _ (grown s) s (λ none. none)

@@ -8,7 +8,7 @@ use Rattle.iorequest.specs.{declared.request.Request.Request as TimerRequest, Re
 use Rattle.execmodel.specs.State.{Call, Object, ListHead, MsgPort, Message, Semaphore, Library, Request, Block, Heap, Waiting as Queued, Mark, State}
 use Rattle.execmodel.specs.Semaphores.{is_semaphore, is_semaphore_at, with_semaphore, left_by_task, entered, queued, dropped, handed_on, released_once}
 use Rattle.execmodel.specs.{Objects.object_at, Objects.is_kind, Objects.replaced, Memory.extents, Memory.block_at, Lists.is_list, Lists.is_list_at, Lists.with_nodes, Lists.unlinked, Lists.left_by, Ports.is_port, Ports.is_message, Ports.is_port_at, Ports.is_message_at, Ports.is_awaited_at, Ports.replies_to, Ports.messages_of, Ports.with_port, Ports.with_action, Ports.appended, Ports.taken_off, Libraries.is_library, Libraries.is_library_at, Libraries.with_library, Requests.request_of, Requests.with_request}
-use Rattle.execmodel.proofs.Posts.{Post, APort, AMessage, ARequest, Other, post_in, post_of_object, post_at, messages_at, asked_at, is_a_port, is_mail, may_stand, AreInOrder, IsTidy, messages_are, port_is, port_there, message_there, request_there, post_elsewhere, post_here, post_remade, unchanged, queue_changes, content_changes, replaced_in_order}
+use Rattle.execmodel.proofs.Posts.{Post, APort, AMessage, ARequest, Other, post_in, post_of_object, post_at, messages_at, asked_at, is_a_port, is_mail, may_be_in, AreInOrder, IsTidy, messages_are, port_is, port_there, message_there, request_there, post_elsewhere, post_here, post_remade, unchanged, queue_changes, content_changes, replaced_in_order}
 use Rattle.execmodel.proofs.BlocksAfter.{MayGo, IsUnneeded, list_other, semaphore_other, Moves, touches, takes, frees, relists, unlinks, sets, enters, queues, hands, opens, releases, counts, expunges, drops}
 use Rattle.execmodel.proofs.{Heaps.rid, Heaps.filled, Heaps.object_placed_here, Heaps.object_placed_there, Heaps.object_rid_here, Heaps.object_rid_there, Heaps.true_is_not_false, Queues.IsAway, Queues.away_more, Queues.away_drop, Queues.away_without, Asking.Asks, Asking.writes, Asking.answers, Asking.IsRewritten, Asking.written_here, Asking.written_elsewhere, Asking.ports_written, Asking.without_reply, WellFormed.placed_fresh, WellFormed.counted_formed, WellFormed.rid_formed, Fifo.both_false, Fifo.is_away, Fifo.first_none, Fifo.port_stays, Commands.Touches, Commands.remains, Commands.fills, Commands.puts, Commands.gets, Taking.IsNew, Taking.Takes, Taking.nothing, Taking.places, Taking.recounts, Taking.yields}
 
@@ -56,7 +56,7 @@ gone_rests None may = refl
 gone_rests (Some (Request content)) may = may
 gone_rests (Some _) may = refl
 
-no_mail : (x : Post) (port : ℕ) → is_mail x ≡ false → may_stand port x ≡ false
+no_mail : (x : Post) (port : ℕ) → is_mail x ≡ false → may_be_in port x ≡ false
 no_mail (APort messages) port e = refl
 no_mail AMessage port e = true_is_not_false e
 no_mail (ARequest content) port e = true_is_not_false e
@@ -95,19 +95,19 @@ module _ (waiting : List Queued) where
   -- a port gets other messages: fewer, or one more that may be there
   requeued : (port : ℕ) (heap new : Heap) (messages : List ℕ) → is_port_at port heap ≡ true → post_at new port ≡ APort messages
       → ((a : ℕ) → a ≢ port → post_at new a ≡ post_at heap a)
-      → ((who : ℕ) → may_stand port (post_at heap who) ≡ false → IsAway who (messages_of port heap) → IsAway who messages)
+      → ((who : ℕ) → may_be_in port (post_at heap who) ≡ false → IsAway who (messages_of port heap) → IsAway who messages)
       → AreInOrder (post_at heap) waiting → AreInOrder (post_at new) waiting
   requeued port heap new messages is here there keeps order =
       queue_changes (post_at heap) (post_at new) waiting order port (messages_of port heap) messages (port_there port heap is) here there keeps
 
-  appended_order : (port who : ℕ) (heap : Heap) → is_port_at port heap ≡ true → may_stand port (post_at heap who) ≡ true
+  appended_order : (port who : ℕ) (heap : Heap) → is_port_at port heap ≡ true → may_be_in port (post_at heap who) ≡ true
       → AreInOrder (post_at heap) waiting → AreInOrder (post_at (appended port who heap)) waiting
   unfolding appended with_port
   appended_order port who heap is may order =
       requeued port heap _ (messages_of port heap ++ who ∷ []) is (post_here is_port port _ heap (unfold is_port_at in is))
       (λ a apart. post_elsewhere a port _ heap apart)
       (λ other barred away. away_more other who (messages_of port heap) away
-      (λ same. true_is_not_false (sym may ∙ ap (λ k. may_stand port (post_at heap k)) (sym same) ∙ barred)))
+      (λ same. true_is_not_false (sym may ∙ ap (λ k. may_be_in port (post_at heap k)) (sym same) ∙ barred)))
       order
 
   pub touched_order : (old : Heap) (marks : List Mark) (new : Heap) → Touches old marks new → AreInOrder (post_at old) waiting
@@ -116,7 +116,7 @@ module _ (waiting : List Queued) where
   touched_order old marks new (fills message content is) order = filled_order message (Message content) old is refl order
   touched_order old marks new (puts port message content is also loose) order =
       appended_order port message (filled message content old) (port_stays port message content old is also)
-      (ap (may_stand port) (post_here is_message message (Message content) old (unfold is_message_at in also)))
+      (ap (may_be_in port) (post_here is_message message (Message content) old (unfold is_message_at in also)))
       (filled_order message (Message content) old also refl order)
   touched_order old marks new (gets port message is e) order =
       unfold taken_off with_port in
@@ -179,7 +179,7 @@ module _ (waiting : List Queued) where
       (ap post_of_object (object_rid_here base old))
       (λ a apart. ap post_of_object (object_rid_there a base old apart))
       (ap messages_at other) (ap (λ x. is_under_way (asked_at x)) other) refl refl
-      (λ a. order.stands base a (ap (may_stand a) other)) (other_needless old base other order)
+      (λ a. order.stands base a (ap (may_be_in a) other)) (other_needless old base other order)
 
   takes_order : {asks may_count : Bool} (regions : List Region) (old new : Heap) → Takes asks may_count regions old new → IsWellFormed regions (extents old) → AreInOrder (post_at old) waiting
       → AreInOrder (post_at new) waiting
@@ -190,7 +190,7 @@ module _ (waiting : List Queued) where
       (ap post_of_object (object_placed_here address (round size) object old))
       (λ a apart. ap post_of_object (object_placed_there a address _ old apart))
       (ap messages_at fresh) (ap (λ x. is_under_way (asked_at x)) fresh) (new_messages old object is) (new_rests old object is)
-      (λ a. order.stands address a (ap (may_stand a) fresh)) (other_needless old address fresh order)
+      (λ a. order.stands address a (ap (may_be_in a) fresh)) (other_needless old address fresh order)
   takes_order regions old new (recounts base count delayed is more may rest) formed order =
       takes_order regions (with_library base count delayed old) new rest (counted_formed regions base count delayed old formed)
       (counted_order base count delayed old (is formed) order)
@@ -246,6 +246,6 @@ asked_order s marks new later (answers port request content waiting is rewritten
     let mid = with_request request content old in
     let may = reply tidy in
     appended_order waiting port request mid (ports_written request content old port ∙ is)
-    (ap (may_stand port) (written_here request content old (rewritten tidy).there)
+    (ap (may_be_in port) (written_here request content old (rewritten tidy).there)
     ∙ ap (λ b. not b && nat_eq port content.port) may.done ∙ ap (λ k. nat_eq port k) may.own ∙ nat_eq-same port)
     (written_order request content waiting s tidy (rewritten tidy))

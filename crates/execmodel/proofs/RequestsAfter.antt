@@ -6,13 +6,13 @@ use Rattle.memlist.proofs.{Answered.nat_eq-same, Answered.nat_eq-other, Answered
 use Rattle.scheduler.specs.Schedule.{Schedule}
 use Rattle.msgport.specs.declared.action.Action.{Action}
 use Rattle.iorequest.specs.declared.request.Begun.TheVariants.{Finish, Queue, Until, NewTime}
-use Rattle.iorequest.specs.Request.{idle_request, is_under_way, is_to_wait, is_until, is_opened, asks_time, sets_time, told, in_progress, finished, done_state, outcome, reply_port}
+use Rattle.iorequest.specs.Request.{idle_request, is_under_way, is_to_wait, is_until, is_opened, asks_time, sets_time, with_system_time, in_progress, finished, done_state, outcome, reply_port}
 use Rattle.iorequest.specs.{declared.request.Request.Request as TimerRequest, declared.request.ReqState.ReqState, declared.request.ReqState.TheVariants.Replied, declared.request.Begun.Begun}
 use Rattle.execmodel.specs.State.{Call, Object, Request, Block, Heap, Due, AtClock, AtSystem, Memory, Mark, out, put, State, Outcome, on_schedule, on_memory}
 use Rattle.execmodel.specs.Requests.{is_request, is_request_at, request_size, request_of, request_of_object, with_request, is_command, resting_alert, delete_request_alert, set_io_alert, can_begin, begin_alert, send_alert, do_alert, state_alert, answering_port, where_port, acting_at, appended_at, finished_at, with_reply, ended, heap_begun, timer_begun, outcome_at, begun_at, answering_begun, replying_port, reply_taken, looks_for, begins_and_looks, aborts}
 use Rattle.execmodel.specs.{Calls.done, Calls.answered, Calls.waiting, Objects.object_at, Objects.is_kind, Objects.place_for_object, LowMemory.after_asking_for_object, Memory.extents, Memory.block_at, Memory.placed, Memory.makes_object, Ports.is_port_at, Ports.is_queued, Ports.has_message, Ports.messages_in, Ports.messages_of, Ports.messages_of_object, Ports.performed, Ports.port_alert, Ports.wait_alert, Agreement.once_if, Laws.times_waiting}
 use Rattle.execmodel.proofs.Asking.{Asks, writes, IsLoose, IsRewritten, ports_written, request_written, written_again, waits_last, finished_rests, answering, reply_marks, reply_asks, ended_asks, without_reply}
-use Rattle.execmodel.proofs.{Heaps.true_is_not_false, LowMemory.asking_for_object_keeps, Queues.IsAway, Posts.Post, Posts.APort, Posts.post_at, Posts.messages_at, Posts.is_a_port, Posts.may_stand, Posts.IsTidy, Posts.messages_are, Posts.request_is, Posts.port_is, Posts.request_there, Fifo.is_away, Commands.none_some, Commands.passed_first, Commands.passed_other, Commands.is_port_there, Commands.performed_memory, BlocksAfter.Makes, BlocksAfter.MayGo, BlocksAfter.IsUnneeded, BlocksAfter.stays, Heaps.both_true, BlocksAfter.mail_unneeded, BlocksAfter.object_makes}
+use Rattle.execmodel.proofs.{Heaps.true_is_not_false, LowMemory.asking_for_object_keeps, Queues.IsAway, Posts.Post, Posts.APort, Posts.post_at, Posts.messages_at, Posts.is_a_port, Posts.may_be_in, Posts.IsTidy, Posts.messages_are, Posts.request_is, Posts.port_is, Posts.request_there, Fifo.is_away, Commands.none_some, Commands.passed_first, Commands.passed_other, Commands.is_port_there, Commands.performed_memory, BlocksAfter.Makes, BlocksAfter.MayGo, BlocksAfter.IsUnneeded, BlocksAfter.stays, Heaps.both_true, BlocksAfter.mail_unneeded, BlocksAfter.object_makes}
 use Rattle.script.specs.declared.alert.Alert.{Alert}
 
 pub data Works (t : ℕ) (call : Call) (s : State) (o : Outcome) : Type 0 where
@@ -123,7 +123,7 @@ unfolding do_alert
 may_do t request heap none =
     may_begin (wait_alert t (request_of request heap).port heap) request heap none (is_awaitable_there t (request_of request heap).port heap)
 
-told_port : (system : ℕ) (q : TimerRequest) → (told system q).port ≡ q.port
+told_port : (system : ℕ) (q : TimerRequest) → (with_system_time system q).port ≡ q.port
 told_port system q = tested (asks_time q) _ _
   where
     tested : (b : Bool) (secs micros : ℕ) → (if b then record q { secs = secs; micros = micros } else q).port ≡ q.port
@@ -375,7 +375,7 @@ queued_lives request s there queued tidy = tested (is_port_at (request_of reques
         (λ same. subst (λ q. IsAway request q)
         (sym (no_messages (post_at heap a) (ap (λ k. is_a_port (post_at heap k)) same ∙ sym (port_is (request_of request heap).port heap) ∙ dead))) tt)
         (λ apart. tidy.order.stands request a
-        (ap (may_stand a) (request_there request heap there)
+        (ap (may_be_in a) (request_there request heap there)
         ∙ and_false (not (is_under_way (request_of request heap))) (nat_eq a (request_of request heap).port)
         (nat_eq-other a (request_of request heap).port apart))))
 

@@ -13,7 +13,7 @@ use Rattle.script.specs.{declared.word.Word.Word, declared.word.interrupts.Inter
 use Rattle.exectrace.specs.Trace.{TraceLine}
 use Rattle.execmodel.specs.Keeping.{and_progress_of, without_progress_of, beside_interrupts, beside_memory, beside_nestings, beside_plain, beside_ports, beside_requests, beside_semaphores, beside_signals, beside_tasks, clock_alone, without_blocks, PlainWordsChangeScripts, SignalWordsChangeSignalsAndStates, NestingWordsChangeNestings, TaskWordsChangeStatesPrioritiesAndObjects, ListWordsChangeTheMemory, MemoryWordsChangeTheMemory, PortWordsChangePortsSignalsAndStates, SemaphoreWordsChangeStatesAndObjects, InterruptWordsChangeWhatIsCaused, LibraryWordsChangeTheMemory, RequestWordsChangeRequestsPortsSignalsAndStates}
 use Rattle.execmodel.specs.Libraries.{opening, close_alert, closed, count_of, does_libraries, is_delayed, is_library_at, library_alert, after_expunge, library_to_open, opened, ready_to_open, library_rules}
-use Rattle.execmodel.specs.Ports.{add_port_alert, after_asking_for_port, content_of, delete_alert, does_get_msg, does_ports, does_put_msg, does_reply_msg, is_message, is_port, loose_alert, loses, message_alert, message_size, messages_of, performed, port_alert, port_of, port_size, put_alert, rem_port_alert, reply_alert, reply_port_alert, wait_alert, port_rules}
+use Rattle.execmodel.specs.Ports.{add_port_alert, after_asking_for_port, content_of, delete_alert, does_get_msg, does_ports, does_put_msg, does_reply_msg, is_message, is_port, unqueued_alert, loses, message_alert, message_size, messages_of, performed, port_alert, port_of, port_size, put_alert, rem_port_alert, reply_alert, reply_port_alert, wait_alert, port_rules}
 use Rattle.execmodel.specs.Requests.{finishes, begins_and_looks, acting_at, begun_at, delete_request_alert, do_alert, does_requests, does_wait_io, is_request, is_request_at, replying_port, request_alert, request_of, request_size, resting_alert, send_alert, set_io_alert, wait_io_alert, request_rules}
 use Rattle.execmodel.specs.Semaphores.{awaited_by, does_semaphores, free_sem_alert, heir, is_semaphore, is_tried_again, obtain_alert, passes, release_alert, sem_of, semaphore_size, semaphore_rules}
 use Rattle.execmodel.specs.State.{Scripts, Timer, Call, ListHead, Memory, Node, Object, Outcome, Pending, Plain, Request, Semaphore, State, on_memory, on_schedule, prints_line, andthen}
@@ -293,7 +293,7 @@ ports_facts ports.NewMsg t call s =
     (λ value memory keeps. port_blocks_change (λ m. memory) s keeps))
 ports_facts ports.FreeMsg t call s =
     let message = argument 0 call in
-    unless_facts (loose_alert message s.memory.heap) _ refl
+    unless_facts (unqueued_alert message s.memory.heap) _ refl
     (λ none. concluded_facts None _
     (λ is. (refl, frees message (frees_message message s.memory.heap none) (unneeded_message message s.memory.heap none))) refl)
 ports_facts ports.SetMsgWord t call s =

@@ -60,18 +60,18 @@ unfoldable pub key_of : ℕ → Heap → KeyData
 key_of node heap = key_of_object (object_at node heap)
 
 -- a node is in a sequence
-abbrev pub stands_in : ℕ → List ℕ → Bool
-stands_in node nodes = list_any (λ other. other == node) nodes
+abbrev pub is_in_nodes : ℕ → List ℕ → Bool
+is_in_nodes node nodes = list_any (λ other. other == node) nodes
 
 -- the nodes of the list that a node is in, none if it is in no list
 unfoldable pub sequence_with : ℕ → Heap → List ℕ
 sequence_with node [] = []
 sequence_with node (entry ∷ rest) =
-    if stands_in node (nodes_in entry.1.object) then nodes_in entry.1.object else sequence_with node rest
+    if is_in_nodes node (nodes_in entry.1.object) then nodes_in entry.1.object else sequence_with node rest
 
 -- a node is linked: it is in a list
 abbrev pub is_linked : ℕ → Heap → Bool
-is_linked node heap = stands_in node (sequence_with node heap)
+is_linked node heap = is_in_nodes node (sequence_with node heap)
 
 -- an entry of the heap, which gets these nodes if it is the list at that address
 abbrev pub relisted : ℕ → List ℕ → ℕ × Block → ℕ × Block
@@ -159,7 +159,7 @@ pred_alert pred heap = if not (is_pred_at pred heap) then Some an_alert.Handle e
 -- a predecessor is in the list, or there is none
 abbrev pub is_pred_in : Option ℕ → ℕ → Heap → Bool
 is_pred_in None list heap = true
-is_pred_in (Some pred) list heap = stands_in pred (nodes_of list heap)
+is_pred_in (Some pred) list heap = is_in_nodes pred (nodes_of list heap)
 
 -- the alert of Insert: HANDLE if the list, the node or the predecessor is not there, LINK if the node is linked or the
 -- predecessor is not in the list

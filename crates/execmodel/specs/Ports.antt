@@ -289,8 +289,8 @@ does_new_msg t call s =
     (λ s. makes_object t call is_message message_size (Message content) (on_memory (after_asking_for_object is_message message_size) s)) s
 
 -- the alert of a call on a message that must be in no port: HANDLE if none begins there, LINK if it is in a port
-unfoldable pub loose_alert : ℕ → Heap → Option Alert
-loose_alert message heap =
+unfoldable pub unqueued_alert : ℕ → Heap → Option Alert
+unqueued_alert message heap =
     if not (is_message_at message heap) then Some an_alert.Handle
     else (if is_queued message heap then Some an_alert.Link else None)
 
@@ -298,7 +298,7 @@ loose_alert message heap =
 unfoldable pub does_free_msg : ℕ → Call → State → Outcome
 does_free_msg t call s =
     let message = argument 0 call in
-    unless (loose_alert message s.memory.heap) t call (λ s. done t call (on_memory (freed message) s)) s
+    unless (unqueued_alert message s.memory.heap) t call (λ s. done t call (on_memory (freed message) s)) s
 
 -- ---- what a message holds
 
@@ -353,7 +353,7 @@ delivered kind port message s =
 
 -- the alert of PutMsg: HANDLE if the port or the message is not there, LINK if the message is in a port
 unfoldable pub put_alert : ℕ → ℕ → Heap → Option Alert
-put_alert port message heap = if not (is_port_at port heap) then Some an_alert.Handle else loose_alert message heap
+put_alert port message heap = if not (is_port_at port heap) then Some an_alert.Handle else unqueued_alert message heap
 
 -- PutMsg port message: the message is put at the port, after those that are there, and the port acts (autodoc
 -- exec.library/PutMsg; the alerts: project rule)
@@ -474,5 +474,5 @@ does_ports word.ReplyMsg t call s = does_reply_msg t call s
 
 -- the rules of this group, where all of them are to unfold
 unfoldable pub port_rules : ⊤
-unfolding add_port_alert appended content_of delete_alert delivered does_add_port does_create_msg_port does_delete_msg_port does_find_port does_free_msg does_get_msg does_msg_type does_msg_word does_new_msg does_port_cause does_port_ignore does_port_signal does_put_msg does_rem_port does_reply_msg does_set_msg_word does_wait_port found_port is_awaited_at is_message_at is_port_at is_queued loose_alert made_private made_public message_alert messages_of port_alert port_of posted put_alert rem_port_alert reply_alert reply_port_alert taken_off typed wait_alert with_action with_content with_port with_message_word
+unfolding add_port_alert appended content_of delete_alert delivered does_add_port does_create_msg_port does_delete_msg_port does_find_port does_free_msg does_get_msg does_msg_type does_msg_word does_new_msg does_port_cause does_port_ignore does_port_signal does_put_msg does_rem_port does_reply_msg does_set_msg_word does_wait_port found_port is_awaited_at is_message_at is_port_at is_queued unqueued_alert made_private made_public message_alert messages_of port_alert port_of posted put_alert rem_port_alert reply_alert reply_port_alert taken_off typed wait_alert with_action with_content with_port with_message_word
 port_rules = tt

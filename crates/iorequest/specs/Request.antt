@@ -76,12 +76,12 @@ outcome now system q =
 
 -- the request with system time in its time field, if it asks for that; the seconds are modulo 2 to the power 32
 -- (project rule)
-abbrev pub told : (system : ℕ) → Request → Request
-told system q = if asks_time q then record q { secs = system / second % 2 ^ 32; micros = system % second } else q
+abbrev pub with_system_time : (system : ℕ) → Request → Request
+with_system_time system q = if asks_time q then record q { secs = system / second % 2 ^ 32; micros = system % second } else q
 
 -- the request in progress: its error is 0, and IOF_QUICK is as the caller asked, but cleared if the request is to wait
 abbrev pub in_progress : Bool → (system : ℕ) → Request → Request
-in_progress quick system q = record (told system q) { state = UnderWay; error = pos 0; quick = quick && not (is_to_wait system q) }
+in_progress quick system q = record (with_system_time system q) { state = UnderWay; error = pos 0; quick = quick && not (is_to_wait system q) }
 
 -- ---- finishing
 

@@ -3,7 +3,7 @@
 ghost use Rattle.std.specs.Prelude.{◌≡◌, ◌++◌, ◌∷◌, [], bytes_eq, length, map, option_map};
 ghost use Rattle.std.specs.List.{list_all, list_any};
 ghost use Rattle.script.specs.Interrupting.{is_word_of_interrupt};
-ghost use Rattle.taskscript.specs.Interrupting.{is_of_interrupt, is_open, may_stand, names_softints, softints_among};
+ghost use Rattle.taskscript.specs.Interrupting.{is_of_interrupt, is_open, may_have, names_softints, softints_among};
 ghost use Rattle.script.specs.Names.{texts};
 ghost use Rattle.taskscript.specs.{Faults.check, Faults.JudgesLine, Lines.named_argument_view, Lines.named_command_view, Lines.named_variable_view, Numbering.variables_of_target, Records.setting_view};
 
@@ -91,7 +91,7 @@ pub fn judge_command(setting: Setting<'_>, command: &NamedCommand) -> Result<(),
     ensures { let s = setting_view setting.entry in
         let said = named_command_view command.now in
         JudgesLine result
-        (check (names_softints s said) FileFault.BadCommand ++ check (may_stand s said) FileFault.NotInInterrupt)
+        (check (names_softints s said) FileFault.BadCommand ++ check (may_have s said) FileFault.NotInInterrupt)
         (λ _. Unit {0}) }
 {
     if !are_known(

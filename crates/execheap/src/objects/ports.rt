@@ -320,7 +320,7 @@ impl<S: ListSpace> Objects<S> {
 
     /// The message that begins at an address, which is in no port.
     pub fn unqueued_message_at(&self, message: u32) -> Result<MsgId, Refusal>
-        ensures alert { alert_of result ≡ model.loose_alert message (shown_heap self.now) }
+        ensures alert { alert_of result ≡ model.unqueued_alert message (shown_heap self.now) }
         ensures found { IfOk result (λ m. slot (places variant.Message self.now) m ≡ Some message) }
         ensures live { IfOk result (λ m. IsTrue (is_message m self.now.ports)) }
         ensures loose { IfOk result (λ m. home self.now.ports.places m ≡ None) }
@@ -491,7 +491,7 @@ impl<S: ListSpace> Heap<S> {
     /// Frees a message. It is refused if no message begins at the address (Handle), and if a port has it (Link).
     /// Project rule.
     pub fn free_message(&mut self, message: u32) -> Result<(), Refusal>
-        ensures alert { alert_of result ≡ model.loose_alert message self.old.heap }
+        ensures alert { alert_of result ≡ model.unqueued_alert message self.old.heap }
         ensures next { OnOk result (self.new ≡ freed message self.old) }
         ensures kept { OnErr result (self.new ≡ self.old) }
     {
