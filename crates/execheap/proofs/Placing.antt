@@ -1,4 +1,4 @@
--- A block that is no object is put at a fresh address, or freed: a table stays sound.
+-- A block that is not an object is put at a fresh address, or freed: a table stays sound.
 use Rattle.std.proofs.Common.{◌≡◌, ◌≢◌, ℕ, ◌<◌, true, false, length, refl, ap, sym, ◌∙◌, arith, Some, None, Option, is_some, nat_eq}
 use Rattle.memlist.specs.{Blocks.block_at, Fit.round, Memory.IsWellFormed, Memory.allocated, Memory.without_block}
 use Rattle.memlist.proofs.Keeping.{rising_sorted}

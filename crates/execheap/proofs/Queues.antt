@@ -38,7 +38,7 @@ after_number : (f : ℕ → ℕ) (n a : ℕ) (xs : List ℕ) → f n ≡ a → A
 after_number f n a xs is alike =
     ap (λ b. first (part_after b (map f xs))) (sym is) ∙ ap first (part_after-map f n xs alike) ∙ first-map f (part_after n xs)
 
--- ---- nothing is read of what is no queue
+-- ---- nothing is read of what is not a queue
 
 no_nodes : (o : Option Object) → is_kind is_list o ≡ false → nodes_of_object o ≡ []
 no_nodes None other = refl

@@ -125,7 +125,7 @@ only_closed_before regions new = record {
       (rest (rid_formed regions base heap formed));
 }
 
--- a block that is no library's stays
+-- a block that is not a library's stays
 pub asking_leaves_others : (size reqs : ℕ) (memory : Memory) → IsWellFormed memory.regions (extents memory.heap) → (a : ℕ)
     → is_library_at a memory.heap ≡ false → block_at a (after_asking size reqs memory).heap ≡ block_at a memory.heap
 asking_leaves_others size reqs memory formed =

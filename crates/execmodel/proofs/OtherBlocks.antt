@@ -59,7 +59,7 @@ asking_formed size reqs memory =
 asking_regions : (size reqs : ℕ) (memory : Memory) → (after_asking size reqs memory).regions ≡ memory.regions
 asking_regions size reqs memory = ap (λ (m : Memory). m.regions) (asking_keeps size reqs memory)
 
--- What was asked is formed, has the same regions, and has each block that is no library's.
+-- What was asked is formed, has the same regions, and has each block that is not a library's.
 pub record IsAsked (a : ℕ) (memory asked : Memory) : Type 0 where
   pub regions : asked.regions ≡ memory.regions
   pub formed : IsWellFormed memory.regions (extents asked.heap)

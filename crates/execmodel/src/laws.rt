@@ -27,11 +27,11 @@ pub fn an_alert_ends_all()
 /// the objects, which requests wait for the timer, system time, signals, which tasks are ready, running or waiting, and
 /// which software interrupts are caused, but neither the clock nor which ports are public. An alert stops the machine.
 /// Of the blocks, in every state of every run, the words of a group leave each as it is whose object is of another
-/// kind, but for libraries that are asked for memory: words of libraries each that is no library's, words of lists each
-/// that holds neither a list nor a node, words of memory each that holds no plain block, words of ports each that holds
-/// neither a port nor a message, words of semaphores each that holds no semaphore, and words of requests, with what
-/// finishes if one sets system time, each that holds neither a request nor a port. Words of tasks leave all blocks,
-/// libraries too, and place none: of a semaphore they change only which tasks wait for it.
+/// kind, but for libraries that are asked for memory: words of libraries each that is not a library's, words of lists
+/// each that holds neither a list nor a node, words of memory each that holds no plain block, words of ports each that
+/// holds neither a port nor a message, words of semaphores each that holds no semaphore, and words of requests, with
+/// what finishes if one sets system time, each that holds neither a request nor a port. Words of tasks leave all
+/// blocks, libraries too, and place none: of a semaphore they change only which tasks wait for it.
 #[tactic(auto, using(crate::proofs::Words::plain_words_change_scripts, crate::proofs::Words::signal_words_change_signals_and_states, crate::proofs::Words::nesting_words_change_nestings, crate::proofs::Words::task_words_change_states_priorities_and_objects, crate::proofs::Words::list_words_change_the_memory, crate::proofs::Words::memory_words_change_the_memory, crate::proofs::Words::port_words_change_ports_signals_and_states, crate::proofs::Words::semaphore_words_change_states_and_objects, crate::proofs::Words::interrupt_words_change_what_is_caused, crate::proofs::Words::library_words_change_the_memory, crate::proofs::Words::request_words_change_requests_ports_signals_and_states, crate::proofs::OtherLists::list_words_leave_other_blocks, crate::proofs::OtherBlocks::library_words_leave_other_blocks, crate::proofs::OtherBlocks::memory_words_leave_other_blocks, crate::proofs::OtherPorts::port_words_leave_other_blocks, crate::proofs::OtherRequests::request_words_leave_other_blocks, crate::proofs::OtherSemaphores::semaphore_words_leave_other_blocks, crate::proofs::OtherTasks::task_words_leave_other_blocks))]
 pub fn each_group_keeps_to_its_part()
     ensures plain { PlainWordsChangeScripts }
@@ -179,8 +179,8 @@ pub fn version_one()
 /// Libraries are asked for memory as far as a block needs it, and no further: if libraries are asked for a block, the
 /// first ones of the file are asked for memory, one after another, no fewer would have been enough, and after that the
 /// block has a place, or all of them were asked for memory. In every state of every run, asking frees no block but
-/// those of libraries that are not open: what is no library stays as it is, and an open library stays at its base, in
-/// its block and as often open.
+/// those of libraries that are not open: what is not a library stays as it is, and an open library stays at its base,
+/// in its block and as often open.
 ///
 /// Source: autodoc exec.library/AllocMem; the order of asking: project rule.
 #[tactic(auto, using(crate::proofs::LowMemoryLaw::libraries_give_way_as_far_as_needed, crate::proofs::LowMemoryLaw::only_closed_libraries_give_way))]

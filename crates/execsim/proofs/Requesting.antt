@@ -93,7 +93,7 @@ creates t call s = unless (port_alert (argument 0 call) s.memory.heap) t call
     (λ s. makes_object t call is_request request_size (Request (idle_request (argument 0 call)))
     (on_memory (after_asking_for_object is_request request_size) s)) s
 
--- a command that fits is no alert
+-- a command that fits is not an alert
 set_alert-inside : (command request : ℕ) → nat_lt command 65536 ≡ true → (heap : Heap) → set_io_alert command request heap ≡ resting_alert request heap
 unfolding set_io_alert resting_alert
 set_alert-inside command request inside heap = rw inside refl

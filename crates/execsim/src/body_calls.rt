@@ -237,7 +237,7 @@ impl<S: ListSpace> Kernel<S> {
         self.store_in_body(call.target, value);
     }
 
-    /// A word that is no call of Exec answers, into its target if it has one, and prints nothing, in the body of any
+    /// A word that is not a call of Exec answers, into its target if it has one, and prints nothing, in the body of any
     /// name.
     #[inline(always)]
     pub(crate) fn end_silently_in_body(&mut self, target: Option<Variable>, value: u32)

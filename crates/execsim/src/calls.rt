@@ -87,7 +87,7 @@ impl<S: ListSpace> Kernel<S> {
         self.keep(t, call);
     }
 
-    /// A word that is no call of Exec answers, and prints nothing.
+    /// A word that is not a call of Exec answers, and prints nothing.
     pub(crate) fn end_silently(&mut self, t: TaskId, call: &Call, value: u32)
         requires { HasTask t self.old }
         ensures { Quietly (silent t (call_view call.now) value) self.old self.new }
@@ -141,7 +141,7 @@ impl<S: ListSpace> Kernel<S> {
         }
     }
 
-    /// A word that is no call of Exec answers, and prints nothing, in a task or in a body.
+    /// A word that is not a call of Exec answers, and prints nothing, in a task or in a body.
     pub(crate) fn end_silently_by(&mut self, caller: &Caller, call: &Call, value: u32)
         requires { HasCaller caller.now self.old }
         ensures { Quietly (silent_by (caller_view caller.now) (call_view call.now) value) self.old self.new }

@@ -72,8 +72,8 @@ fn feed_line(alloc: Global, session: &mut Session, task: usize, line: &[u8]) -> 
 /// body then. If no step has found the task at the end of its body before, the run is that of the machine file whose
 /// body has the line from the start.
 ///
-/// 0 if it is fed. Otherwise the machine is as it was: 1 if the line is no command, or has a variable or a jump; 7 if
-/// there is no such task, 4 if memory was refused, and 6 if the handle has no machine.
+/// 0 if it is fed. Otherwise the machine is as it was: 1 if the line is not a command, or has a variable or a jump; 7
+/// if there is no such task, 4 if memory was refused, and 6 if the handle has no machine.
 ///
 /// Source: project rule.
 #[unsafe(no_mangle)]

@@ -10,7 +10,7 @@ use std::alloc::Global;
 pub enum Refusal {
     /// What came is no JSON.
     NotJson,
-    /// It is no request.
+    /// It is not a request.
     NotARequest,
     /// There is no such method.
     UnknownMethod,

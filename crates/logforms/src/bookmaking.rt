@@ -18,7 +18,7 @@ fn is_silent(word: Word) -> bool {
 }
 
 /// The text of a string, as the file has it with its quotes: escapes are read, and what is left out of it is not there.
-/// Empty for what is no string.
+/// Empty for what is not a string.
 fn text_of(alloc: Global, string: &str) -> Result<String, AllocError> {
     if !starts_string(string) {
         return Ok(String::new(alloc));

@@ -349,7 +349,7 @@ pub fn asked_by<'a>(
     }
 }
 
-/// The error of a command line whose words are no text.
+/// The error of a command line whose words are not text.
 ///
 /// Source: project rule.
 pub fn not_text_error(alloc: Global) -> Result<Error, AllocError> {

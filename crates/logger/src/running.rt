@@ -361,7 +361,7 @@ fn run_buffered<R: Env + Files + AllocGlobal, W: Write + Drop, E: Write>(
     Ok(status)
 }
 
-/// Runs the command on the process's arguments, and answers the status with which it ends. Arguments that are no text
+/// Runs the command on the process's arguments, and answers the status with which it ends. Arguments that are not text
 /// are refused as a command line is.
 ///
 /// Source: project rule.

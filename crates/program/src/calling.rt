@@ -10,7 +10,7 @@ use std::rt::{Clock, Files};
 /// The most bytes of the path by which the program is called, and one more: the system has no longer paths.
 const PATH_ROOM: usize = 4_096;
 
-/// The status if the name is no command's.
+/// The status if the name is not a command's.
 const COMMAND_LINE_REFUSED: u8 = 2;
 
 /// The command by whose name the program was called.
@@ -34,7 +34,7 @@ fn asks_for_version<R: Env>(rt: &R) -> bool {
     matches!(rt.arg(2, &mut word), Err(FillError::NotPresent))
 }
 
-/// Refuses a name that is no command's.
+/// Refuses a name that is not a command's.
 fn refuse_name<E: Write>(err: &mut E) -> u8
     ensures { result ≡ 2 }
 {

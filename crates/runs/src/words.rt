@@ -38,7 +38,7 @@ pub(crate) fn is_requested(rt: &HostRuntime) -> io::Result<bool> {
     }
 }
 
-/// Prints the row of each word whose text is an argument. The status is 1 if a text is no word's; it is named, and
+/// Prints the row of each word whose text is an argument. The status is 1 if a text is not a word's; it is named, and
 /// nothing is printed after.
 pub(crate) fn print_rows(rt: &HostRuntime) -> io::Result<ExitCode> {
     for text in env::args(rt)?.skip(2) {

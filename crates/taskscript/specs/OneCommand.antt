@@ -60,7 +60,7 @@ no_digit b bs h = rw h (or_last (nat_lt (length (b ∷ bs)) 1) _)
     or_last true o = refl
     or_last false o = refl
 
--- what begins with a byte above the digits is no number
+-- what begins with a byte above the digits is not a number
 no_number : (b : ℕ) (bs : List ℕ) → 58 ≤ b → number_written (b ∷ bs) ≡ None
 no_number b bs h =
     let a : (b == 36) ≡ false = grind (arith, nat_tests) in
@@ -80,7 +80,7 @@ no_name b bs h g = rw (h, g)
 clash : {A : Type 0} (b n : ℕ) (bs : List ℕ) → 58 ≤ b → number_written (b ∷ bs) ≡ Some n → A
 clash b n bs h e = let none = no_number b bs h in absurd cc
 
--- a number is no variable
+-- a number is not a variable
 number_is_other : (b n : ℕ) (bs : List ℕ) → number_written (b ∷ bs) ≡ Some n → variable_of (b ∷ bs) ≡ None
 number_is_other b n bs h =
     elim (cases_Bool (b == 64)) [

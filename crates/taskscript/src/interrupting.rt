@@ -22,7 +22,7 @@ pub struct Setting<'a> {
     pub softints: &'a [Name],
 }
 
-// An argument that is no private variable.
+// An argument that is not a private variable.
 fn is_open(argument: &NamedArgument) -> bool
     ensures { result ≡ is_open (named_argument_view argument.now) }
 {
@@ -60,7 +60,7 @@ fn is_of_interrupt(command: &NamedCommand) -> bool
     are_open(command.arguments.as_slice())
 }
 
-// An argument of a kind that is no name of a software interrupt, or is one of these.
+// An argument of a kind that is not a name of a software interrupt, or is one of these.
 fn is_known(softints: &[Name], kind: Kind, argument: &NamedArgument) -> bool
     ensures { result ≡ list_all (λ name. list_any (bytes_eq name) (texts softints.now)) (softints_among (kind ∷ []) (named_argument_view argument.now ∷ [])) }
 {

@@ -132,7 +132,7 @@ pub fn read_listed(alloc: Global, bytes: &[u8]) -> Result<Listed, FileFault>
 /// 7, which is 1 if it is absent, and a `pri` as a task.
 ///
 /// A library has a `name` as below, which no other library has, a `version` from 0 to 65535, and a `size` in bytes, 8
-/// to 65536. What is no library may have a library's name.
+/// to 65536. What is not a library may have a library's name.
 ///
 /// A software interrupt, a server and a task have a `name` of 1 to 31 of the characters `A`-`Z`, `a`-`z`, `0`-`9`, `.`,
 /// `_` and `-`, which no other of them all has, and a `code`, an array of at most 1,024 strings, which are its lines. A

@@ -23,7 +23,7 @@ pub const REPORT_LIMIT: usize = 268_435_456;
 /// What is before the digest in the last line.
 const CLOSING: &str = "lines above: SHA-256 ";
 
-/// Why a text is no report.
+/// Why a text is not a report.
 #[derive(Clone, Copy)]
 pub enum ReportFault {
     /// Memory was refused.

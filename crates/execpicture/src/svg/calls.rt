@@ -42,7 +42,7 @@ fn write_call(said: &str, page: &mut Page) {
 struct ColumnText<'a> {
     said: &'a str,
     class: &'a str,
-    /// The number of the task, counted from 1; 0 if it is no task's.
+    /// The number of the task, counted from 1; 0 if it is not a task's.
     task: usize,
 }
 

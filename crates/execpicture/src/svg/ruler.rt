@@ -71,7 +71,7 @@ fn write_tint(plan: &Plan<'_>, from: Px, to: Px, class: &str, page: &mut Page) {
     rect(page, area, 0, class);
 }
 
-/// Writes the line of an event between two places, and tints the columns between them if it is no run.
+/// Writes the line of an event between two places, and tints the columns between them if it is not a run.
 fn write_group(plan: &Plan<'_>, from: Px, to: Px, event: Event, page: &mut Page) {
     match event {
         Event::Run(_) => {}

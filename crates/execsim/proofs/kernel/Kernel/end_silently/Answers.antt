@@ -1,4 +1,4 @@
--- The proof of `Kernel::end_silently`: a word that is no call of Exec answers, and prints nothing.
+-- The proof of `Kernel::end_silently`: a word that is not a call of Exec answers, and prints nothing.
 use Rattle.execsim.proofs.Endings.{quietly_silent}
 use Rattle.execsim.proofs.kernel.Kernel.end_silently.Goals as goal
 

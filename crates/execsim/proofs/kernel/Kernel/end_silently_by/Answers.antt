@@ -1,4 +1,5 @@
--- The proof of `Kernel::end_silently_by`: a word that is no call of Exec answers, and prints nothing, in a task or in a body.
+-- The proof of `Kernel::end_silently_by`: a word that is not a call of Exec answers, and prints nothing, in a task or
+-- in a body.
 use Rattle.std.proofs.Common.{[], refl}
 use Rattle.execsim.specs.Views.{call_view}
 use Rattle.execsim.proofs.kernel.Kernel.end_silently_by.Goals as goal
