@@ -8,8 +8,8 @@ use crate::page::Spot;
 use crate::past::{Past, TaskPast, Time, is_reached, rank_of};
 use crate::room::Room;
 use crate::scene::Linked;
-use crate::sends::{Deed, END, Sends, is_clearing, is_sending, number_in};
-use crate::step::{Site, Turn, When, prints};
+use crate::sends::{Act, END, Sends, is_clearing, is_sending, number_in};
+use crate::step::{Site, TaskPlace, When, prints};
 use crate::value::value_of;
 use crate::words::row_of;
 use execsim::Flow;
@@ -113,7 +113,7 @@ impl<'a> Course<'a> {
     }
 
     /// The command of a task at a place of its code.
-    pub fn command(&self, turn: Turn) -> Option<&'a Command> {
+    pub fn command(&self, turn: TaskPlace) -> Option<&'a Command> {
         command_at(self.file, turn.spot())
     }
 
@@ -123,7 +123,7 @@ impl<'a> Course<'a> {
     }
 
     /// The steps of a task that can be done at once, at most that many. Plain words are noted; of those that go on without end only the last ones.
-    fn part_of_task(&mut self, turn: Turn, most: u32) -> Part
+    fn part_of_task(&mut self, turn: TaskPlace, most: u32) -> Part
         requires { 0 < most }
         ensures some { 0 < result.steps }
         ensures within { result.steps ≤ most }
@@ -166,7 +166,7 @@ impl<'a> Course<'a> {
     }
 
     /// Notes what a command has freed; that of 0 frees nothing.
-    fn note_freed(&mut self, machine: &Linked, turn: Turn, command: &Command, site: Site) {
+    fn note_freed(&mut self, machine: &Linked, turn: TaskPlace, command: &Command, site: Site) {
         if row_of(command.word).frees {
             let address = value_of(machine, Some(turn.task), command, 0).unwrap_or(0);
             if address != 0 && self.freed.insert(address, site).is_err() {
@@ -176,7 +176,7 @@ impl<'a> Course<'a> {
     }
 
     /// Notes the step of a task, unless it was of plain words, which are noted before.
-    fn note_task(&mut self, machine: &Linked, turn: Turn) {
+    fn note_task(&mut self, machine: &Linked, turn: TaskPlace) {
         let Some(command) = self.command(turn) else {
             self.fresh = self.steps;
             self.other = self.steps;
@@ -199,7 +199,7 @@ impl<'a> Course<'a> {
     }
 
     /// Notes a call that a task has done: what it has freed, which signals it has cleared, and whether it has failed.
-    fn note_call(&mut self, machine: &Linked, turn: Turn, command: &Command) {
+    fn note_call(&mut self, machine: &Linked, turn: TaskPlace, command: &Command) {
         let (spot, moment) = (turn.spot(), self.moment());
         let site = Site {
             spot,
@@ -208,7 +208,7 @@ impl<'a> Course<'a> {
         self.note_freed(machine, turn, command, site);
         if is_clearing(command.word) {
             let spot = Some(spot);
-            self.sends.clear(machine, turn.task, Deed { spot, moment });
+            self.sends.clear(machine, turn.task, Act { spot, moment });
         }
         self.failings.note(machine, self.file, turn, command, site);
     }
@@ -222,7 +222,7 @@ impl<'a> Course<'a> {
         let mut fields = line.split(' ');
         let (_, name) = (fields.next(), fields.next());
         if name == Some(word.text()) {
-            let deed = Deed {
+            let deed = Act {
                 spot: Some(spot),
                 moment: self.moment(),
             };
@@ -234,7 +234,7 @@ impl<'a> Course<'a> {
     /// Notes that the timer has finished a request, if a line says so.
     fn note_timer(&mut self, machine: &Linked, line: &str) {
         if line.starts_with("timer $") {
-            let deed = Deed {
+            let deed = Act {
                 spot: None,
                 moment: self.moment(),
             };
@@ -415,7 +415,7 @@ impl<'a> Course<'a> {
     }
 
     /// What is noted of a command of a task.
-    pub fn past(&self, turn: Turn) -> Past {
+    pub fn past(&self, turn: TaskPlace) -> Past {
         match self.tasks.get(turn.task) {
             None => Past::NONE,
             Some(past) => past.at(turn.place),
@@ -432,12 +432,12 @@ impl<'a> Course<'a> {
     }
 
     /// The commands of tasks that were done, or in which a task went on to wait, after that many steps.
-    pub fn visited_after(&self, alloc: Global, steps: u64) -> Result<Vec<Turn>, AllocError> {
+    pub fn visited_after(&self, alloc: Global, steps: u64) -> Result<Vec<TaskPlace>, AllocError> {
         let mut turns = Vec::new(alloc);
         for (task, past) in self.tasks.iter().enumerate() {
             for (place, command) in past.commands.iter().enumerate() {
                 if command.visited > steps {
-                    turns.push(Turn { task, place })?;
+                    turns.push(TaskPlace { task, place })?;
                 }
             }
         }

@@ -2,7 +2,7 @@
 use crate::argument::request_at;
 use crate::scene::Linked;
 use crate::sends::mask_of;
-use crate::step::{Site, Turn};
+use crate::step::{Site, TaskPlace};
 use crate::value::{held_by, value_of, variable_at};
 use script::{
     Command, LibraryWord, ListWord, MachineFile, MemoryWord, PortWord, RequestWord, SemaphoreWord,
@@ -247,7 +247,7 @@ impl Failings {
         &mut self,
         machine: &Linked,
         file: &MachineFile,
-        turn: Turn,
+        turn: TaskPlace,
         command: &Command,
         site: Site,
     ) {
@@ -272,7 +272,7 @@ impl Failings {
         &mut self,
         machine: &Linked,
         file: &MachineFile,
-        turn: Turn,
+        turn: TaskPlace,
         command: &Command,
         site: Site,
     ) {

@@ -8,7 +8,7 @@ use crate::following::Run;
 use crate::next::{Next, next_of};
 use crate::scene::Linked;
 use crate::snapshot::{memory_shown, tasks_shown};
-use crate::step::{Turn, prints};
+use crate::step::{TaskPlace, prints};
 use execsim::Flow;
 use script::{Event, PlainWord, PortWord, Word};
 use std::alloc::{AllocError, Global};
@@ -69,7 +69,7 @@ impl Lap {
     }
 
     /// Whether a command of a task is in the part of its code that was run.
-    pub fn has(&self, turn: Turn) -> bool {
+    pub fn has(&self, turn: TaskPlace) -> bool {
         self.stretches.iter().any(|stretch| {
             stretch.task == turn.task && stretch.first <= turn.place && turn.place <= stretch.last
         })
@@ -80,7 +80,9 @@ impl Lap {
         for stretch in other.stretches.iter() {
             let task = stretch.task;
             let (first, last) = (stretch.first, stretch.last);
-            if !self.has(Turn { task, place: first }) || !self.has(Turn { task, place: last }) {
+            if !self.has(TaskPlace { task, place: first })
+                || !self.has(TaskPlace { task, place: last })
+            {
                 return false;
             }
         }
@@ -88,7 +90,7 @@ impl Lap {
     }
 
     /// Adds the place of a command.
-    fn add_place(&mut self, turn: Turn) -> Result<(), AllocError> {
+    fn add_place(&mut self, turn: TaskPlace) -> Result<(), AllocError> {
         for stretch in self.stretches.iter_mut() {
             if stretch.task == turn.task {
                 stretch.first = stretch.first.min(turn.place);
@@ -105,7 +107,7 @@ impl Lap {
     }
 
     /// Adds a step of a task.
-    pub fn add(&mut self, turn: Turn, word: Word) -> Result<(), AllocError> {
+    pub fn add(&mut self, turn: TaskPlace, word: Word) -> Result<(), AllocError> {
         self.has_call = self.has_call || prints(word);
         self.prints = self.prints || matches!(word, Word::Plain(PlainWord::Print));
         self.is_hidden = self.is_hidden
@@ -131,10 +133,10 @@ fn go_on(run: &mut Run<'_>) -> Result<bool, AllocError>
 }
 
 /// The task that runs, at its next command.
-pub fn turn_of(machine: &Linked) -> Option<Turn> {
+pub fn turn_of(machine: &Linked) -> Option<TaskPlace> {
     let task = machine.view().running?;
     let place = machine.task(task)?.place;
-    Some(Turn { task, place })
+    Some(TaskPlace { task, place })
 }
 
 /// Adds what the next step is to do: the command of a task, or a software interrupt; whether it is one of them.
@@ -167,7 +169,7 @@ fn is_waiting(machine: &Linked, next: Next) -> bool {
 fn shows_again(
     alloc: Global,
     machine: &Linked,
-    running: Option<Turn>,
+    running: Option<TaskPlace>,
     tasks: &str,
 ) -> Result<bool, AllocError> {
     if turn_of(machine) != running {

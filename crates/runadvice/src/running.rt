@@ -5,7 +5,7 @@ use crate::lap::{Lap, Stretch, turn_of};
 use crate::page::{Page, Spot};
 use crate::scene::{Linked, Scene};
 use crate::shut::shut_part;
-use crate::step::Turn;
+use crate::step::TaskPlace;
 use script::{Argument, Command, TaskWord, Word};
 use std::alloc::AllocError;
 use taskq::TaskState;
@@ -16,7 +16,7 @@ const MOST_NAMED: usize = 4;
 /// What the machine shows of the task that runs at the end.
 #[derive(Drop)]
 pub struct Running {
-    turn: Turn,
+    turn: TaskPlace,
     /// The tasks that are ready and never ran, as the end of a sentence.
     ready: String,
     /// What of the interrupts may change what the tasks do; nothing if nothing may.
@@ -213,7 +213,7 @@ impl Scene<'_, '_> {
     }
 
     /// The part of the code that the running task is in and cannot leave, if it is in one and no other code ends a task.
-    fn shut_lap(&self, turn: Turn) -> Result<Option<Lap>, AllocError> {
+    fn shut_lap(&self, turn: TaskPlace) -> Result<Option<Lap>, AllocError> {
         let Some(task) = self.course.file.tasks().get(turn.task) else {
             return Ok(None);
         };
@@ -227,7 +227,7 @@ impl Scene<'_, '_> {
     }
 
     /// The command that a task does next or did last, by its place, and which of them it is, in words.
-    fn next_text(&self, turn: Turn) -> Result<(usize, String), AllocError> {
+    fn next_text(&self, turn: TaskPlace) -> Result<(usize, String), AllocError> {
         let before = turn.place.saturating_sub(1);
         let (place, end) = match self.course.command(turn) {
             None => (
@@ -237,7 +237,7 @@ impl Scene<'_, '_> {
             Some(_) if self.course.past(turn).done > 0 => (turn.place, " comes next once more"),
             Some(_) => (turn.place, " comes next"),
         };
-        let text = match self.course.command(Turn { place, ..turn }) {
+        let text = match self.course.command(TaskPlace { place, ..turn }) {
             None => {
                 let text = "its code has no command, and it ends at its next step";
                 String::from_str(self.alloc, text)?

@@ -17,7 +17,7 @@ pub const END: Word = Word::Tasks(TaskWord::RemTask);
 
 /// What was done, and when.
 #[derive(Clone, Copy)]
-pub struct Deed {
+pub struct Act {
     /// The command that did it; none if it was the timer.
     pub spot: Option<Spot>,
     /// The number of the step, tick or request in which it was.
@@ -27,9 +27,9 @@ pub struct Deed {
 /// The last time that a signal came to a task.
 #[derive(Clone, Copy)]
 pub struct Came {
-    pub sent: Deed,
+    pub sent: Act,
     /// The command of the task that has cleared it since.
-    pub gone: Option<Deed>,
+    pub gone: Option<Act>,
 }
 
 /// What is noted of what was sent.
@@ -42,11 +42,11 @@ pub struct Sends {
     /// The task to which each signal came last.
     aims: Vec<Option<usize>>,
     /// What has put a message, or the reply of a request, into a port.
-    pub puts: HashMap<u32, Deed>,
+    pub puts: HashMap<u32, Act>,
     /// When each task ended; 0 if it did not.
     pub ended: Vec<u64>,
     /// What was sent to each task after its end.
-    pub late: Vec<Option<Deed>>,
+    pub late: Vec<Option<Act>>,
     /// Whether nothing was lost when memory was refused.
     pub is_whole: bool,
 }
@@ -130,7 +130,7 @@ impl Sends {
     }
 
     /// Notes that a signal came to a task.
-    fn add(&mut self, task: usize, signal: u32, deed: Deed) {
+    fn add(&mut self, task: usize, signal: u32, deed: Act) {
         self.set(
             task,
             signal,
@@ -145,7 +145,7 @@ impl Sends {
     }
 
     /// Notes that signals were sent to a task.
-    fn come(&mut self, machine: &Linked, task: usize, mask: u32, deed: Deed) {
+    fn come(&mut self, machine: &Linked, task: usize, mask: u32, deed: Act) {
         if is_over(machine, task) {
             if let Some(late) = self.late.get_mut(task) {
                 *late = Some(deed);
@@ -166,14 +166,14 @@ impl Sends {
     }
 
     /// Notes that a task has given itself signals.
-    fn set_own(&mut self, machine: &Linked, mask: u32, deed: Deed) {
+    fn set_own(&mut self, machine: &Linked, mask: u32, deed: Act) {
         if let Some(task) = deed.spot.and_then(|spot| spot.task()) {
             self.come(machine, task, mask, deed);
         }
     }
 
     /// Notes that a message, or the reply of a request, was put into the port that has it.
-    pub(crate) fn put(&mut self, machine: &Linked, message: u32, deed: Deed) {
+    pub(crate) fn put(&mut self, machine: &Linked, message: u32, deed: Act) {
         let Some(address) = machine.port_with(message) else {
             return;
         };
@@ -188,7 +188,7 @@ impl Sends {
     }
 
     /// Notes that a task has ended, if it has: that of a number, or for 0 the one whose command it was.
-    fn end(&mut self, machine: &Linked, number: u32, deed: Deed) {
+    fn end(&mut self, machine: &Linked, number: u32, deed: Act) {
         let own = deed.spot.and_then(|spot| spot.task());
         let task = match (number, own) {
             (0, None) => return,
@@ -203,7 +203,7 @@ impl Sends {
     }
 
     /// Notes a call of a word that sends, with its first two arguments.
-    pub(crate) fn note(&mut self, machine: &Linked, word: Word, values: (u32, u32), deed: Deed) {
+    pub(crate) fn note(&mut self, machine: &Linked, word: Word, values: (u32, u32), deed: Act) {
         let (first, second) = values;
         match word {
             Word::Signals(SignalWord::SetSignal) => self.set_own(machine, first & second, deed),
@@ -217,7 +217,7 @@ impl Sends {
     }
 
     /// Notes that a command has cleared a signal that came, unless one did before.
-    fn take(&mut self, task: usize, signal: u32, deed: Deed) {
+    fn take(&mut self, task: usize, signal: u32, deed: Act) {
         if let Some(came) = self.came(task, signal) {
             self.set(
                 task,
@@ -231,7 +231,7 @@ impl Sends {
     }
 
     /// Notes which of the signals that came to a task its command has cleared.
-    pub(crate) fn clear(&mut self, machine: &Linked, task: usize, deed: Deed) {
+    pub(crate) fn clear(&mut self, machine: &Linked, task: usize, deed: Act) {
         let received = machine.task(task).map_or(0, |view| view.received);
         let kept = self.kept.get(task).copied().unwrap_or(0);
         let cleared = kept & !received;

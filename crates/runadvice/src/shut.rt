@@ -1,7 +1,7 @@
 //! A part of a task's code that no line leads out of, whatever the variables hold, and in which nothing is called.
 use crate::lap::Stretch;
 use crate::next::{Way, way_after};
-use crate::step::Turn;
+use crate::step::TaskPlace;
 use script::Command;
 use std::alloc::{AllocError, Global};
 
@@ -34,7 +34,7 @@ fn spread(marks: &mut Vec<bool>, code: &[Command]) -> Option<bool> {
 pub fn shut_part(
     alloc: Global,
     code: &[Command],
-    turn: Turn,
+    turn: TaskPlace,
 ) -> Result<Option<Stretch>, AllocError> {
     let mut marks = vec![in alloc; false; code.len()]?;
     let mut goes_on = mark(&mut marks, turn.place);

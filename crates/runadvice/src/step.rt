@@ -23,12 +23,12 @@ pub struct Site {
 
 /// What is about to be done: the next command of a task.
 #[derive(Clone, Copy, PartialEq, Eq)]
-pub struct Turn {
+pub struct TaskPlace {
     pub task: usize,
     pub place: usize,
 }
 
-impl Turn {
+impl TaskPlace {
     /// That command.
     pub fn spot(self) -> Spot {
         Spot::of_task(self.task, self.place)
