@@ -14,3 +14,4 @@ pub mod Resting
 pub mod Standing
 pub mod Time
 pub mod Views
+pub mod Adding

@@ -5,6 +5,7 @@ ghost use Rattle.script.specs.Events.{event_ticks};
 ghost use Rattle.execmodel.specs.{State.State, State.booted, State.andthen, Step.starts, Step.event, Step.events};
 ghost use Rattle.execsim.specs.{Advancing.Advances, Advancing.Ends, Agreement.Agrees, Headline.Acts, Headline.StaysFailed, Headline.Finishes, Headline.flow_of, Playing.Plays, Reached.QueuesAgree, Resetting.HasRoomFor, Time.HasTimeFor};
 
+mod adding;
 mod feeding;
 mod queues;
 mod readers;
@@ -15,6 +16,7 @@ use crate::kernel::Kernel;
 use execlist::space::ListSpace;
 use exectrace::sinks::written;
 use exectrace::{Sink, Witness, WriteFault};
+pub use adding::AddFault;
 pub use readers::{MachineView, TaskView};
 use script::{Event, MachineFile};
 use std::alloc::{AllocError, Global};
