@@ -6,7 +6,7 @@
  * to 16 that divides its size. What a program keeps is all in its machines, so calls in several threads need not wait for one another if each has a
  * machine of its own; a machine stays in the thread that opened it. No call is to be made from a signal handler.
  *
- * Proved is what execsim_run, execsim_open, execsim_events and execsim_take hand out, what execsim_view, execsim_task and execsim_at_end show, what
+ * Proved is what execsim_run, execsim_open, execsim_events and execsim_take hand out, what execsim_view, execsim_task, execsim_request, execsim_message and execsim_at_end show, what
  * execsim_feed and execsim_add_task make of a machine, and that execsim_check refuses exactly what is refused and does not pass over an alert. Tested is what execsim_log,
  * execsim_state, execsim_picture, execsim_chrome, execsim_explore and execsim_way put into the buffer: it is compared with what the commands write;
  * and names, blocks and other findings. */
@@ -206,6 +206,28 @@ typedef struct {
 uint32_t execsim_view(execsim_machine *machine, execsim_machine_view *view);
 uint32_t execsim_task(execsim_machine *machine, size_t task, execsim_task_view *view);
 uint32_t execsim_block(execsim_machine *machine, uint32_t address, execsim_block_view *view);
+
+/* What is seen of a timer request. */
+typedef struct {
+    uint32_t reply_port; /* the address of its reply port */
+    uint32_t state;      /* 0 never begun, 1 in progress, 2 finished at once, 3 replied */
+    uint32_t unit;       /* the unit that it is open for, or EXECSIM_NO_UNIT */
+    uint32_t command;
+    uint32_t seconds;    /* its time */
+    uint32_t micros;
+    int32_t error;       /* 0, or why it failed */
+    uint32_t quick;      /* 1 if IOF_QUICK is set in its flags */
+} execsim_request_view;
+
+#define EXECSIM_NO_UNIT UINT32_MAX
+
+/* Puts what is seen of the timer request that begins at an address into *view. EXECSIM_RAN: it is there. EXECSIM_NOT_THERE: no request begins there;
+ * EXECSIM_NO_MACHINE: there is none; *view is as it was then. */
+uint32_t execsim_request(execsim_machine *machine, uint32_t address, execsim_request_view *view);
+
+/* Puts the address of the message, or request, after another one in a port into *message, or of the first one if after is 0, in order of arrival; 0 at the
+ * end, and if no port begins at the address or it does not have that message. EXECSIM_RAN: it is there. EXECSIM_NO_MACHINE: there is no machine. */
+uint32_t execsim_message(execsim_machine *machine, uint32_t port, uint32_t after, uint32_t *message);
 
 /* Puts the name of a task into a buffer: *length bytes, without a 0. EXECSIM_TOO_LONG if it has more than the buffer, which is as it was; at most 31. */
 uint32_t execsim_task_name(execsim_machine *machine, size_t task, uint8_t *out, size_t out_length, uint64_t *length);

@@ -1,7 +1,7 @@
 -- What becomes of a machine that C keeps if a task is added to it.
-use Rattle.std.specs.Prelude.{◌≡◌, ◌⊎◌, ℕ, ℤ, ◌≤ℤ◌, false, pos, negsuc, length, List, Some}
+use Rattle.std.specs.Prelude.{◌≡◌, ◌⊎◌, ℕ, ℤ, false, length, List, Some}
 use Rattle.script.specs.{File.TaskData, Names.is_name}
-use Rattle.execmodel.specs.Feeding.{Adds, does_input}
+use Rattle.execmodel.specs.{Feeding.Adds, Feeding.does_input, Tasks.is_priority}
 use Rattle.execsim.specs.Adding.{new_task, seen_with_new}
 use Rattle.execsim_c.specs.{Held.Kept, Stepping.Does, declared.session.Session.Session}
 
@@ -22,10 +22,6 @@ pub record HasAdded (name : List ℕ) (pri : ℤ) (number : ℕ) (before now : K
   pub number_is : number ≡ length old.machine.seen.scripts.programs
   pub adds : AddsTask (new_task name pri) old new
 
--- a priority of a task is from -128 to 127
-abbrev pub IsTaskPriority : ℤ → Type 0
-IsTaskPriority pri = (negsuc 127 ≤ℤ pri) × (pri ≤ℤ pos 127)
-
--- a name that a machine file refuses, or a priority
+-- a name that no machine file has, or a priority that no task has
 abbrev pub CannotBeAdded : List ℕ → ℤ → Type 0
-CannotBeAdded name pri = (is_name name ≡ false) ⊎ ¬ (IsTaskPriority pri)
+CannotBeAdded name pri = (is_name name ≡ false) ⊎ (is_priority pri ≡ false)

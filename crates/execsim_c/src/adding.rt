@@ -1,8 +1,9 @@
 //! A machine that C keeps, to which tasks are added between its events.
-ghost use Rattle.std.specs.Prelude.{◌≡◌, ◌≢◌, ◌≤◌, ◌⊎◌, false, length, true, IfSome, MatchOption};
+ghost use Rattle.std.specs.Prelude.{◌≡◌, ◌≢◌, ◌≤◌, ◌⊎◌, false, length, true, MatchOption};
 ghost use Rattle.script.specs.Names.{is_name};
+ghost use Rattle.execmodel.specs.Tasks.{is_priority};
 ghost use Rattle.execsim.specs.Adding.{new_task};
-ghost use Rattle.execsim_c.specs.{Adding.AddsTask, Adding.CannotBeAdded, Adding.HasAdded, Adding.IsTaskPriority, Handles.Sees};
+ghost use Rattle.execsim_c.specs.{Adding.AddsTask, Adding.CannotBeAdded, Adding.HasAdded, Handles.Sees};
 
 use crate::handle::MachineHandle;
 use crate::session::Session;
@@ -25,9 +26,12 @@ fn name_of(bytes: &[u8]) -> Option<Name>
 
 /// The priority of a task that a number is, if it is one.
 fn priority_of(number: i32) -> Option<i8>
-    ensures { MatchOption result (¬ (IsTaskPriority number)) (λ pri. pri ≡ number) }
+    ensures { MatchOption result (is_priority number ≡ false) (λ pri. pri ≡ number) }
 {
-    i8::try_from(number).ok()
+    if number < -128 || 127 < number {
+        return None;
+    }
+    Some(number as i8)
 }
 
 /// Adds a task to a machine that goes on, and answers the status. `task` is its number then.

@@ -1,6 +1,6 @@
 //! What a C program calls, by the header `execsim.h`: two texts in, the trace of their run out, or its log and its states (`logging`), its picture (`drawing`),
 //! what is found in them (`checking`), or a search (`exploring`); and a machine that is kept between calls (`stepping`), whose tasks and blocks are read
-//! between any two events (`reading`), whose bodies grow between them (`feeding`), and to which tasks are added (`adding`).
+//! between any two events (`reading`, `objects`), whose bodies grow between them (`feeding`), and to which tasks are added (`adding`).
 #![tactic(auto)]
 
 mod absent;
@@ -13,6 +13,7 @@ mod handle;
 mod logging;
 mod loose;
 mod names;
+mod objects;
 mod put;
 mod reading;
 mod refusal;
