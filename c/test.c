@@ -346,7 +346,7 @@ static void add(void) {
 
 /* Requests, and the messages of a port in order. */
 static void objects(void) {
-    static const char *file = "[[task]]\nname = \"a\"\ncode = [\"p = CreateMsgPort\", \"m = NewMsg p 1\", \"n = NewMsg p 2\", \"PutMsg p m\", \"PutMsg p n\", "
+    static const char *file = "[[region]]\nbase = 4096\nsize = 4096\n[[task]]\nname = \"a\"\ncode = [\"p = CreateMsgPort\", \"m = NewMsg p 1\", \"n = NewMsg p 2\", \"PutMsg p m\", \"PutMsg p n\", "
                               "\"r = CreateIORequest p\", \"Wait $1000\"]\n";
     execsim_machine machine = EXECSIM_NO_MACHINE_YET;
     execsim_request_view request;
@@ -355,7 +355,7 @@ static void objects(void) {
     count("no machine of objects", execsim_request(&machine, 8, &request) == EXECSIM_NO_MACHINE &&
                                        execsim_message(&machine, 8, 0, &message) == EXECSIM_NO_MACHINE && message == 7);
     count("a machine of objects", open_text(&machine, file) == EXECSIM_RAN && do_text(&machine, "run 9") == EXECSIM_RAN);
-    for (uint32_t address = 0x1000; address < 0x300000; address += 8)
+    for (uint32_t address = 0x1000; address < 0x2000; address += 8)
         if (execsim_block(&machine, address, &block) == EXECSIM_RAN) {
             if (block.kind == EXECSIM_PORT) ports++, port = address;
             if (block.kind == EXECSIM_REQUEST) at = address;

@@ -9,8 +9,8 @@ use taskq::TaskId;
 use taskscript::{read_fed, read_machine};
 
 /// A machine whose tasks wait for a semaphore, are ready, and run, to which a task is added then; and the machine that has all from the start.
-const BEFORE: &[u8] = b"[[task]]\nname = 'a'\ncode = ['NewSem', 'ObtainSemaphore $200000', 'Wait $1000', 'ReleaseSemaphore $200000', 'AddTask 4', 'Print 5']\n[[task]]\nname = 'b'\ncode = ['ObtainSemaphore $200000', 'ReleaseSemaphore $200000', 'Print 6']\n[[task]]\nname = 'c'\npri = -1\ncode = ['Signal 1 $1000']\n";
-const AFTER: &[u8] = b"[[task]]\nname = 'a'\ncode = ['NewSem', 'ObtainSemaphore $200000', 'Wait $1000', 'ReleaseSemaphore $200000', 'AddTask 4', 'Print 5']\n[[task]]\nname = 'b'\ncode = ['ObtainSemaphore $200000', 'ReleaseSemaphore $200000', 'Print 6']\n[[task]]\nname = 'c'\npri = -1\ncode = ['Signal 1 $1000']\n[[task]]\nname = 'd'\npri = 1\nstart = false\ncode = ['ObtainSemaphore $200000', 'Print 7']\n";
+const BEFORE: &[u8] = b"[[region]]\nbase = 4096\nsize = 4096\n[[task]]\nname = 'a'\ncode = ['NewSem', 'ObtainSemaphore $1000', 'Wait $2000', 'ReleaseSemaphore $1000', 'AddTask 4', 'Print 5']\n[[task]]\nname = 'b'\ncode = ['ObtainSemaphore $1000', 'ReleaseSemaphore $1000', 'Print 6']\n[[task]]\nname = 'c'\npri = -1\ncode = ['Signal 1 $2000']\n";
+const AFTER: &[u8] = b"[[region]]\nbase = 4096\nsize = 4096\n[[task]]\nname = 'a'\ncode = ['NewSem', 'ObtainSemaphore $1000', 'Wait $2000', 'ReleaseSemaphore $1000', 'AddTask 4', 'Print 5']\n[[task]]\nname = 'b'\ncode = ['ObtainSemaphore $1000', 'ReleaseSemaphore $1000', 'Print 6']\n[[task]]\nname = 'c'\npri = -1\ncode = ['Signal 1 $2000']\n[[task]]\nname = 'd'\npri = 1\nstart = false\ncode = ['ObtainSemaphore $1000', 'Print 7']\n";
 
 /// What a machine writes if nothing is added to it, over that many steps. None if a write fails.
 fn whole(
@@ -38,7 +38,7 @@ fn grown(
     before: u32,
     steps: u32,
 ) -> Result<Option<(Vec<u8>, TaskId)>, AllocError> {
-    let first = match read_fed(alloc, "ObtainSemaphore $200000") {
+    let first = match read_fed(alloc, "ObtainSemaphore $1000") {
         Ok(command) => command,
         Err(_) => return Ok(None),
     };
