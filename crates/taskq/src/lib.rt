@@ -127,6 +127,7 @@ impl<S: ListSpace> TaskQ<S> {
 
     // The names and the priorities of the tasks, and of one more.
     fn inits_with(&self, alloc: Global, task: TaskInit) -> Result<Vec<TaskInit>, AllocError>
+        ensures count { IfOk result (λ v. length v.items ≡ length self.now.states + 1) }
         ensures pris { IfOk result (λ v. map (λ t. t.pri) v.items ≡ self.now.pris ++ task.pri ∷ []) }
         ensures names { IfOk result (λ v. map (λ t. t.name.bytes) v.items ≡ self.now.names ++ task.name.bytes ∷ []) }
     {
