@@ -1,4 +1,5 @@
 -- The lemma files of `execsim_c`.
+mod Added
 mod Fed
 mod Kept
 mod Steps

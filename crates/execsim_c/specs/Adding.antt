@@ -1,5 +1,5 @@
 -- What becomes of a machine that C keeps if a task is added to it.
-use Rattle.std.specs.Prelude.{◌≡◌, ◌⊎◌, ℕ, ℤ, false, length, List, Some}
+use Rattle.std.specs.Prelude.{◌≡◌, ◌⊎◌, ℕ, ℤ, false, length, IsUtf8, List, Some}
 use Rattle.script.specs.{File.TaskData, Names.is_name}
 use Rattle.execmodel.specs.{Feeding.Adds, Feeding.does_input, Tasks.is_priority}
 use Rattle.execsim.specs.Adding.{new_task, seen_with_new}
@@ -22,6 +22,6 @@ pub record HasAdded (name : List ℕ) (pri : ℤ) (number : ℕ) (before now : K
   pub number_is : number ≡ length old.machine.seen.scripts.programs
   pub adds : AddsTask (new_task name pri) old new
 
--- a name that no machine file has, or a priority that no task has
+-- a name that no machine file has, or that is no text; or a priority that no task has
 abbrev pub CannotBeAdded : List ℕ → ℤ → Type 0
-CannotBeAdded name pri = (is_name name ≡ false) ⊎ (is_priority pri ≡ false)
+CannotBeAdded name pri = (IsUtf8 name → is_name name ≡ false) ⊎ (is_priority pri ≡ false)

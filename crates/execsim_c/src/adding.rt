@@ -1,5 +1,5 @@
 //! A machine that C keeps, to which tasks are added between its events.
-ghost use Rattle.std.specs.Prelude.{◌≡◌, ◌≢◌, ◌≤◌, ◌⊎◌, false, length, true, MatchOption};
+ghost use Rattle.std.specs.Prelude.{◌≡◌, ◌≢◌, ◌≤◌, ◌⊎◌, false, length, true, IsUtf8, MatchOption};
 ghost use Rattle.script.specs.Names.{is_name};
 ghost use Rattle.execmodel.specs.Tasks.{is_priority};
 ghost use Rattle.execsim.specs.Adding.{new_task};
@@ -15,13 +15,19 @@ use std::str::from_utf8;
 
 /// The name that these bytes are, if they are one.
 fn name_of(bytes: &[u8]) -> Option<Name>
-    ensures { MatchOption result (is_name bytes.now ≡ false) (λ n. n.bytes ≡ bytes.now) }
+    ensures { MatchOption result (IsUtf8 bytes.now → is_name bytes.now ≡ false) (λ n. n.bytes ≡ bytes.now) }
 {
     if !is_name(bytes) {
         return None;
     }
-    let text = from_utf8(bytes).ok()?;
-    Name::from(text).ok()
+    let text = match from_utf8(bytes) {
+        Ok(text) => text,
+        Err(_) => return None,
+    };
+    match Name::from(text) {
+        Ok(name) => Some(name),
+        Err(_) => None,
+    }
 }
 
 /// The priority of a task that a number is, if it is one.

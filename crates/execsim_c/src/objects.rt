@@ -122,7 +122,7 @@ fn asked(address: u32) -> Option<u32>
 }
 
 /// The address of a message, 0 for none.
-fn shown(message: Option<u32>) -> u32
+fn address_of(message: Option<u32>) -> u32
     ensures { result ≡ address_shown message }
 {
     match message {
@@ -152,7 +152,7 @@ pub extern "C" fn execsim_message(
         Some(session) => session,
         None => return NO_MACHINE,
     };
-    *message = shown(session.machine.message_after(port, asked(after)));
+    *message = address_of(session.machine.message_after(port, asked(after)));
     handle.put(session);
     RAN
 }
