@@ -1,5 +1,5 @@
 -- How sequences are copied to a space with one more node.
-use Rattle.std.proofs.Common.{inl, inr, ◌⊎◌, ◌≡◌, ◌≢◌, ℕ, zero, suc, ◌+◌, ◌<◌, ◌≤◌, cond, List, [], ◌∷◌, ◌++◌, length, Option, Some, None, refl, sym, ap, ap₂, ◌∙◌, arith, slice_index_or, slice_set, append_assoc, append-nil, get_or-set_same, get_or-set_other, set-set, set-get_or, length-set, eq-eqb, eqb-true, eqb, Bool, true, false}
+use Rattle.std.proofs.Common.{inl, inr, ◌⊎◌, ◌≡◌, ◌≢◌, ℕ, zero, suc, ◌+◌, ◌<◌, ◌≤◌, cond, List, [], ◌∷◌, ◌++◌, length, Option, Some, None, refl, sym, ap, ap₂, ◌∙◌, arith, slice_index_or, slice_set, replicate, append_assoc, append-nil, get_or-set_same, get_or-set_other, set-set, set-get_or, length-set, eq-eqb, eqb-true, eqb, Bool, true, false}
 use Rattle.std.proofs.lemmas.Bool.{cond-true, cases_eq, cases_lt}
 use Rattle.execlist.specs.{Order.first, Lists.sequence, Lists.home, Lists.is_at, Lists.times, Lists.ahead, Lists.part_after}
 use Rattle.execlist.proofs.{PlainLemmas.times-append, PlainLemmas.times_same, Walks.Once, Walks.ahead_after, Walks.ahead_first, Walks.in_sequence}
@@ -138,3 +138,9 @@ homes_copied all from homes homes_from stands stood is count =
     none_more homes homes_from count
     (λ n. same_home (home homes n) (home homes_from n)
     (λ k. sym (stands k n) ∙ ap (λ (xs : List (List ℕ)). times n (sequence xs k)) is ∙ stood k n))
+
+-- an empty header
+pub empty_at : (n k : ℕ) → sequence (replicate n []) k ≡ []
+empty_at zero k = refl
+empty_at (suc n) zero = refl
+empty_at (suc n) (suc k) = empty_at n k

@@ -7,9 +7,9 @@ use Rattle.taskq.specs.declared.TaskState.TheVariants.{Absent}
 use Rattle.taskq.specs.Tasks.{is_ready}
 use Rattle.script.specs.File.{TaskData}
 use Rattle.scheduler.specs.{Joining.joined_by, Schedule.Schedule, Schedule.status_of, Schedule.task_count}
-use Rattle.execmodel.specs.{State.Memory, State.Scripts, State.State, State.new_program, Feeding.with_new}
+use Rattle.execmodel.specs.{State.Memory, State.Program, State.Scripts, State.State, State.begun_with, State.new_program, Feeding.with_new}
 use Rattle.execmodel.proofs.NewTask.{get_last}
-use Rattle.execsim.specs.{Adding.seen_with_new, Agreement.Seen, Agreement.Agrees, Agreement.Moves, Agreement.in_order, Headline.Shown, Reached.after_adding, Time.IsKnown}
+use Rattle.execsim.specs.{Adding.new_task, Adding.seen_with_new, Agreement.Seen, Agreement.Agrees, Agreement.Moves, Agreement.in_order, Headline.Shown, Reached.after_adding, Time.IsKnown}
 use Rattle.execsim.proofs.Ordering.{none_in_order, not_there}
 
 -- ---- the ready tasks
@@ -38,6 +38,14 @@ none_ready y ready count =
     ∙ ap {B = ℕ} (λ (status : TaskState). if is_ready status then 1 else 0) (past_end Absent y.queue.states)
 
 -- ---- what the machine shows
+
+-- a machine whose schedule, programs and memory have one more task each
+pub parts_joined : (name : List ℕ) (pri : ℤ) (m : Seen) (schedule : Schedule) (programs : List Program) (program : Program) (memory : Memory)
+    → schedule ≡ joined_by pri name m.schedule → programs ≡ m.scripts.programs → program ≡ begun_with [] false
+    → memory ≡ record m.memory { tasks = suc m.memory.tasks }
+    → record m { schedule = schedule; scripts = record m.scripts { programs = programs ++ program ∷ [] }; memory = memory } ≡ seen_with_new (new_task name pri) m
+parts_joined name pri m schedule programs program memory joins same begins shows =
+    λ i. record m { schedule = joins i; scripts = record m.scripts { programs = same i ++ begins i ∷ [] }; memory = shows i }
 
 module _ (task : TaskData) (m : Seen) (none : times (length m.schedule.queue.pris) m.schedule.queue.ready ≡ 0) where
   agrees_new : (s : State) → Agrees m s → Agrees (seen_with_new task m) (with_new task s)
