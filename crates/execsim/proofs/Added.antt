@@ -1,5 +1,5 @@
 -- What becomes of a machine to which a task is added.
-use Rattle.std.proofs.Common.{◌≡◌, ◌≢◌, ◌∙◌, ℕ, suc, ℤ, pos, List, [], ◌∷◌, ◌++◌, get_or, slice_index_or, length, if◌then◌else◌, refl, sym, ap, subst, Bool, Result, Ok, Err, OnOk, OnErr}
+use Rattle.std.proofs.Common.{◌≡◌, ◌≢◌, ◌∙◌, ℕ, suc, ℤ, pos, List, [], ◌∷◌, ◌++◌, get_or, slice_index_or, length, if◌then◌else◌, refl, sym, ap, subst, Bool, false, Result, Ok, Err, OnOk, OnErr}
 use Rattle.execlist.specs.{Lists.times, Order.order, Disciplines.pri_at}
 use Rattle.execlist.proofs.OrderLaws.{order_reads_keys}
 use Rattle.taskq.specs.declared.TaskState.{TaskState}

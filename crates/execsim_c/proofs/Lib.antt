@@ -4,3 +4,4 @@ mod Fed
 mod Kept
 mod Steps
 mod Values
+mod Whole

@@ -10,6 +10,7 @@ mod drawing;
 mod exploring;
 mod feeding;
 mod handle;
+mod laws;
 mod logging;
 mod loose;
 mod names;
