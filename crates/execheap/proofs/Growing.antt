@@ -1,9 +1,10 @@
 -- One more task may wait at semaphores: what always holds stays, and the memory shows one more task.
-use Rattle.std.proofs.Common.{◌≡◌, ℕ, suc, ◌+◌, List, [], ◌∷◌, ◌++◌, length, map, refl, ap, sym, ◌∙◌, subst, arith, None, Option, Result, Ok, Err, OnOk, OnErr}
+use Rattle.std.proofs.Common.{◌≡◌, ℕ, suc, ◌+◌, List, [], ◌∷◌, ◌++◌, length, map, refl, ap, sym, ◌∙◌, subst, arith, None, Option, is_some, Result, Ok, Err, OnOk, OnErr}
 use Rattle.std.proofs.Math.Path.{fun_ext}
-use Rattle.sigsem.specs.Growing.{with_new_task}
+use Rattle.std.proofs.lemmas.List.{length-map}
+use Rattle.sigsem.specs.{Growing.with_new_task, Semaphores.Semaphores}
 use Rattle.execmodel.specs.State.{Object, Block, Memory}
-use Rattle.execheap.specs.Numbered.{Numbered, Fits, IsKept, object_of, own_shape, shown_entry, shown_heap, shown_memory, shown_tagged}
+use Rattle.execheap.specs.Numbered.{Numbered, Fits, IsKept, IsKnown, Shape, object_of, places, own_shape, shown_entry, shown_heap, shown_memory, shown_tagged}
 use Rattle.execheap.specs.{declared.tag.Kind.Kind, declared.tag.Tagged.Tagged, Growing.with_one_more_task, Tags.tagged, Table.pool_of}
 use Rattle.execheap.specs.declared.tag.Kind.TheVariants as variant
 use Rattle.execheap.specs.declared.tag.Tagged.TheVariants as tag
@@ -48,6 +49,17 @@ module _ (s : Numbered) where
   -- the memory has one more task, and all else is shown as before
   pub joined_shown : shown_memory (with_one_more_task s) ≡ record (shown_memory s) { tasks = suc s.tasks }
   joined_shown = λ i. record (shown_memory s) { heap = heap_same i; tasks = suc s.tasks }
+
+-- each semaphore has a queue
+pub each_queue : {s : Numbered} → IsKnown s → length s.sems.queues ≡ s.table.pool
+each_queue {s} known =
+    known.sems.each_queue ∙ sym (length-map s.sems.sems.slots is_some)
+    ∙ ap (λ (shape : Shape). length shape.held) (known.sound.kept.in_step variant.Semaphore)
+    ∙ length-map (places variant.Semaphore s) is_some ∙ known.sound.table.each variant.Semaphore
+
+-- the objects with other semaphores, and one task more
+pub added_objects : (s : Numbered) (q : Semaphores) → q ≡ with_new_task s.sems → record s { sems = q; tasks = s.tasks + 1 } ≡ with_one_more_task s
+added_objects s q is = (λ i. record s { sems = is i; tasks = s.tasks + 1 }) ∙ ap (λ n. record s { sems = with_new_task s.sems; tasks = n }) (let more : s.tasks + 1 ≡ suc s.tasks = omega arith in more)
 
 -- ---- what an answer says, whether memory was refused or not
 
