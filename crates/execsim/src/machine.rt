@@ -13,10 +13,10 @@ mod standing;
 
 use crate::boot::kernel_of;
 use crate::kernel::Kernel;
+pub use adding::AddFault;
 use execlist::space::ListSpace;
 use exectrace::sinks::written;
 use exectrace::{Sink, Witness, WriteFault};
-pub use adding::AddFault;
 pub use readers::{MachineView, TaskView};
 use script::{Event, MachineFile};
 use std::alloc::{AllocError, Global};

@@ -142,7 +142,12 @@ impl Session {
     /// # Errors
     ///
     /// There are 4,096 tasks, or memory was refused. The machine is as it was.
-    pub(crate) fn add_task(&mut self, alloc: Global, name: Name, pri: i8) -> Result<TaskId, AddFault>
+    pub(crate) fn add_task(
+        &mut self,
+        alloc: Global,
+        name: Name,
+        pri: i8,
+    ) -> Result<TaskId, AddFault>
         ensures number { IfOk result (λ t. t ≡ length self.old.machine.seen.scripts.programs) }
         ensures added { OnOk result (self.new ≡ record self.old { machine = record self.old.machine { seen = seen_with_new (new_task name.bytes pri) self.old.machine.seen } }) }
         ensures moves { OnOk result (Moves (with_new (new_task name.bytes pri)) self.old.machine.seen self.new.machine.seen) }

@@ -79,11 +79,7 @@ impl<S: ListSpace> Kernel<S> {
     }
 
     /// The schedule with one more task, and room for as many names and priorities.
-    fn joined(
-        &self,
-        alloc: Global,
-        init: TaskInit,
-    ) -> Result<(Sched<S>, Vec<TaskInit>), AllocError>
+    fn joined(&self, alloc: Global, init: TaskInit) -> Result<(Sched<S>, Vec<TaskInit>), AllocError>
         requires { length self.now.scripts.programs + 1 ≤ 4096 }
         ensures schedule { IfOk result (λ made. made.0 ≡ joined_by init.pri init.name.bytes self.now.schedule) }
         ensures room { IfOk result (λ made. length made.1.items ≡ length self.now.scripts.programs + 1) }

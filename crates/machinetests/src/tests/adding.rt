@@ -9,15 +9,14 @@ use taskq::TaskId;
 use taskscript::{read_fed, read_machine};
 
 /// A machine whose tasks wait for a semaphore, are ready, and run, to which a task is added then; and the machine that has all from the start.
-const BEFORE: &[u8] = b"[[region]]\nbase = 4096\nsize = 4096\n[[task]]\nname = 'a'\ncode = ['NewSem', 'ObtainSemaphore $1000', 'Wait $2000', 'ReleaseSemaphore $1000', 'AddTask 4', 'Print 5']\n[[task]]\nname = 'b'\ncode = ['ObtainSemaphore $1000', 'ReleaseSemaphore $1000', 'Print 6']\n[[task]]\nname = 'c'\npri = -1\ncode = ['Signal 1 $2000']\n";
-const AFTER: &[u8] = b"[[region]]\nbase = 4096\nsize = 4096\n[[task]]\nname = 'a'\ncode = ['NewSem', 'ObtainSemaphore $1000', 'Wait $2000', 'ReleaseSemaphore $1000', 'AddTask 4', 'Print 5']\n[[task]]\nname = 'b'\ncode = ['ObtainSemaphore $1000', 'ReleaseSemaphore $1000', 'Print 6']\n[[task]]\nname = 'c'\npri = -1\ncode = ['Signal 1 $2000']\n[[task]]\nname = 'd'\npri = 1\nstart = false\ncode = ['ObtainSemaphore $1000', 'Print 7']\n";
+const BEFORE: &[u8] =
+    b"[[region]]\nbase = 4096\nsize = 4096\n[[task]]\nname = 'a'\ncode = ['NewSem', 'ObtainSemaphore $1000', 'Wait $2000', 'ReleaseSemaphore $1000', 'AddTask 4', 'Print 5']\n[[task]]\nname = 'b'\ncode = ['ObtainSemaphore $1000', 'ReleaseSemaphore $1000', 'Print 6']\n[[task]]\nname = 'c'\npri = -1\ncode = ['Signal 1 $2000']\n";
+
+const AFTER: &[u8] =
+    b"[[region]]\nbase = 4096\nsize = 4096\n[[task]]\nname = 'a'\ncode = ['NewSem', 'ObtainSemaphore $1000', 'Wait $2000', 'ReleaseSemaphore $1000', 'AddTask 4', 'Print 5']\n[[task]]\nname = 'b'\ncode = ['ObtainSemaphore $1000', 'ReleaseSemaphore $1000', 'Print 6']\n[[task]]\nname = 'c'\npri = -1\ncode = ['Signal 1 $2000']\n[[task]]\nname = 'd'\npri = 1\nstart = false\ncode = ['ObtainSemaphore $1000', 'Print 7']\n";
 
 /// What a machine writes if nothing is added to it, over that many steps. None if a write fails.
-fn whole(
-    alloc: Global,
-    file: &MachineFile,
-    steps: u32,
-) -> Result<Option<Vec<u8>>, AllocError> {
+fn whole(alloc: Global, file: &MachineFile, steps: u32) -> Result<Option<Vec<u8>>, AllocError> {
     let mut machine: Machine<LinkSpace> = Machine::boot(alloc, file)?;
     let mut out = WriteSink::new(Vec::<u8>::new(alloc));
     match machine.start(&mut out) {
@@ -77,7 +76,10 @@ fn a_task_that_is_added_runs_as_one_of_the_file(rt: HostRuntime) -> Result<(), F
     let name = Name::from("d").expect(&rt, "a name");
     let trace = whole(alloc, &after, 30)?.expect(&rt, "the lines are written");
     for steps in 0..5 {
-        let (lines, number) = grown(alloc, &before, name, steps, 30 - steps)?.expect(&rt, "it is added");
+        let (lines, number) = grown(alloc, &before, name, steps, 30 - steps)?.expect(
+            &rt,
+            "it is added",
+        );
         assert!(rt; number == 3);
         assert!(rt; lines.as_slice() == trace.as_slice());
     }

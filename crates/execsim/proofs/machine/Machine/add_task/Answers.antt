@@ -8,8 +8,7 @@ use Rattle.execsim.proofs.machine.Machine.add_task.Goals as goal
 -- (until it has failed it shows a state with the task)
 pub invariant_of-self : goal.invariant_of-self
 invariant_of-self g c =
-    let none = none_ready _ c.join_task.ensures.ready c.join_task.ensures.pris in
-    (
+    let none = none_ready _ c.join_task.ensures.ready c.join_task.ensures.pris in (
       λ going. known_after_adding (new_task c.args.name.bytes c.args.pri) _ none _ c.join_task.result c.join_task.ensures.joined c.join_task.ensures.kept
           (c.self.invariant.0 going),
       not_known,
