@@ -4,7 +4,7 @@ pub mod Places
 pub mod Pools
 pub mod PlainLemmas
 pub mod Walks
-pub mod Growing
+pub mod Copying
 mod Computed
 pub mod Values
 pub mod Cells

@@ -1,7 +1,7 @@
 -- One more node goes after those so far, and the walk comes nearer to the end.
 use Rattle.std.proofs.Common.{◌≡◌, ◌<◌, ◌++◌, length, refl, ap, sym, ◌∙◌, arith, slice_set, set-get_or, length-set, [], Some}
 use Rattle.execlist.specs.Lists.{sequence, home, ahead, part_after}
-use Rattle.execlist.proofs.{Growing.all_copied, Growing.free, Growing.none_copied, Growing.placed_more, Growing.split_more, PlainLemmas.home_known, Walks.ahead_shorter, Walks.once_from}
+use Rattle.execlist.proofs.{Copying.all_copied, Copying.free, Copying.none_copied, Copying.placed_more, Copying.split_more, PlainLemmas.home_known, Walks.ahead_shorter, Walks.once_from}
 use Rattle.execlist.proofs.growing.copy_sequence.Goals as goal
 
 pub loop-next-init : goal.loop-next-init

@@ -2,7 +2,7 @@
 use Rattle.std.proofs.Common.{◌≡◌, ℕ, ◌<◌, ◌≤◌, ◌+◌, [], length, refl, ap, sym, ◌∙◌, arith, subst, replicate, length-set}
 use Rattle.std.proofs.lemmas.List.{length-replicate}
 use Rattle.execlist.specs.Lists.{sequence}
-use Rattle.execlist.proofs.Growing.{empty_at, front_more, homes_copied, rest_more, same_lists, unlinked}
+use Rattle.execlist.proofs.Copying.{empty_at, front_more, homes_copied, rest_more, same_lists, unlinked}
 use Rattle.execlist.proofs.growing.copy_sequences.Goals as goal
 
 pub loop-h-init : goal.loop-h-init
