@@ -1,5 +1,5 @@
 -- How sequences are copied to a space with one more node.
-use Rattle.std.proofs.Common.{inl, inr, ◌⊎◌, ◌≡◌, ◌≢◌, ℕ, zero, suc, ◌+◌, ◌<◌, ◌≤◌, cond, List, [], ◌∷◌, ◌++◌, length, Option, Some, None, refl, sym, ap, ap₂, ◌∙◌, arith, slice_index_or, slice_set, replicate, append_assoc, append-nil, get_or-set_same, get_or-set_other, set-set, set-get_or, length-set, eq-eqb, eqb-true, eqb, Bool, true, false}
+use Rattle.std.proofs.Common.{inl, inr, ◌⊎◌, ◌≡◌, ◌≢◌, ℕ, zero, suc, ◌+◌, ◌<◌, ◌≤◌, cond, List, [], ◌∷◌, ◌++◌, length, Option, Some, None, refl, sym, ap, ap₂, ◌∙◌, arith, slice_index_or, slice_set, replicate, append_assoc, append-nil, get_or-set_same, get_or-set_other, set-set, length-set, eq-eqb, eqb-true, eqb, Bool, true, false}
 use Rattle.std.proofs.lemmas.Bool.{cond-true, cases_eq, cases_lt}
 use Rattle.execlist.specs.{Order.first, Lists.sequence, Lists.home, Lists.is_at, Lists.times, Lists.ahead, Lists.part_after}
 use Rattle.execlist.proofs.{PlainLemmas.times-append, PlainLemmas.times_same, Walks.Once, Walks.ahead_after, Walks.ahead_first, Walks.in_sequence}
@@ -65,6 +65,11 @@ split_more all new h n next seq less once is after split =
 pub all_copied : (all old : List (List ℕ)) (h : ℕ) (seq : List ℕ) → all ≡ slice_set old h (sequence all h) → sequence all h ++ [] ≡ seq → all ≡ slice_set old h seq
 all_copied all old h seq placed split = placed ∙ ap (slice_set old h) (sym (append-nil (sequence all h)) ∙ split)
 
+-- no node is next
+pub none_next : (o : Option ℕ) → ((n : ℕ) → o ≡ Some n → ⊥) → o ≡ None
+none_next None never = refl
+none_next (Some n) never = absurd (never n refl)
+
 -- ---- all sequences
 
 -- a node of a header that is not copied yet is in no header of the other space
@@ -74,7 +79,7 @@ unlinked all from homes homes_from h n stands stood front rest own = by_home (ho
   where
     other : (k : ℕ) → k < h → times n (sequence from k) ≡ 0
     other k less = stood k n ∙ ap {B = ℕ} (λ o. cond (is_at o k) 1 0) own ∙ by_test (eqb h k) refl where
-      by_test : (b : Bool) → eqb h k ≡ b → cond b 1 0 ≡ 0
+      by_test : (b : Bool) → eqb h k ≡ b → cond {A = ℕ} b 1 0 ≡ 0
       by_test true e = absurd (omega (arith, less, eqb-true h k e))
       by_test false e = refl
 

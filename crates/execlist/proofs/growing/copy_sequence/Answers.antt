@@ -1,7 +1,8 @@
 -- One more node goes after those so far, and the walk comes nearer to the end.
-use Rattle.std.proofs.Common.{◌≡◌, ◌<◌, ◌++◌, length, refl, ap, sym, ◌∙◌, arith, slice_set, set-get_or, length-set, [], Some}
+use Rattle.std.proofs.Common.{◌≡◌, ◌<◌, ◌++◌, length, refl, ap, sym, ◌∙◌, arith, slice_set, length-set, [], Some}
+use Rattle.std.proofs.lemmas.List.{set-get_or}
 use Rattle.execlist.specs.Lists.{sequence, home, ahead, part_after}
-use Rattle.execlist.proofs.{Copying.all_copied, Copying.free, Copying.none_copied, Copying.placed_more, Copying.split_more, PlainLemmas.home_known, Walks.ahead_shorter, Walks.once_from}
+use Rattle.execlist.proofs.{Copying.all_copied, Copying.free, Copying.none_copied, Copying.none_next, Copying.placed_more, Copying.split_more, PlainLemmas.home_known, Walks.ahead_shorter, Walks.once_from}
 use Rattle.execlist.proofs.growing.copy_sequence.Goals as goal
 
 pub loop-next-init : goal.loop-next-init
@@ -75,4 +76,4 @@ returns-clause-copied g c =
     let seq = sequence (g.S.ListSpace.sequences c.args.from.now) c.args.h in
     let all = g.S.ListSpace.sequences c.loop-next.to in
     all_copied all (g.S.ListSpace.sequences c.args.to.now) c.args.h seq c.loop-next.invariant.placed
-    (ap (λ o. sequence all c.args.h ++ ahead o seq) (sym c.in-None.is) ∙ c.loop-next.invariant.split)
+    (sym (ap (λ o. sequence all c.args.h ++ ahead o seq) (none_next c.loop-next.next c.in_default.not-Some)) ∙ c.loop-next.invariant.split)
