@@ -45,7 +45,8 @@ fn refuse_name<E: Write>(err: &mut E) -> u8
     COMMAND_LINE_REFUSED
 }
 
-/// Searches the ways of a run, or all states of a machine if a word of the command line asks for that.
+/// Searches the ways of a run, or all states of a machine if a word of the command line asks for that, or says whether something holds in all ways if one
+/// asks for that.
 fn explore<R: Env + Files + Clock + AllocGlobal, W: Write + Drop, E: Write + IsTerminal>(
     rt: &R,
     out: W,
@@ -55,6 +56,9 @@ fn explore<R: Env + Files + Clock + AllocGlobal, W: Write + Drop, E: Write + IsT
 {
     if everystate::asks_for_all(rt) {
         return everystate::run_on_arguments(rt, out, err);
+    }
+    if everyway::asks_for_expectations(rt) {
+        return everyway::run_on_arguments(rt, out, err);
     }
     execexplore::run_on_arguments(rt, out, err)
 }

@@ -1,0 +1,3 @@
+-- The lemma files of `everyway`.
+pub mod Right
+pub mod Wholes

@@ -1,0 +1,17 @@
+//! What is to hold of a run, and whether it holds of each way of a frame: lines such as `never alert` and `print 1 before print 2`, each of them one
+//! definition over the run of the abstract machine.
+#![tactic(auto)]
+
+mod beginning;
+mod expectation;
+mod judging;
+mod meeting;
+mod silence;
+mod telling;
+mod walking;
+mod watch;
+
+pub use beginning::soonest;
+pub use expectation::Expectation;
+pub use judging::{Verdict, judge};
+pub use meeting::{Bench, meets};
