@@ -8,7 +8,7 @@ use crate::events::is_event;
 use crate::foreign::{Instead, instead_of, is_type, number_of_constants, place_of};
 use crate::made::Made;
 use crate::members::position_named;
-use crate::mending::{Mending, takes_task};
+use crate::mending::{Mending, is_store, takes_task};
 use crate::near::are_digits;
 use crate::plain::{plain_line, without_quotes};
 use crate::proposal::fix_of_line;
@@ -79,9 +79,24 @@ const HASH: &str =
 /// What is said of a line of an event text.
 const EVENT: &str = "this is a line of an event text, which is the second path";
 
+/// What is said of a store of C through an address.
+const NO_STORE: &str = "variables have no addresses, so nothing is written at one";
+
+/// What is said of the signal of a port.
+const PORT_SIGNAL: &str = "the signal of a port is not asked for; WaitPort p waits for its message";
+
 /// What is said of a line of a trace.
 const TRACE: &str =
     "this is a line of a trace, which execsim writes; a line of code has no name of a task before it";
+
+/// What is said of the end of a function in an interrupt.
+const INTERRUPT_END: &str = "write nothing: the body of an interrupt ends with its last line";
+
+/// What is said of a text that is to be printed.
+const NO_TEXTS: &str = "words are case-sensitive, and Print takes a value: there are no texts";
+
+/// What is said of a number as the name of a task.
+const FOUND: &str = "FindTask takes the name of a task and answers its number, which this is";
 
 /// What is said of `#` before a number.
 const NUMBER_HASH: &str = "a number has no # before it";
@@ -96,6 +111,15 @@ fn is_identifier_like(text: &str) -> bool {
             .as_bytes()
             .iter()
             .all(|b| b.is_ascii_alphanumeric() || *b == b'_' || *b == b'.')
+}
+
+/// What has the place of an operator of C for which there is no word, if the parts of a line are a step with one, as
+/// `x *= 2`.
+fn place_of_step(parts: &[&str]) -> Option<&'static str> {
+    match parts {
+        [_, operator, _] => place_of(name_of_operator(operator.trim_end_matches('='))?),
+        _ => None,
+    }
 }
 
 /// Whether the parts of a line begin with two variables and `=`.
@@ -152,6 +176,19 @@ fn is_copied_from_trace(line: &str) -> bool {
     line.contains(" -> $") || line.ends_with(" waits") || is_other && !line.contains('(')
 }
 
+/// What is said of a line of a trace, and of one of C that has to do with addresses.
+fn memory_reason(line: &str) -> Option<&'static str> {
+    if is_copied_from_trace(line) {
+        Some(TRACE)
+    } else if line.contains("mp_SigBit") {
+        Some(PORT_SIGNAL)
+    } else if is_store(line) {
+        Some(NO_STORE)
+    } else {
+        None
+    }
+}
+
 /// Whether a part begins as a number or as a text does.
 fn begins_as_value(part: &str) -> bool {
     let first = part.as_bytes().first().copied().unwrap_or(b' ');
@@ -186,6 +223,10 @@ fn instead_before_colon(parts: &[&str]) -> Option<Instead> {
 
 /// Why a number or a text is no word, of a line with that many parts.
 fn value_in_place(alloc: Global, text: &str, count: usize) -> Made<Option<&'static str>> {
+    match word_near(alloc, text)? {
+        Some(near) if text.eq_ignore_ascii_case(near) => return Ok(None),
+        _ => {}
+    }
     if is_value(text) && count > 3 {
         return Ok(Some("a word is first after the =, as in x = Add y 1"));
     }
@@ -318,6 +359,8 @@ fn constant_reason(field: &str) -> &'static str {
 fn foreign_number_reason(field: &str) -> &'static str {
     if number_of_constants(field).is_some() {
         "constants are written as numbers"
+    } else if field == "-0" {
+        "0 has no minus before it"
     } else if are_digits(field.trim_start_matches('-').trim_start_matches('+')) {
         "a number has no zero before its digits"
     } else {
@@ -606,6 +649,9 @@ impl Line<'_, '_, '_> {
         if word_of(field).is_some() {
             return String::from_str(self.alloc, CALL_WITHIN);
         }
+        if word.text() == "FindTask" && is_number(field) {
+            return String::from_str(self.alloc, FOUND);
+        }
         String::from_str(self.alloc, self.kind_reason(kind, field)?)
     }
 
@@ -648,6 +694,15 @@ impl Line<'_, '_, '_> {
         Ok(None)
     }
 
+    /// Why a text is no word that is no name of another system.
+    fn unknown_reason(&self, text: &str) -> Made<String> {
+        let has_quote = self.text.contains('"') || self.text.contains('\'');
+        if has_quote && self.meant.is_none() && text.eq_ignore_ascii_case("print") {
+            return unknown_text(self.alloc, text, NO_TEXTS);
+        }
+        unknown_word_reason(self.alloc, text, self.meant)
+    }
+
     /// Why the part of that number is no word.
     fn word_reason(&self, fields: &[&str], at: usize) -> Made<String> {
         let alloc = self.alloc;
@@ -682,7 +737,7 @@ impl Line<'_, '_, '_> {
         }
         match instead_of(text) {
             Some(instead) => instead_reason(alloc, text, instead),
-            None => unknown_word_reason(alloc, text, self.meant),
+            None => self.unknown_reason(text),
         }
     }
 
@@ -772,8 +827,8 @@ impl Line<'_, '_, '_> {
 
     /// What is wrong with a line that has a sign of C, or the name of a type.
     fn sign_reason(&self, plain: &str) -> Made<Option<&'static str>> {
-        if is_copied_from_trace(self.text) {
-            return Ok(Some(TRACE));
+        if let Some(reason) = memory_reason(self.text) {
+            return Ok(Some(reason));
         }
         if self.text.contains("->") || has_field(self.text.trim_end_matches(';')) {
             return Ok(Some(FIELDS));
@@ -832,10 +887,13 @@ impl Line<'_, '_, '_> {
             return Ok(Some(self.call_reason(parts)?));
         }
         if self.is_called(first) || self.meant.is_some() && is_operation(self.alloc, first)? {
-            return Ok(Some(unknown_word_reason(self.alloc, first, self.meant)?));
+            return Ok(Some(self.unknown_reason(first)?));
         }
         if self.meant.is_some() && plain.contains('#') {
             return Ok(Some(String::from_str(self.alloc, NUMBER_HASH)?));
+        }
+        if let Some(text) = place_of_step(parts) {
+            return Ok(Some(format!(in self.alloc; "there is no such operator; write {text}")?));
         }
         if has_two_targets(parts) {
             let reason = "a line has one variable before its word";
@@ -886,6 +944,9 @@ impl Line<'_, '_, '_> {
         match self.word()? {
             Some(word) if is_word_of_interrupt(word) => Ok(None),
             Some(word) => Ok(Some(lacked_in_interrupt(self.alloc, word.text())?)),
+            None if reason.contains("the end of the code ends the task") => {
+                Ok(Some(String::from_str(self.alloc, INTERRUPT_END)?))
+            }
             None
                 if ["Jump", "RemTask", "Wait", "IO", "Mem", "Sem"]
                     .iter()

@@ -61,6 +61,7 @@ const IS_NOT_ZERO: &str =
 
 /// Whether a part is 0, or a name of it.
 fn is_nothing(part: &str) -> bool {
+    let part = part.trim_end_matches(':');
     part == "0" || number_of_constants(part) == Some(0)
 }
 

@@ -54,9 +54,11 @@ const SIGN: &str =
 
 /// Names of calls of amiga.lib, of dos.library and of other systems, that make, end and time tasks, and show numbers, each with what is written in their
 /// place.
-const CALLS: [(&str, &str); 48] = [
+const CALLS: [(&str, &str); 57] = [
     ("NewCreateTask", NEW_TASK),
     ("CreateTaskTags", NEW_TASK),
+    ("CreateProcess", NEW_TASK),
+    ("task", "a [[task]] table of the file"),
     ("StartTask", "AddTask NUMBER"),
     ("KillTask", "RemTask NUMBER"),
     ("SendMessage", "PutMsg p m"),
@@ -72,6 +74,13 @@ const CALLS: [(&str, &str); 48] = [
     ("DoTimer", SLEEP),
     ("OpenTimer", "e = OpenDevice \"timer.device\" 0 r"),
     ("Schedule", YIELD),
+    ("CreateSem", "s = NewSem"),
+    ("AddMsgPort", "AddPort p \"NAME\" 0"),
+    ("FindMsgPort", "p = FindPort \"NAME\""),
+    ("DelPort", "DeleteMsgPort p"),
+    ("InsertHead", "AddHead l n"),
+    ("Log", "Print x"),
+    ("AddVBlankInt", "a [[server]] table with source = \"VERTB\""),
     ("AddNode", "AddTail l n, AddHead l n or Enqueue l n"),
     ("RemNode", "Remove n"),
     ("AllocVecPooled", MEMORY),
@@ -109,7 +118,7 @@ const CALLS: [(&str, &str); 48] = [
 ];
 
 /// The same of calls that have to do with semaphores, signals, messages and memory.
-const LOCKS: [(&str, &str); 46] = [
+const LOCKS: [(&str, &str); 47] = [
     ("pthread_mutex_init", "s = NewSem"),
     ("mutex_init", "s = NewSem"),
     ("sem_init", "s = NewSem"),
@@ -133,6 +142,7 @@ const LOCKS: [(&str, &str); 46] = [
     ("raise", "Signal TASK MASK, with the number of the own task"),
     ("pause", "x = Wait MASK"),
     ("sigwait", "x = Wait MASK"),
+    ("WaitForSingleObject", "x = Wait MASK"),
     ("select", WAIT_ANY),
     ("poll", WAIT_ANY),
     ("epoll_wait", WAIT_ANY),
@@ -159,7 +169,7 @@ const LOCKS: [(&str, &str); 46] = [
 ];
 
 /// Names of other languages and of assemblers, each with what is written in their place.
-const SIGNS: [(&str, &str); 62] = [
+const SIGNS: [(&str, &str); 63] = [
     ("do", LOOP_END),
     ("until", LOOP_END),
     ("repeat", LOOP),
@@ -223,6 +233,7 @@ const SIGNS: [(&str, &str); 62] = [
     ("jne", "JumpNZ x LABEL"),
     ("jnz", "JumpNZ x LABEL"),
     ("JumpN", "JumpNZ x LABEL"),
+    ("Label", "NAME: alone, with its colon"),
     ("JumpZero", "JumpZ x LABEL"),
     ("JumpIfZero", "JumpZ x LABEL"),
     ("BranchZ", "JumpZ x LABEL"),
@@ -268,10 +279,12 @@ const NO_EXCEPTIONS: &str = "there are no exceptions; a call answers, and JumpZ 
 
 const KERNEL: &str = "the kernel does it itself, after a call or an interrupt";
 
+const COMMENT: &str = "a comment is written after the closing quote, behind #";
+
 const NO_GRAPHICS: &str = "there is Exec alone, with timer.device";
 
 /// Names of calls of amiga.lib, of dos.library and of C whose place nothing has, each with the reason, or with what serves.
-const LACKED: [(&str, &str); 41] = [
+const LACKED: [(&str, &str); 42] = [
     (
         "Open",
         "there are no files; OpenLibrary and OpenDevice open a library and a device",
@@ -290,6 +303,7 @@ const LACKED: [(&str, &str); 41] = [
         "there are no files; IOError r is the error of a request",
     ),
     ("DeleteFile", NO_FILES),
+    ("AllocDosObject", NO_FILES),
     ("LoadSeg", NO_PROGRAMS),
     ("UnLoadSeg", NO_PROGRAMS),
     ("Execute", NO_PROGRAMS),
@@ -334,7 +348,7 @@ const LACKED: [(&str, &str); 41] = [
 ];
 
 /// The same of other calls of C, and of words of other languages.
-const LACKED_SIGNS: [(&str, &str); 43] = [
+const LACKED_SIGNS: [(&str, &str); 45] = [
     ("memcpy", NO_BYTES),
     ("memset", NO_BYTES),
     ("memmove", NO_BYTES),
@@ -380,13 +394,12 @@ const LACKED_SIGNS: [(&str, &str); 43] = [
     ("throw", NO_EXCEPTIONS),
     ("trap", "there are no traps"),
     ("rte", "the end of the code of an interrupt ends it"),
-    (
-        "REM",
-        "a comment is written after the closing quote, behind #",
-    ),
+    ("REM", COMMENT),
+    ("**", COMMENT),
     ("OpenScreen", NO_GRAPHICS),
     ("OpenWindow", NO_GRAPHICS),
     ("WritePixel", NO_GRAPHICS),
+    ("ReadPixel", NO_GRAPHICS),
 ];
 
 /// The second part of the row of a name, in whatever case.
@@ -410,6 +423,7 @@ fn place_in(
 pub(crate) fn place_of_capitals(name: &str) -> Option<&'static str> {
     match name {
         "NEXT" => Some(LOOP_END),
+        "PAUSE" => Some(SLEEP),
         "P" => Some("ObtainSemaphore s for a semaphore, or Print x to show a number"),
         "V" => Some("ReleaseSemaphore s"),
         _ => None,

@@ -65,6 +65,8 @@ fn number_advice(alloc: Global, line: &str, digits: &str) -> Made<Advice> {
 fn source_advice(alloc: Global, line: &str, name: &str) -> Made<Advice> {
     let reason = if name.eq_ignore_ascii_case("VERTB") {
         "VERTB comes with each tick; PORTS and EXTER are asked for by irq"
+    } else if !name.is_empty() && are_digits(name) {
+        "a source has a name here: PORTS, of level 2, or EXTER, of level 6; VERTB, of level 3, comes with each tick"
     } else {
         "expected PORTS or EXTER here, a source of interrupts"
     };
@@ -162,10 +164,19 @@ fn plain_event(alloc: Global, line: &str) -> Made<String> {
     Ok(out)
 }
 
+/// The source of interrupts that is meant by a name or by the number of its level.
+fn source_meant(alloc: Global, name: &str) -> Made<Option<&'static str>> {
+    match name {
+        "2" => Ok(Some("PORTS")),
+        "6" => Ok(Some("EXTER")),
+        _ => nearest(alloc, name, &["PORTS", "EXTER"]),
+    }
+}
+
 /// The argument of an event that is meant by another one.
 fn argument_meant(alloc: Global, word: &str, argument: &str) -> Made<Option<String>> {
     if word == "irq" {
-        return match nearest(alloc, argument, &["PORTS", "EXTER"])? {
+        return match source_meant(alloc, argument)? {
             None => Ok(None),
             Some(source) => Ok(Some(String::from_str(alloc, source)?)),
         };
@@ -245,7 +256,7 @@ fn rest_reason(word: &str, rest: &str) -> &'static str {
     let another = [" run ", " tick ", " irq "];
     let first = rest.as_bytes().first().copied().unwrap_or(b' ');
     if word == "run" && first.is_ascii_alphabetic() {
-        "run takes its number alone: which task runs is not said here"
+        "run takes its number alone, and no name of a task"
     } else if another.iter().any(|event| rest.contains(*event)) {
         "each event has a line of its own"
     } else {

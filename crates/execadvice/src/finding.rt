@@ -83,7 +83,7 @@ impl File<'_> {
         let (alloc, table) = (self.alloc, &self.table);
         let body = body_at(table, place);
         let found = match fault {
-            FileFault::BadLabel => bad_label(alloc, body)?,
+            FileFault::BadLabel => bad_label(alloc, table, body)?,
             FileFault::NotInInterrupt => not_in_interrupt(alloc, body)?,
             FileFault::TooMany => past_limit_in(alloc, table)?,
             _ => None,

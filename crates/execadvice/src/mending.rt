@@ -37,7 +37,8 @@ fn target_place(word: Word, fields: &[&str]) -> Option<usize> {
         Word::Plain(_) => true,
         _ => false,
     };
-    if is_first && (is_plain || !is_last) {
+    // What is first after a word on a request is the request.
+    if is_first && (is_plain || !is_last && !word.text().ends_with("IO")) {
         Some(0)
     } else if is_last {
         Some(word.kinds().len())
@@ -118,6 +119,17 @@ fn sets(line: &str, name: &str) -> bool {
     match line.split_once(" = ") {
         None => false,
         Some((target, _)) => target == name,
+    }
+}
+
+/// Whether a line of C writes through an address, as `*p = 5`.
+pub(crate) fn is_store(line: &str) -> bool {
+    match line.strip_prefix("*") {
+        None => false,
+        Some(rest) => {
+            let first = rest.as_bytes().first().copied().unwrap_or(b' ');
+            first.is_ascii_alphabetic() && rest.contains(" = ")
+        }
     }
 }
 
@@ -405,6 +417,7 @@ impl Mending<'_> {
     fn meant_by(self, line: &str) -> Made<Option<String>> {
         let plain = plain_line(self.alloc, without_quotes(line))?;
         match self.plain_meant(plain.as_str())? {
+            Some(meant) if meant.as_str().contains("sizeof") => Ok(None),
             Some(meant) if self.fits(meant.as_str())? => Ok(Some(meant)),
             _ => Ok(None),
         }
@@ -413,6 +426,9 @@ impl Mending<'_> {
     /// The line that is meant by another one, if that can be told as a whole: a line that says something, and may be
     /// in the body.
     pub(crate) fn line_meant(self, line: &str) -> Made<Option<String>> {
+        if is_store(line) {
+            return Ok(None);
+        }
         let found = self.meant_by(line)?;
         if found.is_some() {
             return Ok(found);

@@ -181,10 +181,18 @@ pub(crate) fn quoted_meant(alloc: Global, field: &str) -> Made<Option<String>> {
     Ok(None)
 }
 
+/// Whether a part is the name that other languages have for the one that calls.
+fn is_oneself(field: &str) -> bool {
+    field == "self" || field == "me" || field == "this"
+}
+
 /// The name between double quotes, or 0 for none, that a part is meant to be, if there is one.
 pub(crate) fn quoted_or_none_meant(alloc: Global, field: &str) -> Made<Option<String>> {
-    if quoted_in(field).is_none() && number_meant(alloc, field)? == Some(0) {
+    if quoted_in(field).is_none() && number_meant(alloc, field)? == Some(0) || is_oneself(field) {
         return Ok(Some(String::from_str(alloc, "0")?));
+    }
+    if is_number(field) {
+        return Ok(None);
     }
     quoted_meant(alloc, field)
 }
