@@ -105,6 +105,9 @@ fn printing_place(code: &[Command], lines: usize) -> usize {
 
 /// The body that begins with a line of the trace, if one does.
 pub fn begun_by<'a>(file: &'a MachineFile, line: &str) -> Option<Begun<'a>> {
+    if !line.starts_with("server ") && !line.starts_with("softint ") {
+        return None;
+    }
     let (kind, name) = line.split_once(" ")?;
     let owner = match kind {
         "server" => Owner::Server,

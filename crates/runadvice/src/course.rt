@@ -8,7 +8,7 @@ use crate::page::Spot;
 use crate::past::{Past, TaskPast, Time, is_reached, rank_of};
 use crate::room::Room;
 use crate::scene::Linked;
-use crate::sends::{Deed, END, Sends, field_in, is_clearing, is_sending, number_in};
+use crate::sends::{Deed, END, Sends, is_clearing, is_sending, number_in};
 use crate::step::{Site, Turn, When, prints};
 use crate::value::value_of;
 use crate::words::row_of;
@@ -165,13 +165,12 @@ impl<'a> Course<'a> {
         }
     }
 
-    /// Notes what a command has freed.
+    /// Notes what a command has freed; that of 0 frees nothing.
     fn note_freed(&mut self, machine: &Linked, turn: Turn, command: &Command, site: Site) {
         if row_of(command.word).frees {
-            if let Some(address) = value_of(machine, Some(turn.task), command, 0) {
-                if self.freed.insert(address, site).is_err() {
-                    self.is_whole = false;
-                }
+            let address = value_of(machine, Some(turn.task), command, 0).unwrap_or(0);
+            if address != 0 && self.freed.insert(address, site).is_err() {
+                self.is_whole = false;
             }
         }
     }
@@ -217,12 +216,17 @@ impl<'a> Course<'a> {
     /// Notes what a line of a command says that was sent.
     fn note_line(&mut self, machine: &Linked, line: &str, spot: Spot) {
         let word = command_at(self.file, spot).map_or(END, |command| command.word);
-        if is_sending(word) && field_in(line, 1) == word.text() {
+        if !is_sending(word) {
+            return;
+        }
+        let mut fields = line.split(' ');
+        let (_, name) = (fields.next(), fields.next());
+        if name == Some(word.text()) {
             let deed = Deed {
                 spot: Some(spot),
                 moment: self.moment(),
             };
-            let values = (number_in(line, 2), number_in(line, 3));
+            let values = (number_in(fields.next()), number_in(fields.next()));
             self.sends.note(machine, word, values, deed);
         }
     }
@@ -234,7 +238,8 @@ impl<'a> Course<'a> {
                 spot: None,
                 moment: self.moment(),
             };
-            self.sends.put(machine, number_in(line, 1), deed);
+            self.sends
+                .put(machine, number_in(line.split(' ').nth(1)), deed);
         }
     }
 

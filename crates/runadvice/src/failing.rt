@@ -5,7 +5,8 @@ use crate::sends::mask_of;
 use crate::step::{Site, Turn};
 use crate::value::{held_by, value_of, variable_at};
 use script::{
-    Command, LibraryWord, MachineFile, MemoryWord, PortWord, RequestWord, SignalWord, Word,
+    Command, LibraryWord, ListWord, MachineFile, MemoryWord, PortWord, RequestWord, SemaphoreWord,
+    SignalWord, Word,
 };
 use std::alloc::{AllocError, Global};
 
@@ -20,6 +21,15 @@ const PUBLIC: u32 = 1;
 
 /// The bytes that a port takes (exec/ports.h).
 const PORT_SIZE: u32 = 34;
+
+/// The bytes that a list or a node, a message, a semaphore and a request take (project rule).
+const LIST_SIZE: u32 = 16;
+
+const MESSAGE_SIZE: u32 = 24;
+
+const SEMAPHORE_SIZE: u32 = 48;
+
+const REQUEST_SIZE: u32 = 40;
 
 /// The bits of requirements that name attributes of regions.
 const ATTRIBUTES: u32 = 7;
@@ -40,8 +50,10 @@ pub enum Cause {
     NoGap(u32, u32),
     /// A block has at least one byte.
     NoSize,
-    /// There are so many ports already, which is the pool.
-    NoPort(u32),
+    /// There are so many objects of that kind already, which is the pool.
+    NoObject(u32),
+    /// The port of a request is 0.
+    NoReplyPort,
     /// All signals are allocated.
     NoSignal,
     /// That signal is allocated.
@@ -136,11 +148,22 @@ fn of_signal(machine: &Linked, task: usize, number: u32) -> Option<Cause> {
     None
 }
 
+/// Why no object of that many bytes was made.
+fn of_object(machine: &Linked, file: &MachineFile, size: u32) -> Option<Cause> {
+    of_memory(machine, size, PUBLIC).or(Some(Cause::NoObject(file.pool())))
+}
+
 /// Why no port was made.
 fn of_port(machine: &Linked, file: &MachineFile, task: usize) -> Option<Cause> {
-    of_signal(machine, task, 32)
-        .or(of_memory(machine, PORT_SIZE, PUBLIC))
-        .or(Some(Cause::NoPort(file.pool())))
+    of_signal(machine, task, 32).or(of_object(machine, file, PORT_SIZE))
+}
+
+/// Why no request was made for a port.
+fn of_request(machine: &Linked, file: &MachineFile, port: u32) -> Option<Cause> {
+    if port == 0 {
+        return Some(Cause::NoReplyPort);
+    }
+    of_object(machine, file, REQUEST_SIZE)
 }
 
 /// Whether the answer of a command goes into a variable that is an argument, so that its value is gone.
@@ -161,6 +184,10 @@ fn cause_of(machine: &Linked, file: &MachineFile, task: usize, command: &Command
         }
         Word::Signals(SignalWord::AllocSignal) => of_signal(machine, task, first),
         Word::Ports(PortWord::CreateMsgPort) => of_port(machine, file, task),
+        Word::Ports(PortWord::NewMsg) => of_object(machine, file, MESSAGE_SIZE),
+        Word::Lists(ListWord::NewList | ListWord::NewNode) => of_object(machine, file, LIST_SIZE),
+        Word::Semaphores(SemaphoreWord::NewSem) => of_object(machine, file, SEMAPHORE_SIZE),
+        Word::Requests(RequestWord::CreateIORequest) => of_request(machine, file, first),
         _ => None,
     }
 }
@@ -181,9 +208,10 @@ pub(crate) fn cause_text(alloc: Global, cause: Cause) -> Result<String, AllocErr
             )
         }
         Cause::NoSize => format!(in alloc; ", since its size was 0"),
-        Cause::NoPort(pool) => {
+        Cause::NoObject(pool) => {
             format!(in alloc; ", since the pool was used up, which has {pool} of a kind")
         }
+        Cause::NoReplyPort => format!(in alloc; ", since its port was 0"),
         Cause::NoSignal => format!(in alloc; ", since no signal was free"),
         Cause::Allocated(number) => format!(in alloc; ", since signal {number} was not free"),
     }

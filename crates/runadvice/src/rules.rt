@@ -42,6 +42,11 @@ impl Fault {
     }
 }
 
+/// Whether a mask is rather the number of a signal, 12 to 31: it would name more than one signal.
+fn is_likely_number(mask: u32) -> bool {
+    12 <= mask && mask < 32 && mask.count_ones() > 1
+}
+
 impl Asking<'_, '_> {
     /// Whether an argument is a variable that AllocSignal has set.
     fn is_allocated(&self, number: usize) -> bool {
@@ -60,7 +65,7 @@ impl Asking<'_, '_> {
         let alloc = self.alloc;
         let mask = self.refused.value(number);
         let bit = (mask & 0xFFF).trailing_zeros();
-        let hint = if mask < 32 && self.is_allocated(number) {
+        let hint = if mask < 32 && (is_likely_number(mask) || self.is_allocated(number)) {
             let own = 1u32 << mask;
             format!(in alloc; " (the mask of signal {mask} is ${own:08X})")?
         } else {
@@ -239,7 +244,7 @@ impl Asking<'_, '_> {
                     "is a request in progress; WaitIO waits until it is done, AbortIO ends it"
                 }
                 ReqState::Idle if request.is_open() || row.flaw == Flaw::TakenReply => {
-                    "is a request that was never begun"
+                    "is a request that was never begun; SendIO begins it"
                 }
                 _ => return Ok(Fault::of(number, self.unopened_text(address)?, false)),
             },

@@ -84,19 +84,12 @@ pub(crate) fn is_clearing(word: Word) -> bool {
     )
 }
 
-/// A field of a line, from 0; none if it has not so many.
-pub(crate) fn field_in(line: &str, number: usize) -> &str {
-    for (i, field) in line.split(' ').enumerate() {
-        if i == number {
-            return field;
-        }
-    }
-    ""
-}
-
 /// The number that a field of a line is, or 0.
-pub(crate) fn number_in(line: &str, number: usize) -> u32 {
-    number_of(field_in(line, number).as_bytes()).unwrap_or(0)
+pub(crate) fn number_in(field: Option<&str>) -> u32 {
+    match field {
+        None => 0,
+        Some(field) => number_of(field.as_bytes()).unwrap_or(0),
+    }
 }
 
 /// The place of what is noted of a signal of a task.
@@ -157,6 +150,9 @@ impl Sends {
             if let Some(late) = self.late.get_mut(task) {
                 *late = Some(deed);
             }
+            return;
+        }
+        if mask == 0 {
             return;
         }
         for signal in 0..SIGNALS {

@@ -235,8 +235,9 @@ impl Scene<'_, '_> {
         waiter: &Waiter,
         wakers: &str,
         ports: &[Unread],
+        ties: &[Option<usize>],
     ) -> Result<(), AllocError> {
-        if let Some(circle) = self.circle_of(waiter.turn.task)? {
+        if let Some(circle) = self.circle_of(waiter.turn.task, ties)? {
             return self.add_deadlock(page, &circle, waiter);
         }
         match unread_by(waiter, ports) {
@@ -253,9 +254,10 @@ impl Scene<'_, '_> {
             String::new(self.alloc)
         };
         let ports = unread_ports(self.alloc, self.machine)?;
+        let ties = self.ties(&ports)?;
         for task in 0..self.machine.view().tasks {
             if let Some(waiter) = wait_of(self.machine, task) {
-                self.add_wait(page, &waiter, wakers.as_str(), &ports)?;
+                self.add_wait(page, &waiter, wakers.as_str(), &ports, &ties)?;
             }
         }
         self.add_lates(page)

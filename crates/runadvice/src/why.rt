@@ -190,7 +190,7 @@ impl Scene<'_, '_> {
     }
 
     /// The signal of a mask that a task has received and another of its commands has cleared, the last if there are several.
-    fn lost(&self, turn: Turn, mask: u32) -> Option<(u32, Came, Deed)> {
+    pub(crate) fn lost(&self, turn: Turn, mask: u32) -> Option<(u32, Came, Deed)> {
         let mut last: Option<(u32, Came, Deed)> = None;
         for signal in 0..32 {
             if mask & mask_of(signal) != 0 {

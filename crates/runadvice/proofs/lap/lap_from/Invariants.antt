@@ -2,7 +2,7 @@
 use Rattle.std.proofs.Common.{◌≡◌, false}
 use Rattle.exectrace.specs.declared.sinks.SinkState.TheVariants.{Good}
 use Rattle.execsim.specs.Time.{HasTimeFor}
-use Rattle.runadvice.proofs.lap.lap_of.Given as goal
+use Rattle.runadvice.proofs.lap.lap_from.Given as goal
 
 abbrev pub invariant-loop-step : goal.invariant-loop-step
 invariant-loop-step l = record {
