@@ -13,7 +13,7 @@ use crate::step::{Site, Turn, When, prints};
 use crate::value::value_of;
 use crate::words::row_of;
 use execsim::Flow;
-use script::{Command, Event, MachineFile, Source, Variable};
+use script::{Command, Event, LibraryWord, MachineFile, RequestWord, Source, Variable, Word};
 use std::alloc::{AllocError, Global};
 use std::collections::HashMap;
 use std::str::from_utf8;
@@ -45,6 +45,8 @@ pub struct Course<'a> {
     late: Vec<Option<Site>>,
     /// What has freed the object or the block at an address.
     pub freed: HashMap<u32, Site>,
+    /// What has closed the library or the request at an address last.
+    pub closed: HashMap<u32, Site>,
     /// Which signals came, which messages were put, and what was sent to tasks that had ended.
     pub sends: Sends,
     /// Which calls have failed.
@@ -72,6 +74,14 @@ fn no_past(alloc: Global, file: &MachineFile) -> Result<Vec<TaskPast>, AllocErro
     Ok(tasks)
 }
 
+/// Whether a word closes a library or a request.
+fn is_closing(word: Word) -> bool {
+    matches!(
+        word,
+        Word::Libraries(LibraryWord::CloseLibrary) | Word::Requests(RequestWord::CloseDevice)
+    )
+}
+
 /// The place of a source in the order in which they are served.
 fn place_of(source: Source) -> usize
     ensures { result < 3 }
@@ -95,6 +105,7 @@ impl<'a> Course<'a> {
             bodies: 0,
             late: vec![in alloc; None; VARIABLES]?,
             freed: HashMap::new(alloc),
+            closed: HashMap::new(alloc),
             sends: Sends::new(alloc, file.tasks().len())?,
             failings: Failings::new(alloc, file.tasks().len())?,
             steps: 0,
@@ -175,6 +186,16 @@ impl<'a> Course<'a> {
         }
     }
 
+    /// Notes what a command has closed.
+    fn note_closed(&mut self, machine: &Linked, turn: Turn, command: &Command, site: Site) {
+        if is_closing(command.word) {
+            let address = value_of(machine, Some(turn.task), command, 0).unwrap_or(0);
+            if self.closed.insert(address, site).is_err() {
+                self.is_whole = false;
+            }
+        }
+    }
+
     /// Notes the step of a task, unless it was of plain words, which are noted before.
     fn note_task(&mut self, machine: &Linked, turn: Turn) {
         let Some(command) = self.command(turn) else {
@@ -198,7 +219,7 @@ impl<'a> Course<'a> {
         self.note_call(machine, turn, command);
     }
 
-    /// Notes a call that a task has done: what it has freed, which signals it has cleared, and whether it has failed.
+    /// Notes a call that a task has done: what it has freed or closed, which signals it has cleared, and whether it has failed.
     fn note_call(&mut self, machine: &Linked, turn: Turn, command: &Command) {
         let (spot, moment) = (turn.spot(), self.moment());
         let site = Site {
@@ -206,6 +227,7 @@ impl<'a> Course<'a> {
             when: When::Step(moment),
         };
         self.note_freed(machine, turn, command, site);
+        self.note_closed(machine, turn, command, site);
         if is_clearing(command.word) {
             let spot = Some(spot);
             self.sends.clear(machine, turn.task, Deed { spot, moment });

@@ -1,5 +1,5 @@
 //! Why a call has answered 0 or -1: the one cause, as the machine shows it after the call. Such a call changes nothing.
-use crate::argument::request_at;
+use crate::argument::{owner_at, request_at};
 use crate::scene::Linked;
 use crate::sends::mask_of;
 use crate::step::{Site, Turn};
@@ -76,11 +76,19 @@ pub struct Unopened {
     pub is_timer: bool,
 }
 
+/// The last AttemptSemaphore of a task that has not obtained the semaphore.
+#[derive(Clone, Copy)]
+struct Missed {
+    semaphore: u32,
+    site: Site,
+}
+
 /// What is noted of calls that have failed.
 #[derive(Drop)]
 pub struct Failings {
     calls: Vec<Option<Failure>>,
     opens: Vec<Option<Unopened>>,
+    attempts: Vec<Option<Missed>>,
     asked: u32,
 }
 
@@ -223,6 +231,7 @@ impl Failings {
         Ok(Failings {
             calls: vec![in alloc; None; count]?,
             opens: vec![in alloc; None; count]?,
+            attempts: vec![in alloc; None; count]?,
             asked: 0,
         })
     }
@@ -239,6 +248,15 @@ impl Failings {
         let is_open = request_at(machine, request).is_none_or(|one| one.is_open());
         if let Some(last) = self.opens.get_mut(task) {
             *last = (!is_open).then_some(unopened);
+        }
+    }
+
+    /// Notes that a task has asked for a semaphore: it has not obtained it if it does not own it now.
+    fn note_attempt(&mut self, machine: &Linked, task: usize, command: &Command, site: Site) {
+        let semaphore = value_of(machine, Some(task), command, 0).unwrap_or(0);
+        let is_missed = owner_at(machine, semaphore) != Some(task);
+        if let Some(last) = self.attempts.get_mut(task) {
+            *last = is_missed.then_some(Missed { semaphore, site });
         }
     }
 
@@ -283,6 +301,9 @@ impl Failings {
             Word::Requests(RequestWord::OpenDevice) => {
                 self.note_open(machine, turn.task, command, site);
             }
+            Word::Semaphores(SemaphoreWord::AttemptSemaphore | SemaphoreWord::ObtainSemaphore) => {
+                self.note_attempt(machine, turn.task, command, site);
+            }
             _ => self.note_answer(machine, file, turn, command, site),
         }
     }
@@ -291,6 +312,12 @@ impl Failings {
     pub(crate) fn cause(&self, site: Site) -> Option<Cause> {
         let failure = (*self.calls.get(site.spot.task()?)?)?;
         (failure.site == site).then_some(failure.cause)
+    }
+
+    /// The AttemptSemaphore of a task that has not obtained a semaphore, if the task has asked for none since.
+    pub(crate) fn missed(&self, task: usize, semaphore: u32) -> Option<Site> {
+        let last = (*self.attempts.get(task)?)?;
+        (last.semaphore == semaphore).then_some(last.site)
     }
 
     /// The OpenDevice of a request that has failed last, if it is the last of its task.

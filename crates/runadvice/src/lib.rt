@@ -29,6 +29,7 @@ mod shut;
 mod snapshot;
 mod step;
 mod ties;
+mod unsent;
 mod value;
 mod wait;
 mod waiting;

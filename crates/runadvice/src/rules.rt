@@ -208,14 +208,33 @@ impl Asking<'_, '_> {
     /// The alert SEM of a semaphore as its owner has it, with what its owner has to do.
     fn owned_fault(&self, end: &str) -> Result<Fault, AllocError> {
         let alloc = self.alloc;
-        let why = match owner_at(self.machine, self.refused.value(0)) {
-            None => format!(in alloc; "is a semaphore that no task owns; {end}")?,
+        let address = self.refused.value(0);
+        let missed = self.missed_text(address)?;
+        let why = match owner_at(self.machine, address) {
+            None => format!(in alloc; "is a semaphore that no task owns; {end}{missed}")?,
             Some(owner) => {
                 let name = self.machine.task_name(owner).unwrap_or("");
-                format!(in alloc; "is a semaphore that task \"{name}\" owns; {end}")?
+                format!(in alloc; "is a semaphore that task \"{name}\" owns; {end}{missed}")?
             }
         };
         Ok(Fault::of(0, why, false))
+    }
+
+    /// That the task of the call has asked for a semaphore in vain before, as the end of a sentence, if that was the last time it asked for one.
+    fn missed_text(&self, address: u32) -> Result<String, AllocError> {
+        let missed = match self.refused.task() {
+            None => None,
+            Some(task) => self.course.failings.missed(task, address),
+        };
+        match missed {
+            None => Ok(String::new(self.alloc)),
+            Some(site) => {
+                let (place, time) = (self.site_text(site)?, when_text(self.alloc, site.when)?);
+                format!(in self.alloc;
+                    "; AttemptSemaphore {place} returned 0 {time}, so it was not obtained"
+                )
+            }
+        }
     }
 
     /// The alert LIB.
@@ -229,7 +248,8 @@ impl Asking<'_, '_> {
                 .map_or("", |library| library.name.as_str()),
             _ => "",
         };
-        let why = format!(in self.alloc; "is the base of \"{name}\", which is not open")?;
+        let closed = self.closed_text(self.refused.value(0))?;
+        let why = format!(in self.alloc; "is the base of \"{name}\", which is not open{closed}")?;
         Ok(Fault::of(0, why, false))
     }
 
@@ -256,7 +276,13 @@ impl Asking<'_, '_> {
     fn unopened_text(&self, address: u32) -> Result<String, AllocError> {
         let alloc = self.alloc;
         let Some(failed) = self.course.failings.unopened(address) else {
-            return format!(in alloc; "is a request that is not open; OpenDevice opens it");
+            let closed = self.closed_text(address)?;
+            let hint = if closed.as_str().is_empty() {
+                "; OpenDevice opens it"
+            } else {
+                closed.as_str()
+            };
+            return format!(in alloc; "is a request that is not open{hint}");
         };
         let (place, time) = (
             self.site_text(failed.site)?,

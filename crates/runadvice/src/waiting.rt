@@ -219,8 +219,13 @@ impl Scene<'_, '_> {
             verb_of(verdict.level),
             mute_text(self.machine, waiter.awaited),
         );
+        let unsent = if self.is_idle() && wakers.is_empty() && lost.is_none() {
+            self.unsent_text(waiter)?
+        } else {
+            String::new(alloc)
+        };
         let text = words_of(&lost);
-        let reason = format!(in alloc; "{verb} {awaited}{mute}{text}{why}")?;
+        let reason = format!(in alloc; "{verb} {awaited}{mute}{text}{unsent}{why}")?;
         let grade = (severity_of(verdict.level), rule_of(&lost, verdict.rule));
         let mut found = page.finding(waiter.turn.spot(), None, grade, reason.as_str())?;
         relate_lost(page, &mut found, &lost)?;

@@ -69,7 +69,7 @@ pub(crate) fn unread_by(waiter: &Waiter, ports: &[Unread]) -> Option<Unread> {
 }
 
 /// Some signals in words.
-fn mask_text(alloc: Global, mask: u32) -> Result<String, AllocError> {
+pub(crate) fn mask_text(alloc: Global, mask: u32) -> Result<String, AllocError> {
     if mask.count_ones() == 1 {
         let signal = mask.trailing_zeros();
         return format!(in alloc; "{signal}");
