@@ -4,7 +4,7 @@ use crate::course::RECENT;
 use crate::lap::{Lap, Stretch, turn_of};
 use crate::page::{Page, Spot};
 use crate::scene::{Linked, Scene};
-use crate::shut::shut_part;
+use crate::shut::{may_be_ended, shut_part};
 use crate::step::Turn;
 use std::alloc::AllocError;
 use taskq::TaskState;
@@ -191,11 +191,14 @@ impl Scene<'_, '_> {
         page.warn(running.turn.spot(), "busy", reason.as_str())
     }
 
-    /// The part of the code that the running task is in and cannot leave, if it is in one.
+    /// The part of the code that the running task is in and cannot leave, if it is in one and no other task may end it.
     fn shut_lap(&self, turn: Turn) -> Result<Option<Lap>, AllocError> {
         let Some(task) = self.course.file.tasks().get(turn.task) else {
             return Ok(None);
         };
+        if may_be_ended(self.course.file, turn.task) {
+            return Ok(None);
+        }
         match shut_part(self.alloc, &task.code, turn)? {
             None => Ok(None),
             Some(stretch) => Ok(Some(Lap::shut_in(self.alloc, stretch)?)),

@@ -1,8 +1,9 @@
-//! A part of a task's code that no line leads out of, whatever the variables hold, and in which nothing is called.
+//! A part of a task's code that no line leads out of, whatever the variables hold, and that has plain words and Print alone.
 use crate::lap::Stretch;
 use crate::next::{Way, way_after};
+use crate::sends::END;
 use crate::step::Turn;
-use script::Command;
+use script::{Argument, Command, MachineFile};
 use std::alloc::{AllocError, Global};
 
 /// Marks a place; whether it was not marked before. None if the code has no such place.
@@ -28,6 +29,29 @@ fn spread(marks: &mut Vec<bool>, code: &[Command]) -> Option<bool> {
         }
     }
     Some(is_new)
+}
+
+/// Whether a command may end the task of this number, from 0, if another task does it.
+fn may_end(command: &Command, task: usize) -> bool {
+    if command.word != END {
+        return false;
+    }
+    match command.arguments.get(0) {
+        Some(Argument::Number(number)) => {
+            *number > 0 && (*number as usize).saturating_sub(1) == task
+        }
+        _ => true,
+    }
+}
+
+/// Whether the code of another task has a line that may end a task.
+pub(crate) fn may_be_ended(file: &MachineFile, task: usize) -> bool {
+    for (other, record) in file.tasks().iter().enumerate() {
+        if other != task && record.code.iter().any(|command| may_end(command, task)) {
+            return true;
+        }
+    }
+    false
 }
 
 /// The part of the code that a task is in and no line leads out of, if all its lines are plain words. The task runs there without end.
