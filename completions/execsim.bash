@@ -17,7 +17,7 @@ _execsim_names() {
 }
 
 # What execcheck may find, by name.
-_execsim_found='NotToml UnknownKey MissingKey BadValue NameTwice BadRegions BadCommand BadLabel NotInInterrupt TooMany BadLine HANDLE MASK VALUE MEM NEST
+_execsim_found='NotToml UnknownKey MissingKey BadValue NameTwice BadRegions BadCommand BadLabel NotInInterrupt TooMany BadLine TooLong OutOfMemory HANDLE MASK VALUE MEM NEST
 LINK PORT SEM LIB IO unset unused-variable unused-label unreachable never-added unknown-port unknown-task unknown-library no-memory waits
 lost-wakeup unread owner-gone deadlock busy ends-early late'
 
@@ -78,7 +78,7 @@ _execsim() {
         [[ $command == execsim || $command == execc ]] || options+=' --version'
         [[ $command != execcheck ]] || options+=' --short --json --color --serves --fix --explain --lsp'
         [[ $command != execlog ]] || options+=' --plain-words --json --svg --chrome --state --from --to --at --task'
-        [[ $command != execexplore ]] || options+=' --extra --of --see --part --events --progress --sum'
+        [[ $command != execexplore ]] || options+=' --extra --of --see --part --events --progress --sum --all'
         [[ $command != execc ]] || options+=' --log --check --svg --state --record --explore --of --events --twice --quantum --accesses --jobs --cc= --cflags= --keep='
         for it in $options; do
             [[ $used == *" $it "* && $it != --serves ]] || _execsim_offer "$it"

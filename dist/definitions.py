@@ -64,63 +64,63 @@ Contents, by line; of each part the longer sections:
      661      Calls
      863      Plain words
      957      Signals of tasks
-    1075      Forbid and Disable
-    1127      How tasks are added and ended, and their priorities
-    1237      Lists of nodes
-    1599      Memory
-    1705      Message ports and messages
-    2320      Signal semaphores
-    2626      Libraries
-    2814      Requests of timer.device
-    3381      What the body of a software interrupt or of a server does
-    3452      A call as a value
-    3535      Objects
-    3568      Libraries are expunged under low memory
-    3614      Where blocks begin, and where there is room for more
-    3650      Libraries that are loaded
-    3726  Services beneath it
-    3730      How tasks come to run
-    3814      What is known of the tasks as they are scheduled
-    4085      What timer.device keeps
-    4194      The sources of interrupts, their names, and which of them ask to be served
-    4268      Sequences that are kept by a key, as Exec keeps its lists by priority
-    4314      What calls on the tasks speak of
-    4360      The signals of a task as two sets, and what each call makes of them
-    4454      How deep a task has nested Forbid and Disable, and what each call makes of it
-    4531      What calls on a list space speak of
-    4595      Where AllocMem takes memory, and what AvailMem returns
-    4670      One port without its messages, and what it does when a message arrives
-    4712      One timer request
-    4833      What calls on ports see
-    4866      What calls on signal semaphores see
-    4936      What calls on libraries see
-    4975      The words of a body
-    5054      Which regions a machine may have, and the first fault of regions that it may not have
-    5104      Blocks of memory by address, and the gaps that they leave in a region
-    6046  The state and the objects
-    6050      The state of the abstract machine, and what an action makes of it
-    6262  The trace
-    6266      The lines of a trace, and their bytes
-    6353  The texts
-    6357      The events of a text, or its first fault
-    6488      Numbers as they are written in the texts
-    6537      The machine that a file states, or its first fault
-    6994      The places of a machine file, and faults with their places
-    7052      The tree that a text states, and the faults of its places
-    7298      The code of one body
-    7465      Which lines a body may have
-    7510      Variables by number
-    7681      How the program reads the fields of a line, step by step
-    7964  Laws that are asked of each run
-    7968      Who came to a queue, who was served at it, and who left it unserved
-    8017      What the marks of a run say of one port, and of one semaphore
-    8100      What a line says, as a relation between its fields and a label or a command
-    8179  The words of the standard library
-    8245  What the theorem speaks of, and is not above
-    8266  How this file is run
-    8304      the texts
-    8412      --check
-    8501      --show
+    1081      Forbid and Disable
+    1133      How tasks are added and ended, and their priorities
+    1243      Lists of nodes
+    1605      Memory
+    1710      Message ports and messages
+    2325      Signal semaphores
+    2631      Libraries
+    2819      Requests of timer.device
+    3388      What the body of a software interrupt or of a server does
+    3459      A call as a value
+    3542      Objects
+    3575      Libraries are asked for memory when a block fits nowhere, one after another in the order of the file
+    3621      Where blocks begin, and where there is room for more
+    3657      Libraries that are loaded
+    3733  Services beneath it
+    3737      How tasks come to run
+    3821      What is known of the tasks as they are scheduled
+    4092      What timer.device keeps
+    4201      The sources of interrupts, their names, and which of them ask to be served
+    4275      Sequences that are kept by a key, as Exec keeps its lists by priority
+    4321      What calls on the tasks speak of
+    4367      The signals of a task as two sets, and what each call makes of them
+    4461      How deep a task has nested Forbid and Disable, and what each call makes of it
+    4538      What calls on a list space speak of
+    4602      Where AllocMem takes memory, and what AvailMem returns
+    4677      One port without its messages, and what it does when a message arrives
+    4719      One timer request
+    4845      What calls on ports see
+    4878      What calls on signal semaphores see
+    4948      What calls on libraries see
+    4987      The words of a body
+    5066      Which regions a machine may have, and the first fault of regions that it may not have
+    5116      Blocks of memory by address, and the gaps that they leave in a region
+    6058  The state and the objects
+    6062      The state of the abstract machine, and what an action makes of it
+    6274  The trace
+    6278      The lines of a trace, and their bytes
+    6365  The texts
+    6369      The events of a text, or its first fault
+    6500      Numbers as they are written in the texts
+    6549      The machine that a file states, or its first fault
+    7006      The places of a machine file, and faults with their places
+    7064      The tree that a text states, and the faults of its places
+    7310      The code of one body
+    7477      Which lines a body may have
+    7522      Variables by number
+    7693      How the program reads the fields of a line, step by step
+    7976  Laws that are asked of each run
+    7980      Who came to a queue, who was served at it, and who left it unserved
+    8029      What the marks of a run say of one port, and of one semaphore
+    8112      What a line says, as a relation between its fields and a label or a command
+    8191  The words of the standard library
+    8257  What the theorem speaks of, and is not above
+    8278  How this file is run
+    8316      the texts
+    8424      --check
+    8513      --show
 """
 
 from dataclasses import make_dataclass
@@ -212,8 +212,8 @@ def quiet(s):
     return Outcome(state=s, lines=[], marks=[])
 
 # the outcome of an action that prints one line and leaves no mark
-# says : TraceLine → State → Outcome  [execmodel/specs/State.antt:93]
-def says(line, s):
+# prints_line : TraceLine → State → Outcome  [execmodel/specs/State.antt:93]
+def prints_line(line, s):
     return Outcome(state=s, lines=[line], marks=[])
 
 # a change of the memory alone
@@ -238,13 +238,13 @@ def argument(k, call):
 # a call of task t is done, and returns nothing: its line is printed, and the task goes on with its next command
 # done : ℕ → Call → State → Outcome  [execmodel/specs/Calls.antt:96]
 def done(t, call, s):
-    return says(line_of_call(t, call, CallEnd.Done, s), on_scripts(partial(goes_on, t, call.next_), s))
+    return prints_line(line_of_call(t, call, CallEnd.Done, s), on_scripts(partial(goes_on, t, call.next_), s))
 
 # a call of task t is done, and returns a value: its line is printed, the value is stored in its target, if it has one,
 # and the task goes on with its next command
 # answered : ℕ → Call → ℕ → State → Outcome  [execmodel/specs/Calls.antt:101]
 def answered(t, call, value, s):
-    return says(
+    return prints_line(
         line_of_call(t, call, CallEnd.Answers(value), s),
         on_scripts(lambda scripts: goes_on(t, call.next_, stored(t, call.target, value, scripts)), s),
     )
@@ -315,8 +315,8 @@ def switches(s):
 def announced(choice, s):
     match choice:
         case None: return quiet(s)
-        case Some(Switch.To(t)): return says(TraceLine.Switch(name_of(s.schedule, t)), s)
-        case Some(Switch.Idle): return says(TraceLine.Idle, s)
+        case Some(Switch.To(t)): return prints_line(TraceLine.Switch(task_name(s.schedule, t)), s)
+        case Some(Switch.Idle): return prints_line(TraceLine.Idle, s)
         case _: raise NoCase('announced')
 
 # the first tasks of the file, that many, in order: each is added that is to start with the machine
@@ -367,12 +367,12 @@ def step(s):
 # what a step does, before the machine settles; a stopped machine does nothing
 # acts : State → Outcome  [execmodel/specs/Step.antt:79]
 def acts(s):
-    return unless_stopped(acting, s)
+    return unless_stopped(step_action, s)
 
 # what a step does: the next software interrupt runs, or else the running task does one command (RKM Libraries, Exec
 # Interrupts: software interrupts; one a step: project rule)
-# acting : State → Outcome  [execmodel/specs/Step.antt:75]
-def acting(s):
+# step_action : State → Outcome  [execmodel/specs/Step.antt:75]
+def step_action(s):
     return softint_or_task_step(next_softint(s), s)
 
 # the software interrupt that is next runs; only if there is none, the running task does its step
@@ -402,8 +402,8 @@ def call_step(t, call, s):
 # a task whose commands are used up ends, as by RemTask 0 (RKM Libraries, Exec Tasks: task termination)
 # ends : ℕ → State → Outcome  [execmodel/specs/Step.antt:55]
 def ends(t, s):
-    return says(
-        TraceLine.Call(name_of(s.schedule, t), codes('RemTask'), [Argument.Value(0)], CallEnd.Done),
+    return prints_line(
+        TraceLine.Call(task_name(s.schedule, t), codes('RemTask'), [Argument.Value(0)], CallEnd.Done),
         on_schedule(partial(leaves, t), s),
     )
 
@@ -444,7 +444,7 @@ def ticks(number, s):
 # machine does nothing
 # tick : State → Outcome  [execmodel/specs/Step.antt:100]
 def tick(s):
-    return unless_stopped(lambda s: request(Source.Vertb, on_memory(partial(on_timer, ticked), s)), s)
+    return unless_stopped(lambda s: request(Source.Vertb, on_memory(partial(on_timer, clock_ticked), s)), s)
 
 # an interrupt is requested: its source asks to be served, and the machine settles; a stopped machine does nothing (RKM
 # Libraries, Exec Interrupts)
@@ -481,7 +481,7 @@ def servings(number, s):
 # serves : Source → State → Outcome  [execmodel/specs/Interrupts.antt:89]
 def serves(asks, s):
     return andthen(
-        partial(says, TraceLine.Serve(source_text(asks))),
+        partial(prints_line, TraceLine.Serve(source_text(asks))),
         partial(andthen, partial(finishes_for, asks), partial(runs_chain, chain_of(asks, s.bodies.servers))),
         on_schedule(partial(serving_counted, asks), on_pending(partial(with_latch_of, asks, False), s)),
     )
@@ -512,7 +512,7 @@ def runs_chain(items, s):
 # runs_server : ℕ → State → Outcome  [execmodel/specs/Interrupts.antt:62]
 def runs_server(k, s):
     server = server_at(k, s.bodies)
-    return andthen(partial(says, TraceLine.Server(server.name)), partial(runs_body, server.name, server.code), s)
+    return andthen(partial(prints_line, TraceLine.Server(server.name)), partial(runs_body, server.name, server.code), s)
 
 # server k of the file, counted from 0
 # server_at : ℕ → Bodies → ServerData  [execmodel/specs/Interrupts.antt:38]
@@ -540,7 +540,7 @@ def by_choice(number, key, left):
             n = number - 1
             match chosen(key, left):
                 case None: return []
-                case Some(k): return [k, *by_choice(n, key, without(k, left))]
+                case Some(k): return [k, *by_choice(n, key, without_item(k, left))]
                 case _: raise NoCase('by_choice')
         case _: raise NoCase('by_choice')
 
@@ -571,7 +571,7 @@ def serving_counted(source, schedule):
 def runs_softint(i, s):
     softint = softint_at(i, s.bodies)
     return andthen(
-        partial(says, TraceLine.Softint(softint.name)),
+        partial(prints_line, TraceLine.Softint(softint.name)),
         partial(runs_body, softint.name, softint.code),
         on_pending(partial(caused_no_more, i), s),
     )
@@ -589,11 +589,11 @@ def no_softint():
 
 
 # ---- Pending interrupts (RKM Libraries, Exec Interrupts). The abstract machine keeps the software interrupts that are
-# caused in order of arrival, and never sorts them: the one that runs next is the earliest among those of greatest
+# caused in order of arrival, and never sorts them: the one that runs next is the earliest among those of highest
 # priority. How one arrives, and which is next, is defined for either discipline of a queue. A source asks to be served
 # by its latch: more requests before it is served change nothing. [execmodel/specs/Pending.antt]
 
-# the software interrupt that runs next, if interrupts are allowed and one is caused: of those of greatest priority the
+# the software interrupt that runs next, if interrupts are allowed and one is caused: of those of highest priority the
 # one that was caused first (RKM Libraries, Exec Interrupts: software interrupts)
 # next_softint : State → Option ℕ  [execmodel/specs/Pending.antt:55]
 def next_softint(s):
@@ -629,11 +629,11 @@ def next_source(s):
 # software interrupt i is no longer caused (RKM Libraries, Exec Interrupts: software interrupts)
 # caused_no_more : ℕ → Pending → Pending  [execmodel/specs/Pending.antt:46]
 def caused_no_more(i, pending):
-    return replace(pending, caused=without(i, pending.caused))
+    return replace(pending, caused=without_item(i, pending.caused))
 
 # the number of the software interrupt of that name; if none has the name, a number that none has
-# softint_named : List ℕ → List SoftintData → ℕ  [execmodel/specs/Pending.antt:24]
-def softint_named(name, softints):
+# softint_number : List ℕ → List SoftintData → ℕ  [execmodel/specs/Pending.antt:24]
+def softint_number(name, softints):
     return position_or_len(partial(bytes_eq, name), [s.name for s in softints])
 
 # software interrupt i is caused (autodoc exec.library/Cause)
@@ -772,7 +772,7 @@ def argument_number(this_argument):
 # the line of a call of task t
 # line_of_call : ℕ → Call → CallEnd → State → TraceLine  [execmodel/specs/Calls.antt:92]
 def line_of_call(t, call, outcome, s):
-    return TraceLine.Call(name_of(s.schedule, t), word_text(call.word), call.arguments, outcome)
+    return TraceLine.Call(task_name(s.schedule, t), word_text(call.word), call.arguments, outcome)
 
 # a call is refused by an alert, for either caller, and the machine stops for good
 # alerted_by : Alert → Caller → Call → State → Outcome  [execmodel/specs/Calls.antt:151]
@@ -780,15 +780,15 @@ def alerted_by(code, caller, call, s):
     match caller:
         case Caller.ByTask(t): return alerted(code, t, call, s)
         case Caller.ByBody(name):
-            return says(TraceLine.Alert(alert_text(code), name, word_text(call.word)), replace(s, stopped=True))
+            return prints_line(TraceLine.Alert(alert_text(code), name, word_text(call.word)), replace(s, stopped=True))
         case _: raise NoCase('alerted_by')
 
 # A call of task t is refused by an alert: its line is printed, and the machine stops for good. Nothing else changes
 # (project rule).
 # alerted : Alert → ℕ → Call → State → Outcome  [execmodel/specs/Calls.antt:116]
 def alerted(code, t, call, s):
-    return says(
-        TraceLine.Alert(alert_text(code), name_of(s.schedule, t), word_text(call.word)), replace(s, stopped=True)
+    return prints_line(
+        TraceLine.Alert(alert_text(code), task_name(s.schedule, t), word_text(call.word)), replace(s, stopped=True)
     )
 
 # a call that returns nothing is done, for either caller; its line has the name of the task or the body
@@ -797,13 +797,13 @@ def done_by(caller, call, s):
     match caller:
         case Caller.ByTask(t): return done(t, call, s)
         case Caller.ByBody(name):
-            return says(TraceLine.Call(name, word_text(call.word), call.arguments, CallEnd.Done), s)
+            return prints_line(TraceLine.Call(name, word_text(call.word), call.arguments, CallEnd.Done), s)
         case _: raise NoCase('done_by')
 
 # a call of task t waits: its line is printed, and it is kept, to be tried again
 # waiting : ℕ → Call → State → Outcome  [execmodel/specs/Calls.antt:106]
 def waiting(t, call, s):
-    return says(line_of_call(t, call, CallEnd.Waits, s), on_scripts(partial(keeps, t, call), s))
+    return prints_line(line_of_call(t, call, CallEnd.Waits, s), on_scripts(partial(keeps, t, call), s))
 
 # task t keeps this call, to try it again
 # keeps : ℕ → Call → Scripts → Scripts  [execmodel/specs/Calls.antt:88]
@@ -830,7 +830,7 @@ def answered_by(caller, call, value, s):
     match caller:
         case Caller.ByTask(t): return answered(t, call, value, s)
         case Caller.ByBody(name):
-            return says(
+            return prints_line(
                 TraceLine.Call(name, word_text(call.word), call.arguments, CallEnd.Answers(value)),
                 on_scripts(partial(stored_shared, call.target, value), s),
             )
@@ -977,7 +977,7 @@ def does_alloc_signal(t, call, s):
         t,
         call,
         cast_unsigned(32, grant_number(grant(n, signals_of(s.schedule, t)))),
-        on_schedule(partial(allocates, t, n), s),
+        on_schedule(partial(allocates_signal, t, n), s),
     )
 
 # FreeSignal a: signal a is no longer allocated; -1 does nothing (autodoc exec.library/FreeSignal; the alert: project
@@ -986,7 +986,13 @@ def does_alloc_signal(t, call, s):
 def does_free_signal(t, call, s):
     n = argument(0, call)
     if n == 4_294_967_295: return done(t, call, s)
-    return unless(free_signal_alert(n), t, call, lambda s: done(t, call, on_schedule(partial(frees, t, n), s)), s)
+    return unless(
+        free_signal_alert(n),
+        t,
+        call,
+        lambda s: done(t, call, on_schedule(partial(frees_signal, t, n), s)),
+        s,
+    )
 
 # the alert of FreeSignal: MASK if the number is not that of a signal that a task may allocate
 # free_signal_alert : ℕ → Option Alert  [execmodel/specs/Signals.antt:36]
@@ -1208,7 +1214,7 @@ def live_task_alert(number, scripts, schedule):
 # ends_other : ℕ → ℕ → Call → State → Outcome  [execmodel/specs/Tasks.antt:62]
 def ends_other(other, t, call, s):
     out_of_queues = on_memory(partial(on_heap, partial(dropped, other)), s)
-    ended = on_schedule(partial(removed, other), out_of_queues)
+    ended = on_schedule(partial(task_removed, other), out_of_queues)
     return leaving_queue(awaited_by(other, s.memory.heap), other, done(t, call, ended))
 
 # FindTask name: returns the number of the live task of that name, or 0 if there is none; for the argument 0 the
@@ -1405,11 +1411,11 @@ def is_node_at(address, heap):
 # a node is linked: it is in a list
 # is_linked : ℕ → Heap → Bool  [execmodel/specs/Lists.antt:73]
 def is_linked(node, heap):
-    return stands_in(node, sequence_with(node, heap))
+    return is_in_nodes(node, sequence_with(node, heap))
 
 # a node is in a sequence
-# stands_in : ℕ → List ℕ → Bool  [execmodel/specs/Lists.antt:63]
-def stands_in(node, nodes):
+# is_in_nodes : ℕ → List ℕ → Bool  [execmodel/specs/Lists.antt:63]
+def is_in_nodes(node, nodes):
     return any(other == node for other in nodes)
 
 # the nodes of the list that a node is in, none if it is in no list
@@ -1418,7 +1424,7 @@ def sequence_with(node, heap):
     match heap:
         case []: return []
         case [entry, *rest]:
-            if stands_in(node, nodes_in(entry[1].object_)): return nodes_in(entry[1].object_)
+            if is_in_nodes(node, nodes_in(entry[1].object_)): return nodes_in(entry[1].object_)
             return sequence_with(node, rest)
         case _: raise NoCase('sequence_with')
 
@@ -1508,7 +1514,7 @@ def predecessor(number):
 def is_pred_in(pred, list_, heap):
     match pred:
         case None: return True
-        case Some(pred): return stands_in(pred, nodes_of(list_, heap))
+        case Some(pred): return is_in_nodes(pred, nodes_of(list_, heap))
         case _: raise NoCase('is_pred_in')
 
 # the node is put after its predecessor, or becomes the first of the list for 0
@@ -1531,7 +1537,7 @@ def unlinked(node, heap):
 # left_by : ℕ → Object → Object  [execmodel/specs/Lists.antt:85]
 def left_by(node, object_):
     match object_:
-        case Object.ListHead(nodes): return Object.ListHead(without(node, nodes))
+        case Object.ListHead(nodes): return Object.ListHead(without_item(node, nodes))
         case object_: return object_
 
 # the alert of a call on a list: HANDLE if none begins there
@@ -1609,10 +1615,9 @@ def does_memory(word, t, call, s):
 def memory_deed(memory_word, call):
     match memory_word:
         # AllocMem size reqs: returns the address of a new plain block, or 0 if there is no place for it or the size is
-        # 0. It is placed in a suitable region with room for it, the earliest of greatest priority, at the front of the
-        # lowest gap that is large enough. If no region has room, libraries are first expunged under low memory, in
-        # version 2 of the rules (autodoc exec.library/AllocMem; size 0, the order of asking, and the alert: project
-        # rule).
+        # 0. It is placed in a suitable region with room for it, the earliest of highest priority, at the front of the
+        # lowest gap that is large enough. If no region has room, libraries are first asked for memory, in version 2 of
+        # the rules (autodoc exec.library/AllocMem; size 0, the order of asking, and the alert: project rule).
         case MemoryWord.AllocMem:
             size = argument(0, call)
             reqs = argument(1, call)
@@ -1704,10 +1709,10 @@ def allocates_block(t, call, size, object_, place, s):
 
 # ---- Message ports and messages (RKM Libraries, Exec Messages and Ports). A port has a sequence of messages in order
 # of arrival; a message is in one port at most, once. The public ports are a sequence in order of arrival; the one of a
-# name is the earliest among those of greatest priority that have it. An address at which no object of the kind begins
-# is the alert HANDLE; a message that is in a port where it must be in none, or a port that is public where it must not
-# be, or is not public where it must be, is the alert LINK; a port that is in use, or that does not signal the caller,
-# is the alert PORT (project rule). [execmodel/specs/Ports.antt]
+# name is the earliest among those of highest priority that have it. An address at which no object of the kind begins is
+# the alert HANDLE; a message that is in a port where it must be in none, or a port that is public where it must not be,
+# or is not public where it must be, is the alert LINK; a port that is in use, or that does not signal the caller, is
+# the alert PORT (project rule). [execmodel/specs/Ports.antt]
 
 # a call of task t on ports and messages, by its word
 # does_ports : PortWord → ℕ → Call → State → Outcome  [execmodel/specs/Ports.antt:456]
@@ -1757,7 +1762,7 @@ def port_created(t, call, bit, place, s):
                 call,
                 address,
                 on_schedule(
-                    partial(allocates, t, -1),
+                    partial(allocates_signal, t, -1),
                     on_memory(partial(placed, port_size(), Object.MsgPort(new_port(t, bit), []), Some(address)), s),
                 ),
             )
@@ -1776,8 +1781,8 @@ def is_port(object_):
         case Object.MsgPort(port, messages): return True
         case _: return False
 
-# the memory after libraries were expunged under low memory for a port; if there is no signal for the port, none is
-# expunged (project rule)
+# the memory after libraries were asked for memory for a port; if there is no signal for the port, none is asked
+# (project rule)
 # after_asking_for_port : Option ℕ → Memory → Memory  [execmodel/specs/Ports.antt:167]
 def after_asking_for_port(bit, memory):
     match bit:
@@ -1855,7 +1860,7 @@ def replies_to(port, object_):
 # the signal of a port is no longer allocated by its task (autodoc DeleteMsgPort)
 # gives_back : Port → Schedule → Schedule  [execmodel/specs/Ports.antt:201]
 def gives_back(port, s):
-    return frees(port.task, port.bit, s)
+    return frees_signal(port.task, port.bit, s)
 
 # the task, the signal and the action of the port that begins at an address (RKM Libraries, Exec Messages and Ports)
 # port_of : ℕ → Heap → Port  [execmodel/specs/Ports.antt:54]
@@ -1938,7 +1943,7 @@ def made_private(port, memory):
 def does_find_port(t, call, s):
     return answered(t, call, found_port(unwrap_or(name_argument(0, call), []), s.memory), s)
 
-# the public port of a name: the earliest among those of greatest priority that have it, or 0 if none has (autodoc
+# the public port of a name: the earliest among those of highest priority that have it, or 0 if none has (autodoc
 # FindPort)
 # found_port : List ℕ → Memory → ℕ  [execmodel/specs/Ports.antt:143]
 def found_port(name, memory):
@@ -1995,7 +2000,7 @@ def with_port(address, port, messages, heap):
 # does_port_cause : ℕ → Call → State → Outcome  [execmodel/specs/Ports.antt:263]
 def does_port_cause(t, call, s):
     port = argument(0, call)
-    i = softint_named(unwrap_or(name_argument(1, call), []), s.bodies.softints)
+    i = softint_number(unwrap_or(name_argument(1, call), []), s.bodies.softints)
     return unless(
         port_alert(port, s.memory.heap),
         t,
@@ -2061,7 +2066,7 @@ def message_size():
 def does_free_msg(t, call, s):
     message = argument(0, call)
     return unless(
-        loose_alert(message, s.memory.heap),
+        unqueued_alert(message, s.memory.heap),
         t,
         call,
         lambda s: done(t, call, on_memory(partial(freed, message), s)),
@@ -2069,8 +2074,8 @@ def does_free_msg(t, call, s):
     )
 
 # the alert of a call on a message that must be in no port: HANDLE if none begins there, LINK if it is in a port
-# loose_alert : ℕ → Heap → Option Alert  [execmodel/specs/Ports.antt:292]
-def loose_alert(message, heap):
+# unqueued_alert : ℕ → Heap → Option Alert  [execmodel/specs/Ports.antt:292]
+def unqueued_alert(message, heap):
     if not is_message_at(message, heap): return Some(Alert.Handle)
     return Some(Alert.Link) if is_queued(message, heap) else None
 
@@ -2184,7 +2189,7 @@ def does_put_msg_by(c, call, s):
 # the alert of PutMsg: HANDLE if the port or the message is not there, LINK if the message is in a port
 # put_alert : ℕ → ℕ → Heap → Option Alert  [execmodel/specs/Ports.antt:355]
 def put_alert(port, message, heap):
-    return Some(Alert.Handle) if not is_port_at(port, heap) else loose_alert(message, heap)
+    return Some(Alert.Handle) if not is_port_at(port, heap) else unqueued_alert(message, heap)
 
 # a message gets that type and becomes the last in a port, and then the port acts (autodocs PutMsg and ReplyMsg)
 # delivered : ℕ → ℕ → ℕ → State → State  [execmodel/specs/Ports.antt:350]
@@ -2581,7 +2586,7 @@ def dropped(t, heap):
 # left_by_task : ℕ → Object → Object  [execmodel/specs/Semaphores.antt:75]
 def left_by_task(t, object_):
     match object_:
-        case Object.Semaphore(sem, waiters): return Object.Semaphore(sem, without(t, waiters))
+        case Object.Semaphore(sem, waiters): return Object.Semaphore(sem, without_item(t, waiters))
         case object_: return object_
 
 # the mark of a removed task that waited for a semaphore; none if it waited for no semaphore
@@ -2620,7 +2625,7 @@ def does_cause(t, call, s):
 # Cause name: the software interrupt of that name is caused (autodoc exec.library/Cause)
 # does_cause_by : Caller → Call → State → Outcome  [execmodel/specs/Causing.antt:8]
 def does_cause_by(c, call, s):
-    return done_by(c, call, causes(softint_named(unwrap_or(name_argument(0, call), []), s.bodies.softints), s))
+    return done_by(c, call, causes(softint_number(unwrap_or(name_argument(0, call), []), s.bodies.softints), s))
 
 
 # ---- Libraries (RKM Libraries, Exec Libraries). A library is absent, or it is loaded and begins at an address, its
@@ -2704,8 +2709,8 @@ def base_or_place(base, i, memory):
         case None: return place_for(library_at(i, memory).size, public_memory(), memory)
         case _: raise NoCase('base_or_place')
 
-# the memory before a library is opened: libraries were expunged under low memory if it has to be loaded; unchanged if
-# there is none to open
+# the memory before a library is opened: the others were asked for memory if it has to be loaded; unchanged if there is
+# none to open
 # ready_to_open : Option ℕ → Memory → Memory  [execmodel/specs/Libraries.antt:53]
 def ready_to_open(i, memory):
     match i:
@@ -2713,7 +2718,7 @@ def ready_to_open(i, memory):
         case Some(i): return ready_to_load(base_of(i, memory.heap), i, memory)
         case _: raise NoCase('ready_to_open')
 
-# the memory before library i is opened: if it has to be loaded, libraries are expunged under low memory for it
+# the memory before library i is opened: if it has to be loaded, the others are asked for memory
 # ready_to_load : Option ℕ → ℕ → Memory → Memory  [execmodel/specs/Libraries.antt:47]
 def ready_to_load(base, i, memory):
     match base:
@@ -2721,8 +2726,8 @@ def ready_to_load(base, i, memory):
         case None: return after_asking(library_at(i, memory).size, public_memory(), memory)
         case _: raise NoCase('ready_to_load')
 
-# The memory after OpenLibrary: libraries were expunged under low memory if the library had to be loaded, and it is open
-# once more. Nothing else changes if there is none to open or no place for it (autodoc OpenLibrary).
+# The memory after OpenLibrary: the other libraries were asked for memory if the library had to be loaded, and it is
+# open once more. Nothing else changes if there is none to open or no place for it (autodoc OpenLibrary).
 # opened : List ℕ → ℕ → Memory → Memory  [execmodel/specs/Libraries.antt:89]
 def opened(name, version, memory):
     found = library_to_open(name, version, memory)
@@ -3094,7 +3099,7 @@ def error_word(request, heap):
 # reply_taken : ℕ → Heap → Heap  [execmodel/specs/Requests.antt:295]
 def reply_taken(request, heap):
     port = request_of(request, heap).port
-    return with_port(port, port_of(port, heap), without(request, messages_of(port, heap)), heap)
+    return with_port(port, port_of(port, heap), without_item(request, messages_of(port, heap)), heap)
 
 # the alert of DoIO for task t: as of any call that begins a request, and that of WaitPort at its reply port
 # do_alert : ℕ → ℕ → Heap → Option Alert  [execmodel/specs/Requests.antt:92]
@@ -3112,7 +3117,7 @@ def begin_alert(of_port, request, heap):
 # a request may begin: it is not in progress, and it is open
 # can_begin : Request → Bool  [execmodel/specs/Requests.antt:76]
 def can_begin(content):
-    return not is_under_way(content) and is_open(content)
+    return not is_under_way(content) and is_opened(content)
 
 # a request begins, with its quick bit set, and the task looks how far it has come
 # begins_and_looks : ℕ → ℕ → Call → State → Outcome  [execmodel/specs/Requests.antt:324]
@@ -3131,8 +3136,8 @@ def begun_at(quick, request, memory):
 
 # what begins a request makes of it: it is in progress, or it is done at once
 # heap_begun : Begun → Bool → ℕ → ℕ → Heap → Heap  [execmodel/specs/Requests.antt:161]
-def heap_begun(this_begun, quick, system, request, heap):
-    match this_begun:
+def heap_begun(begun, quick, system, request, heap):
+    match begun:
         case Begun.Queue(due): return under_way(quick, system, request, heap)
         case Begun.Until(at): return under_way(quick, system, request, heap)
         case Begun.Finish(error): return finished_at(error, request, under_way(quick, system, request, heap))
@@ -3142,7 +3147,7 @@ def heap_begun(this_begun, quick, system, request, heap):
 # a request is in progress, begun at that system time; its quick bit stays set only if it does not have to wait
 # under_way : Bool → ℕ → ℕ → Heap → Heap  [execmodel/specs/Requests.antt:157]
 def under_way(quick, system, request, heap):
-    return with_request(request, begun(quick, system, request_of(request, heap)), heap)
+    return with_request(request, in_progress(quick, system, request_of(request, heap)), heap)
 
 # A request is done, with an error. Its reply is put at its reply port, unless it is done quick or no port begins there
 # (autodoc AbortIO; RKM Devices, Timer Device).
@@ -3182,8 +3187,8 @@ def outcome_at(request, memory):
 # what begins a request makes of the timer: one that is in progress waits for a time of the clock or for a system time;
 # one that sets system time does so
 # timer_begun : Begun → ℕ → Timer → Timer  [execmodel/specs/Requests.antt:169]
-def timer_begun(this_begun, request, timer):
-    match this_begun:
+def timer_begun(begun, request, timer):
+    match begun:
         case Begun.Queue(due): return begins_to_wait(request, Due.AtClock(due), timer)
         case Begun.Until(at): return begins_to_wait(request, Due.AtSystem(at), timer)
         case Begun.Finish(error): return timer
@@ -3216,8 +3221,8 @@ def replying_port(quick, request, memory):
 
 # the port where the reply of a request is put that goes on in this way: none if it waits, nor if it is done quick
 # answering_begun : Begun → Bool → ℕ → ℕ → Heap → Option ℕ  [execmodel/specs/Requests.antt:187]
-def answering_begun(this_begun, quick, system, request, heap):
-    match this_begun:
+def answering_begun(begun, quick, system, request, heap):
+    match begun:
         case Begun.Queue(due): return None
         case Begun.Until(at): return None
         case Begun.Finish(error): return answering_port(request, under_way(quick, system, request, heap))
@@ -3363,7 +3368,9 @@ def finishes_each(next_, number, s):
 # finishes : ℕ → State → Outcome  [execmodel/specs/Requests.antt:411]
 def finishes(request, s):
     return with_reply(
-        answering_port(request, s.memory.heap), request, says(TraceLine.Timer(request), ends_with(0, request, s))
+        answering_port(request, s.memory.heap),
+        request,
+        prints_line(TraceLine.Timer(request), ends_with(0, request, s)),
     )
 
 # all requests whose time has come finish: in the order of their due times, and those of one due time in the order in
@@ -3488,8 +3495,8 @@ def makes(alert, kind, size, object_):
         alert, partial(after_asking_for_object, kind, size), partial(place_for_object, kind, size), size, object_
     )
 
-# Libraries are expunged under low memory, and then an object gets a block of that many bytes, if there is a place for
-# it. The block's address is returned, or 0 if there is no place.
+# Libraries are asked for memory, and then an object gets a block of that many bytes, if there is a place for it. The
+# block's address is returned, or 0 if there is no place.
 # allots : Option Alert → (asked : Memory → Memory) → (place : Memory → Option ℕ) → ℕ → Object → Deed
 # [execmodel/specs/Deeds.antt:48]
 def allots(alert, asked, place, size, object_):
@@ -3565,39 +3572,39 @@ def replaced(address, object_, entry):
     return (entry[0], replace(entry[1], object_=object_) if entry[0] == address else entry[1])
 
 
-# ---- Libraries are expunged under low memory: when memory is refused (autodoc exec.library/AllocMem: libraries that
-# are not open are expunged; the order of asking: project rule). In version 1 of the rules they are not.
-# [execmodel/specs/GivingWay.antt]
+# ---- Libraries are asked for memory when a block fits nowhere, one after another in the order of the file: one that is
+# not open is expunged, an open one is marked (autodoc exec.library/AllocMem; the order of asking: project rule). In
+# version 1 of the rules none is asked. [execmodel/specs/LowMemory.antt]
 
 # The memory after libraries were expunged for a block of that many bytes, before it is allocated. This happens only in
 # version 2 of the rules: one library after another, in the order of the file, until the block has a place. A block of
 # no bytes is never allocated, and no library is expunged for it (project rule). (autodoc AllocMem)
-# after_asking : (size reqs : ℕ) → Memory → Memory  [execmodel/specs/GivingWay.antt:30]
+# after_asking : (size reqs : ℕ) → Memory → Memory  [execmodel/specs/LowMemory.antt:31]
 def after_asking(size, reqs, memory):
     if memory.asks and not size == 0: return asked_each(size, reqs, range_with_len(0, len(memory.libraries)), memory)
     return memory
 
-# libraries are expunged under low memory, one after another, until the block has a place
-# asked_each : (size reqs : ℕ) → List ℕ → Memory → Memory  [execmodel/specs/GivingWay.antt:23]
+# libraries are asked for memory, one after another, until the block has a place
+# asked_each : (size reqs : ℕ) → List ℕ → Memory → Memory  [execmodel/specs/LowMemory.antt:24]
 def asked_each(size, reqs, items, memory):
     match items:
         case []: return memory
         case [i, *others]: return asked_each(size, reqs, others, asked_one(size, reqs, i, memory))
         case _: raise NoCase('asked_each')
 
-# library i is expunged under low memory, unless a block of that many bytes has a place already
-# asked_one : (size reqs i : ℕ) → Memory → Memory  [execmodel/specs/GivingWay.antt:19]
+# library i is asked for memory, unless a block of that many bytes has a place already
+# asked_one : (size reqs i : ℕ) → Memory → Memory  [execmodel/specs/LowMemory.antt:20]
 def asked_one(size, reqs, i, memory):
     return memory if is_some(place_for(size, reqs, memory)) else gives_way(i, memory)
 
-# library i is expunged under low memory (autodocs AllocMem, RemLibrary)
-# gives_way : ℕ → Memory → Memory  [execmodel/specs/GivingWay.antt:15]
+# library i is asked for memory (autodocs AllocMem, RemLibrary)
+# gives_way : ℕ → Memory → Memory  [execmodel/specs/LowMemory.antt:16]
 def gives_way(i, memory):
     return gives_way_at(base_of(i, memory.heap), memory)
 
-# a library, if it is loaded, is expunged under low memory as if it were removed: it is freed if it is not open, and
-# else is to be expunged when it is closed for the last time
-# gives_way_at : Option ℕ → Memory → Memory  [execmodel/specs/GivingWay.antt:10]
+# a library is asked for memory: if it is loaded, it does as if it were removed: it is freed if it is not open, and else
+# is marked, to be expunged when it is closed for the last time
+# gives_way_at : Option ℕ → Memory → Memory  [execmodel/specs/LowMemory.antt:11]
 def gives_way_at(base, memory):
     match base:
         case None: return memory
@@ -3606,7 +3613,7 @@ def gives_way_at(base, memory):
 
 # The memory after libraries were expunged for a new object of a kind, which takes that many bytes, before it is made.
 # None is expunged if the pool does not allow one more object (project rule).
-# after_asking_for_object : (Object → Bool) → ℕ → Memory → Memory  [execmodel/specs/GivingWay.antt:36]
+# after_asking_for_object : (Object → Bool) → ℕ → Memory → Memory  [execmodel/specs/LowMemory.antt:37]
 def after_asking_for_object(kind, size, memory):
     return after_asking(size, public_memory(), memory) if is_allowed(kind, memory) else memory
 
@@ -3762,11 +3769,11 @@ def displaced(d, r, s):
 # task t becomes ready (RKM Libraries, Exec Tasks: scheduling)
 # arrives : Discipline → ℕ → Schedule → Schedule  [scheduler/specs/Dispatch.antt:18]
 def arrives(d, t, s):
-    return stands_ready(d, t, with_status(t, TaskState.Ready, s))
+    return joins_ready(d, t, with_status(t, TaskState.Ready, s))
 
 # task t is put into the ready sequence, where the discipline puts a task that arrives
-# stands_ready : Discipline → ℕ → Schedule → Schedule  [scheduler/specs/Dispatch.antt:14]
-def stands_ready(d, t, s):
+# joins_ready : Discipline → ℕ → Schedule → Schedule  [scheduler/specs/Dispatch.antt:14]
+def joins_ready(d, t, s):
     return replace(s, queue=replace(s.queue, ready=d.arrival(partial(pri_at, s.queue.pris), s.queue.ready, t)))
 
 # a task that was never added becomes ready; any other stays as it is (autodoc exec.library/AddTask)
@@ -3798,7 +3805,7 @@ def reprioritized(d, t, pri, s):
 # [execlist/specs/Disciplines.antt:9]
 Discipline = record('Discipline', 'arrival', 'choice')
 
-# an arriving item is put last, and the earliest among those of greatest priority is next: such a queue is never sorted
+# an arriving item is put last, and the earliest among those of highest priority is next: such a queue is never sorted
 # (RKM Libraries, Exec Tasks: scheduling)
 # by_arrival : Discipline  [execlist/specs/Disciplines.antt:19]
 @once
@@ -3835,8 +3842,8 @@ Schedule = record('Schedule',
 )
 
 # the name of task t
-# name_of : Schedule → ℕ → List ℕ  [scheduler/specs/Schedule.antt:36]
-def name_of(s, t):
+# task_name : Schedule → ℕ → List ℕ  [scheduler/specs/Schedule.antt:36]
+def task_name(s, t):
     return name_at(s.queue.names, t)
 
 # the running task ends (autodoc exec.library/RemTask)
@@ -3940,7 +3947,7 @@ def begins(t, s):
         queue=replace(
             s.queue,
             states=with_status(t, TaskState.Running, s).queue.states,
-            ready=without(t, s.queue.ready),
+            ready=without_item(t, s.queue.ready),
         ),
         running=Some(t),
         left=s.quantum,
@@ -3977,8 +3984,8 @@ def signals_of(s, t):
     return slice_index_or(s.signals, t, initial_sets())
 
 # task t allocates signal n, or for -1 the highest free signal; if none is given, nothing changes
-# allocates : ℕ → ℤ → Schedule → Schedule  [scheduler/specs/Schedule.antt:205]
-def allocates(t, n, s):
+# allocates_signal : ℕ → ℤ → Schedule → Schedule  [scheduler/specs/Schedule.antt:205]
+def allocates_signal(t, n, s):
     return with_signals(t, after_grant(grant(n, signals_of(s, t)), signals_of(s, t)), s)
 
 # task t with other signals
@@ -3987,8 +3994,8 @@ def with_signals(t, sets, s):
     return replace(s, signals=slice_set(s.signals, t, sets))
 
 # Signal n of a live task is not allocated any more. A task that is not live has none to give back (project rule).
-# frees : ℕ → ℕ → Schedule → Schedule  [scheduler/specs/Schedule.antt:213]
-def frees(t, n, s):
+# frees_signal : ℕ → ℕ → Schedule → Schedule  [scheduler/specs/Schedule.antt:213]
+def frees_signal(t, n, s):
     return with_signals(t, after_free(n, signals_of(s, t)), s) if is_live(status_of(s, t)) else s
 
 # the received signals of task t that are in the mask become those of `new`; the others stay
@@ -4005,7 +4012,7 @@ def come_for(mask, sets):
 # after_wait : ℕ → ℕ → Schedule → Schedule  [scheduler/specs/Schedule.antt:197]
 def after_wait(t, mask, s):
     if taken_signals(mask, signals_of(s, t)) == 0: return waits_for(t, mask, s)
-    return takes(t, mask, s)
+    return takes_signals(t, mask, s)
 
 # the running task waits for signals of the mask; no task runs then (autodoc exec.library/Wait)
 # waits_for : ℕ → ℕ → Schedule → Schedule  [scheduler/specs/Schedule.antt:185]
@@ -4013,8 +4020,8 @@ def waits_for(t, mask, s):
     return replace(with_status(t, TaskState.Waiting(Why.Signals(mask)), s), running=None)
 
 # task t takes the signals of the mask that it has received
-# takes : ℕ → ℕ → Schedule → Schedule  [scheduler/specs/Schedule.antt:189]
-def takes(t, mask, s):
+# takes_signals : ℕ → ℕ → Schedule → Schedule  [scheduler/specs/Schedule.antt:189]
+def takes_signals(t, mask, s):
     return with_signals(t, after_take(mask, signals_of(s, t)), s)
 
 # task t with the nesting after a call; it stays as it is if there is none, because the call is refused
@@ -4031,14 +4038,14 @@ def with_nesting(t, nesting, s):
     return replace(s, nestings=slice_set(s.nestings, t, nesting))
 
 # a live task that does not run is ended (autodoc exec.library/RemTask)
-# removed : ℕ → Schedule → Schedule  [scheduler/specs/Schedule.antt:161]
-def removed(t, s):
+# task_removed : ℕ → Schedule → Schedule  [scheduler/specs/Schedule.antt:161]
+def task_removed(t, s):
     return departs(t, with_status(t, TaskState.Removed, s))
 
 # task t leaves the ready sequence
 # departs : ℕ → Schedule → Schedule  [scheduler/specs/Schedule.antt:157]
 def departs(t, s):
-    return replace(s, queue=replace(s.queue, ready=without(t, s.queue.ready)))
+    return replace(s, queue=replace(s.queue, ready=without_item(t, s.queue.ready)))
 
 # the live task of that name, if any (autodoc exec.library/FindTask)
 # found : List ℕ → Schedule → Option ℕ  [scheduler/specs/Schedule.antt:165]
@@ -4049,7 +4056,7 @@ def found(name, s):
 # project rule)
 # clears_and_waits : ℕ → ℕ → Schedule → Schedule  [scheduler/specs/Schedule.antt:201]
 def clears_and_waits(t, mask, s):
-    return waits_for(t, mask, takes(t, mask, s))
+    return waits_for(t, mask, takes_signals(t, mask, s))
 
 # the running task waits for a semaphore; no task runs then (autodoc exec.library/ObtainSemaphore)
 # waits_at_semaphore : ℕ → Schedule → Schedule  [scheduler/specs/Schedule.antt:219]
@@ -4108,8 +4115,8 @@ Waiting = record('Waiting', 'request', 'due')
 Timer = record('Timer', 'clock', 'system', 'tick_micros', 'is_set', 'waiting')
 
 # clock and system time gain one tick
-# ticked : Timer → Timer  [timerdev/specs/Timing.antt:43]
-def ticked(timer):
+# clock_ticked : Timer → Timer  [timerdev/specs/Timing.antt:43]
+def clock_ticked(timer):
     return replace(timer, clock=timer.clock + timer.tick_micros, system=timer.system + timer.tick_micros)
 
 # a timer before its first tick: no request waits, and clock and system time begin at 0 (project rule)
@@ -4140,7 +4147,7 @@ def looked_at(timer):
 # of the requests that wait for a system time, the one that finishes next, if the time of one has come
 # until_next : Timer → Option ℕ  [timerdev/specs/Timing.antt:99]
 def until_next(timer):
-    return next_of(lambda w: is_system(w.due) and has_come(timer, w.due), timer)
+    return next_of(lambda w: is_system(w.due) and is_due(timer, w.due), timer)
 
 # of the requests that pass a test, the one that finishes next, if there is one: the one that is due first, and of those
 # that are due at one time the one that was begun first
@@ -4178,17 +4185,17 @@ def is_system(due):
         case _: raise NoCase('is_system')
 
 # a due time has come (RKM Devices, Timer Device)
-# has_come : Timer → Due → Bool  [timerdev/specs/Timing.antt:62]
-def has_come(timer, due):
+# is_due : Timer → Due → Bool  [timerdev/specs/Timing.antt:62]
+def is_due(timer, due):
     match due:
         case Due.AtClock(time): return time <= timer.clock
         case Due.AtSystem(time): return time <= timer.system
-        case _: raise NoCase('has_come')
+        case _: raise NoCase('is_due')
 
 # of all requests that wait, the one that finishes next, if the time of one has come (RKM Devices, Timer Device)
 # due_next : Timer → Option ℕ  [timerdev/specs/Timing.antt:95]
 def due_next(timer):
-    return next_of(lambda w: has_come(timer, w.due), timer)
+    return next_of(lambda w: is_due(timer, w.due), timer)
 
 
 # ---- The sources of interrupts, their names, and which of them ask to be served (RKM Libraries, Exec Interrupts).
@@ -4290,8 +4297,8 @@ def is_lower(key, y, x):
     return key(y) < key(x)
 
 # the sequence with item n left out
-# without : ℕ → List ℕ → List ℕ  [execlist/specs/Order.antt:24]
-def without(n, xs):
+# without_item : ℕ → List ℕ → List ℕ  [execlist/specs/Order.antt:24]
+def without_item(n, xs):
     return [x for x in xs if not x == n]
 
 # the first item, if there is one
@@ -4636,7 +4643,7 @@ def round_(n):
     return (n + 7) // 8 * 8
 
 # Where a block of that many bytes is placed. Of the suitable regions that have a gap of at least the rounded size, the
-# earliest among those of greatest priority is taken, and in it the front of the lowest such gap. None if there is no
+# earliest among those of highest priority is taken, and in it the front of the lowest such gap. None if there is no
 # such region, and for size 0 (project rule). (autodoc AllocMem)
 # fit : List Region → Blocks → ℕ → ℕ → Option ℕ  [memlist/specs/Fit.antt:33]
 def fit(regions, blocks, size, reqs):
@@ -4730,19 +4737,24 @@ def idle_request(port):
     return Request(port=port, state=ReqState.Idle, unit=None, command=0, secs=0, micros=0, error=0, quick=False)
 
 # the request is open, for some unit
-# is_open : Request → Bool  [iorequest/specs/Request.antt:22]
-def is_open(q):
+# is_opened : Request → Bool  [iorequest/specs/Request.antt:22]
+def is_opened(q):
     return is_some(q.unit)
 
 # the request in progress: its error is 0, and IOF_QUICK is as the caller asked, but cleared if the request is to wait
-# begun : Bool → (system : ℕ) → Request → Request  [iorequest/specs/Request.antt:83]
-def begun(quick, system, q):
-    return replace(told(system, q), state=ReqState.UnderWay, error=0, quick=quick and not is_to_wait(system, q))
+# in_progress : Bool → (system : ℕ) → Request → Request  [iorequest/specs/Request.antt:83]
+def in_progress(quick, system, q):
+    return replace(
+        with_system_time(system, q),
+        state=ReqState.UnderWay,
+        error=0,
+        quick=quick and not is_to_wait(system, q),
+    )
 
 # the request with system time in its time field, if it asks for that; the seconds are modulo 2 to the power 32 (project
 # rule)
-# told : (system : ℕ) → Request → Request  [iorequest/specs/Request.antt:79]
-def told(system, q):
+# with_system_time : (system : ℕ) → Request → Request  [iorequest/specs/Request.antt:79]
+def with_system_time(system, q):
     if asks_time(q): return replace(q, secs=quotient(system, second()) % 2 ** 32, micros=remainder(system, second()))
     return q
 
@@ -4908,7 +4920,7 @@ def most_obtained():
 def once_more(t, sem):
     return Sem(owner=Some(t), count=sem.count + 1)
 
-# the owner has to release a semaphore just once more
+# the owner has to release a semaphore exactly once more
 # is_last : Sem → Bool  [sigsem/specs/Semaphores.antt:57]
 def is_last(sem):
     return sem.count == 1
@@ -5565,7 +5577,7 @@ MemFault = data('MemFault',
 # ---- Types of the code in word.rt [script/src/word.rt]
 
 # A word of a body. It begins a line, or comes after a target and `=`.
-# [script/src/word.rt:38]
+# [script/src/word.rt:37]
 Word = data('Word',
     # A word that sets a variable, calculates, jumps or prints.
     Plain='a0',
@@ -5930,7 +5942,7 @@ Action = data('Action',
 
 # How far a request has come. RKM Devices, Introduction to Amiga System Devices; that an idle one is distinguished:
 # project rule.
-# [iorequest/src/request.rt:25]
+# [iorequest/src/request.rt:26]
 ReqState = data('ReqState',
     # It was never begun.
     Idle='',
@@ -5943,7 +5955,7 @@ ReqState = data('ReqState',
 )
 
 # A timer request. RKM Devices, Timer Device: `timerequest`; Introduction to Amiga System Devices: `IORequest`.
-# [iorequest/src/request.rt:38]
+# [iorequest/src/request.rt:39]
 Request = record('Request',
     # Its reply port, as the caller names it.
     'port',
@@ -5961,7 +5973,7 @@ Request = record('Request',
 )
 
 # What comes of beginning a request. Whoever keeps the requests has to do it.
-# [iorequest/src/request.rt:56]
+# [iorequest/src/request.rt:57]
 Begun = data('Begun',
     # It is to be finished at once, with this error.
     Finish='a0',
@@ -6235,10 +6247,10 @@ Heap = 'List (ℕ × Block)'
 # [execmodel/specs/Blocks.antt:46]
 PublicPort = record('PublicPort', 'port', 'key')
 
-# the regions of memory and the libraries, both in the order of the file; whether libraries are expunged under low
-# memory; how many objects of each kind may live; how many tasks there are, each of which may wait for a semaphore; the
-# blocks that are allocated; the public ports in order of arrival; and the timer (RKM Libraries, Exec Memory Allocation;
-# RKM Libraries, Exec Messages and Ports; RKM Devices, Timer Device)
+# the regions of memory and the libraries, both in the order of the file; whether libraries are asked for memory; how
+# many objects of each kind may live; how many tasks there are, each of which may wait for a semaphore; the blocks that
+# are allocated; the public ports in order of arrival; and the timer (RKM Libraries, Exec Memory Allocation; RKM
+# Libraries, Exec Messages and Ports; RKM Devices, Timer Device)
 # [execmodel/specs/Blocks.antt:54]
 Memory = record('Memory',
     'regions',
@@ -6389,7 +6401,7 @@ def is_skipped(items):
 def fault_by(event, number, events):
     match event:
         case None: return [EventFault.BadLine(number)]
-        case Some(event): return [] if is_within(events) else [EventFault.TooMany]
+        case Some(event): return [] if keeps_event_limits(events) else [EventFault.TooMany]
         case _: raise NoCase('fault_by')
 
 # the event that a line states, if it states one
@@ -6451,8 +6463,8 @@ def fault_or(fault, value):
 # ---- What events ask for, and how much of it a text may ask for. [script/specs/Events.antt]
 
 # the sum of the steps and that of the ticks are at most 1,000,000, and there are at most 100,000 events
-# is_within : List Event → Bool  [script/specs/Events.antt:21]
-def is_within(events):
+# keeps_event_limits : List Event → Bool  [script/specs/Events.antt:21]
+def keeps_event_limits(events):
     return are_within(sum(event_steps(each) for each in events), sum(event_ticks(each) for each in events), len(events))
 
 # steps, ticks and events are within the limits of a text
@@ -6506,15 +6518,15 @@ def below_word(n):
     return Some(n) if n < 4_294_967_296 else None
 
 # the number of a field: hexadecimal after `$`, a negative decimal number after `-`, else a decimal number
-# number_of : List ℕ → Option ℕ  [taskscript/specs/Numbers.antt:35]
+# number_written : List ℕ → Option ℕ  [taskscript/specs/Numbers.antt:35]
 @kept
-def number_of(items):
+def number_written(items):
     match items:
         case []: return None
         case [b, *bs]:
             if b == 36: return hex_of(bs)
             return option_and_then(negated, decimal_of(bs)) if b == 45 else decimal_of([b, *bs])
-        case _: raise NoCase('number_of')
+        case _: raise NoCase('number_written')
 
 # the number that 1 to 8 hexadecimal digits state
 # hex_of : List ℕ → Option ℕ  [taskscript/specs/Numbers.antt:25]
@@ -7335,7 +7347,7 @@ def line_faults(setting, names, before, line_data):
         case Some(LineData.command_line(c)):
             return (
                 check(names_softints(setting, c), FileFault.BadCommand)
-                + check(may_stand(setting, c), FileFault.NotInInterrupt)
+                + check(may_have(setting, c), FileFault.NotInInterrupt)
                 + check(all(keeps_variable_limits(variable_in(names, v)) for v in variables_of(c)), FileFault.TooMany)
             )
         case _: raise NoCase('line_faults')
@@ -7497,8 +7509,8 @@ def softint_argument(kind, named_argument_data):
         case _, _: return None
 
 # a body that is judged by this setting may have this command
-# may_stand : Setting → NamedCommandData → Bool  [taskscript/specs/Interrupting.antt:21]
-def may_stand(setting, c):
+# may_have : Setting → NamedCommandData → Bool  [taskscript/specs/Interrupting.antt:21]
+def may_have(setting, c):
     return not setting.of_interrupt or is_of_interrupt(c)
 
 # the body of an interrupt may have this command: its word is allowed there, and its variables are shared
@@ -7550,12 +7562,12 @@ def keeps_variable_limits(variable):
 # a variable by its number: its place among the names in order of first sight
 # variable_in : Names → NamedVariableData → Variable  [taskscript/specs/Numbering.antt:41]
 def variable_in(names, v):
-    if v.is_shared: return Variable.Shared(number_in(names.shared, v.name))
-    return Variable.Private(number_in(names.private, v.name))
+    if v.is_shared: return Variable.Shared(place_of_name(names.shared, v.name))
+    return Variable.Private(place_of_name(names.private, v.name))
 
 # the place of a name among those that were seen; after them, if it is new
-# number_in : List (List ℕ) → List ℕ → ℕ  [taskscript/specs/Numbering.antt:19]
-def number_in(seen, name):
+# place_of_name : List (List ℕ) → List ℕ → ℕ  [taskscript/specs/Numbering.antt:19]
+def place_of_name(seen, name):
     return position_or_len(partial(bytes_eq, name), seen)
 
 # the names of variables, with those of some more variables that are new
@@ -7778,7 +7790,7 @@ def argument_of(kind, field):
         case Kind.Value:
             return option_or(
                 option_map(NamedArgumentData.variable, variable_of(field)),
-                option_map(NamedArgumentData.number, number_of(field)),
+                option_map(NamedArgumentData.number, number_written(field)),
             )
         case Kind.Label: return option_map(NamedArgumentData.label, identifier_in(field))
         case Kind.Name: return option_map(NamedArgumentData.quoted, quoted_in(field))
@@ -7942,7 +7954,7 @@ FileFault = data('FileFault',
 
 # The fault of an event text: that of its first faulty line. It is printed by its name, and BadLine with the number of
 # that line. The faults are numbered 1, 2 and 3, in the order in which they are here (project rule).
-# [taskscript/src/fault.rt:96]
+# [taskscript/src/fault.rt:97]
 EventFault = data('EventFault',
     # The line of this number is not an event. Lines are counted from 1, and those that are skipped are counted too.
     BadLine='a0',
@@ -8160,7 +8172,7 @@ def AreArguments(items, other_items, other_items2):
 def IsArgument(kind, field, named_argument_data):
     match kind, named_argument_data:
         case Kind.Value, NamedArgumentData.variable(v): return IsVariable(field, v)
-        case Kind.Value, NamedArgumentData.number(n): return number_of(field) == Some(n)
+        case Kind.Value, NamedArgumentData.number(n): return number_written(field) == Some(n)
         case Kind.Label, NamedArgumentData.label(n): return field == n and is_identifier(n)
         case Kind.Name, NamedArgumentData.quoted(n): return field == quote() + n + quote() and is_name(n)
         case Kind.NameOrNone, NamedArgumentData.quoted(n): return field == quote() + n + quote() and is_name(n)
@@ -8616,7 +8628,7 @@ def _calls_for(number, file, script):
             return
         if event == "call":
             stack.append(_Call(name))
-            left[0] -= name == "says"
+            left[0] -= name == "prints_line"
             if not left[0]:
                 sys.setprofile(None)
                 raise _Made

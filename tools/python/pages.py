@@ -86,19 +86,42 @@ def calls(words):
     return as_table(("Word", "Arguments", "Returns", "Alerts, in their order", "Effect"), rows)
 
 
+ADVICE = tables.TOP / "crates" / "execadvice" / "src"
+# The tables of names that are no words, each with its file.
+FOREIGN = {table: ADVICE / f"{file}.rt" for file, row in (("foreign", ("NAMES", "ABSENT")), ("elsewhere", ("CALLS", "LOCKS", "SIGNS", "LACKED", "LACKED_SIGNS"))) for table in row}
+
+
 def foreign_rows(table):
     """The rows of a table of names that are no words, as `execcheck` has them: each name, and what is said of it."""
-    text = (tables.TOP / "crates" / "execadvice" / "src" / "foreign.rt").read_text()
+    text = FOREIGN[table].read_text()
     said = dict(re.findall(r'const (\w+): &str =\s*"((?:[^"\\]|\\.)*)";', text))
     rows = re.search(rf"const {table}: [^=]*= \[\n(.*?)\n\];", text, re.S)[1]
     found = re.findall(r'\(\s*"([^"]+)",\s*(?:"((?:[^"\\]|\\.)*)"|(\w+)),?\s*\)', rows)
     return [(name, (quoted or said[constant]).replace('\\"', '"')) for name, quoted, constant in found]
 
 
-def from_c_absent():
-    """FROM-C's table of the functions of Exec that are not here, those with one reason in one row."""
+# The functions of exec.library V37, in the order of its table of functions.
+EXEC = """
+Supervisor InitCode InitStruct MakeLibrary MakeFunctions FindResident InitResident Alert Debug Disable Enable Forbid Permit SetSR SuperState UserState
+SetIntVector AddIntServer RemIntServer Cause Allocate Deallocate AllocMem AllocAbs FreeMem AvailMem AllocEntry FreeEntry Insert AddHead AddTail Remove
+RemHead RemTail Enqueue FindName AddTask RemTask FindTask SetTaskPri SetSignal SetExcept Wait Signal AllocSignal FreeSignal AllocTrap FreeTrap AddPort
+RemPort PutMsg GetMsg ReplyMsg WaitPort FindPort AddLibrary RemLibrary OldOpenLibrary CloseLibrary SetFunction SumLibrary AddDevice RemDevice OpenDevice
+CloseDevice DoIO SendIO CheckIO WaitIO AbortIO AddResource RemResource OpenResource RawDoFmt GetCC TypeOfMem Procure Vacate OpenLibrary InitSemaphore
+ObtainSemaphore ReleaseSemaphore AttemptSemaphore ObtainSemaphoreList ReleaseSemaphoreList FindSemaphore AddSemaphore RemSemaphore SumKickData
+AddMemList CopyMem CopyMemQuick CacheClearU CacheClearE CacheControl CreateIORequest DeleteIORequest CreateMsgPort DeleteMsgPort
+ObtainSemaphoreShared AllocVec FreeVec AttemptSemaphoreShared ColdReboot StackSwap CachePreDMA CachePostDMA
+""".split()
+
+
+def from_c_absent(words):
+    """FROM-C's table of the functions of Exec that are no words, those with one reason in one row: each one that is not here, and then each one that
+    is written otherwise."""
+    rows = [*foreign_rows("ABSENT"), *(row for row in foreign_rows("NAMES") if row[0] in EXEC)]
+    lacking = set(EXEC) - {word["name"] for word in words} - {name for name, _ in rows}
+    if lacking:
+        raise BadPage(f"crates/execadvice/src/foreign.rt: nothing is said of {', '.join(sorted(lacking))}, which exec.library has")
     names = {}
-    for name, reason in foreign_rows("ABSENT"):
+    for name, reason in rows:
         names.setdefault(reason, []).append(f"`{name}`")
     return as_table(("Not here", "Why, or what serves"), [(", ".join(found), reason) for reason, found in names.items()])
 

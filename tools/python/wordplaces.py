@@ -1,6 +1,7 @@
 """Where each word of the reader has to be written by hand: tables, matches, tests and stored answers. `.ci/quick` says
 what lacks a word, and what still says that it is none; `.ci/adding` compares these places with docs/ADDING.md, which
 says how each is written. `wordplaces.py` prints them as JSON."""
+import collections
 import dataclasses
 import functools
 import json
@@ -24,8 +25,8 @@ NAMED = (
 NOT_NAMED = (
     ("a run says that it is no command", "crates/runs/data/not-simulated.runs", r"^== {} is no command$"),
 )
-# A stored answer that says of the text above its marks that it is no word.
-UNKNOWN = re.compile(r"(?m)\[BadCommand\]: unknown word.*\n(?:    in .*\n)?(    .*)\n( +)(\^+)$")
+# A stored answer that says of a name that it is no word.
+UNKNOWN = re.compile(r"\[BadCommand\]: (?:unknown word (\w+)|(\w+) is not one of the calls here)")
 # A word and its alert, of which a stored answer is.
 ENDING = re.compile(r"(?m)^== (\w+) ([A-Z]+)\b")
 COUNTED = re.compile(r"\bthere are (\d+) words\b")
@@ -187,15 +188,15 @@ def lacking():
 # ---- what says that a word is none
 
 def twice_named(words):
-    """The names of crates/execadvice/src/foreign.rt, of Exec and other systems, that are words or have two rows: in
-    whatever case, as they are looked for."""
-    file = TOP / "crates" / "execadvice" / "src" / "foreign.rt"
-    names = [name for table in ("NAMES", "ABSENT") for name, _ in pages.foreign_rows(table)]
+    """The names of Exec, of other systems and of other languages that are words or have two rows, in one table or in
+    two: in whatever case, as they are looked for."""
+    rows = [(name, file) for table, file in pages.FOREIGN.items() for name, _ in pages.foreign_rows(table)]
+    counted = collections.Counter(name.lower() for name, _ in rows)
     known = {word.lower(): word for word in words}
-    for name in names:
+    for name, file in rows:
         if name in words:
             said = "it is a foreign name"
-        elif sum(other.lower() == name.lower() for other in names) > 1:
+        elif counted[name.lower()] > 1:
             said = "it has two rows"
         elif name.lower() in known:
             said = f"it is {known[name.lower()]} in other letters"
@@ -213,7 +214,7 @@ def refused(words):
                     yield Place(word, name_of(file), line_at(read(file), found.start()), what)
     for file in files_of("crates/runs/data/mistakes/*"):
         for found in UNKNOWN.finditer(read(file)):
-            word = found[1][len(found[2]) : len(found[2]) + len(found[3])]
+            word = found[1] or found[2]
             if word in words:
                 line = line_at(read(file), found.start())
                 yield Place(word, name_of(file), line, "a stored answer says that it is unknown")

@@ -1,19 +1,10 @@
 -- The command line of the program: options, a word that is a path, and another one that may be absent.
 use Rattle.std.specs.Prelude.{◌≡◌, [], List, false, None, Some, IsSome, codes, option_map}
-use Rattle.clap.specs.Words.{App, Rule, Text, app_of, first_of, matches_of, new_rule, one_of, with_rule}
-use Rattle.clap.specs.declared.builder.action.ArgAction.{ArgAction}
-use Rattle.clap.specs.declared.builder.action.ArgAction.TheVariants.{Append, Set, SetTrue}
+use Rattle.clap.specs.Words.{App, Text, app_of, first_of, matches_of, one_of, with_rule}
+use Rattle.clap.specs.declared.builder.action.ArgAction.TheVariants.{Append, Set}
 use Rattle.clap.specs.declared.builder.command.Command.{Command}
-use Rattle.execrun.specs.CommandLine.{nameless_app, path_rule}
+use Rattle.execrun.specs.CommandLine.{flag_rule, nameless_app, option_rule, path_rule}
 use Rattle.checker.specs.declared.command_line.Asked.{Asked}
-
--- an option that takes no value
-abbrev pub flag_rule : Text → Rule
-flag_rule name = record (new_rule name) { long = Some name; action = Some SetTrue }
-
--- an option that takes one
-abbrev pub option_rule : Text → ArgAction → Rule
-option_rule name action = record (new_rule name) { long = Some name; action = Some action; value_names = 1 }
 
 -- a machine file and an event text, with no name of the program before them
 abbrev pub paths_alone : App

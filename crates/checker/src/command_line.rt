@@ -2,13 +2,20 @@
 ghost use Rattle.std.specs.Prelude.{◌≡◌, [], IfOk, None, Some, true, false, codes, option_map};
 ghost use Rattle.clap.specs.Words.{FailsBy, app_of, fault_of, first_value, found_of, kind_of, rule_of, with_rule};
 ghost use Rattle.clap.specs.Walk.{texts};
-ghost use Rattle.execrun.specs.CommandLine.{path_rule};
-ghost use Rattle.checker.specs.CommandLine.{AreGivenBy, TakesWords, command_line, flag_rule, option_rule, paths_alone, with_forms};
+ghost use Rattle.execrun.specs.CommandLine.{flag_rule, option_rule, path_rule};
+ghost use Rattle.checker.specs.CommandLine.{AreGivenBy, TakesWords, command_line, paths_alone, with_forms};
 
 use clap::error::ErrorKind;
 use clap::{Arg, ArgAction, ArgMatches, Command, Error};
 use escape::{HIDDEN_WORD, words_if_hidden};
 use std::alloc::{AllocError, Global};
+
+/// The word that asks for the language server, as the only one of a command line.
+pub(crate) const SERVER: &str = "--lsp";
+
+/// What is said if it is not the only one.
+const SERVER_ALONE: &str =
+    "--lsp stands alone: write `execcheck --lsp`, and the editor sends the texts";
 
 /// The paths of a command line.
 #[derive(Clone, Copy)]
@@ -211,10 +218,39 @@ fn error_over(alloc: Global, words: &[String], kind: ErrorKind) -> Result<Error,
     }
 }
 
-/// What `clap` answers to some words, with the words as they are shown.
+/// Whether a word is the one that asks for the language server, or that one with a value.
+fn is_for_server(word: &str) -> bool {
+    word == SERVER || word.starts_with("--lsp=")
+}
+
+/// Whether some of the words that may be options ask for the language server, which no other word may be with.
+fn asks_beside_others(words: &[&str]) -> bool {
+    for word in words {
+        if *word == "--" {
+            return false;
+        }
+        if is_for_server(*word) {
+            return true;
+        }
+    }
+    false
+}
+
+/// A refusal of a kind that says how the language server is asked for.
+fn server_error(alloc: Global, kind: ErrorKind) -> Result<Error, AllocError>
+    ensures { IfOk result (λ error. kind_of error ≡ kind) }
+{
+    command(alloc)?.error(kind, SERVER_ALONE)
+}
+
+/// What `clap` answers to some words, with the words as they are shown; if it knows one of them not and one asks for the language server, it is said
+/// how that is asked for.
 fn error_shown(alloc: Global, words: &[&str], error: Error) -> Result<Error, AllocError>
     ensures { IfOk result (λ shown. kind_of shown ≡ kind_of error) }
 {
+    if error.kind() == ErrorKind::UnknownArgument && asks_beside_others(words) {
+        return server_error(alloc, error.kind());
+    }
     match words_if_hidden(alloc, words)? {
         None => Ok(error),
         Some(shown) => error_over(alloc, shown.as_slice(), error.kind()),

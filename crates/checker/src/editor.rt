@@ -1,15 +1,13 @@
 //! The language server over any texts, and the runs of texts.
 ghost use Rattle.std.specs.Prelude.{◌≡◌, ◌≢◌, ◌⊎◌};
 
+use crate::command_line::SERVER;
 use execadvice::Diagnostic;
 use execrun::{TextFault, Texts, read_text};
 use languageserver::{Outside, Served, Unserved, serve};
 use runadvice::check_run;
 use std::alloc::{AllocError, Global};
 use std::io::{Read, Write};
-
-/// The word that asks for the server, as the only one of a command line.
-const WORD: &str = "--lsp";
 
 /// The status if the editor asked the server to end, or went away.
 const ENDED: u8 = 0;
@@ -44,9 +42,9 @@ impl<T: Texts> Outside for Around<'_, T> {
 }
 
 /// Whether the words of a command line ask for the language server.
-pub fn asks_for_server(words: &[&str]) -> bool {
+pub(crate) fn asks_for_server(words: &[&str]) -> bool {
     match words {
-        [word] => *word == WORD,
+        [word] => *word == SERVER,
         _ => false,
     }
 }

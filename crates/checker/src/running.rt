@@ -13,8 +13,9 @@ use crate::fixing::fix_texts;
 use crate::options::{Color, Form};
 use crate::writing::Shelf;
 use clap::error::ErrorKind;
+use escape::Shown;
 use execadvice::Look;
-use std::alloc::Global;
+use std::alloc::{AllocError, Global};
 use std::io::Write;
 
 /// The status if the help was printed.
@@ -71,6 +72,12 @@ fn usage<'a>(alloc: Global, sentence: &str) -> Failure<'a> {
     }
 }
 
+/// What is said of a word that is none of `--color`.
+fn no_color(alloc: Global, word: &str) -> Result<String, AllocError> {
+    let shown = Shown(word);
+    format!(in alloc; "--color {shown}: it takes auto, always or never")
+}
+
 /// When there are colors, by a word of the command line.
 fn color_given<'a>(alloc: Global, color: Option<&str>) -> Result<Color, Failure<'a>>
     ensures { color.entry ≡ None → IfErr result (λ failure. ¬ IsUsage failure) }
@@ -79,7 +86,7 @@ fn color_given<'a>(alloc: Global, color: Option<&str>) -> Result<Color, Failure<
         None => Ok(Color::Auto),
         Some(word) => match Color::named(word) {
             Some(color) => Ok(color),
-            None => Err(usage(alloc, "--color takes auto, always or never")),
+            None => Err(Failure::Usage(no_color(alloc, word)?)),
         },
     }
 }

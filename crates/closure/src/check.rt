@@ -1,4 +1,5 @@
-//! The check of a closed set: each state that was found is come to once more, and from it each kind leads to what was found.
+//! The check of a closed set: each state that was found is come to once more, and from it each kind leads to what was
+//! found.
 ghost use Rattle.std.specs.Prelude.{◌≡◌, ◌<◌, ℕ, List, [], true, length, slice_index_or, IfOk, OnOk};
 ghost use Rattle.script.specs.declared.event.Event.{Event};
 ghost use Rattle.closure.specs.Closed.{GoesOn, IsAt, IsEverything, IsFound, IsNumber, Leads, lines_of};
@@ -121,9 +122,10 @@ fn all_go_on<W: Walker>(
     Ok(true)
 }
 
-/// Whether what was found is closed under these kinds of events. If it is, it is everything: whatever events of these kinds come, in whatever order
-/// and however many, the state is one of those that were found, or one of the alerts has ended the run. Each state is come to once more by events of
-/// its own, and then each kind comes after them: so nothing rests on how all of it was found.
+/// Whether what was found is closed under these kinds of events. If it is, it is everything: whatever events of these
+/// kinds come, in whatever order and however many, the state is one of those that were found, or one of the alerts has
+/// ended the run. Each state is come to once more by events of its own, and then each kind comes after them: so nothing
+/// rests on how all of it was found.
 ///
 /// # Errors
 ///

@@ -1,5 +1,5 @@
-//! Closed sets: the states that a machine comes to by events of some kinds, in whatever order and however many. A search proposes a set, and a check
-//! shows that nothing leaves it.
+//! Closed sets: the states that a machine comes to by events of some kinds, in whatever order and however many. A
+//! search proposes a set, and a check shows that nothing leaves it.
 #![tactic(auto)]
 
 mod alerts;

@@ -1,5 +1,5 @@
-//! The search for the states of a machine, breadth first: so the events that come to a state, and to an alert, are as few as can be. Nothing rests
-//! on it: what it finds is looked at anew.
+//! The search for the states of a machine, breadth first: so the events that come to a state, and to an alert, are as
+//! few as can be. Nothing rests on it: what it finds is looked at anew.
 ghost use Rattle.std.specs.Prelude.{◌≡◌};
 
 use crate::check::walk;
@@ -32,7 +32,7 @@ pub struct Searched {
     pub is_whole: bool,
 }
 
-/// A search under way: what was found, and the number of each state by its key.
+/// A search in progress: what was found, and the number of each state by its key.
 #[derive(Drop)]
 struct SoFar {
     alloc: Global,
@@ -149,8 +149,8 @@ fn begin<W: Walker>(walker: &mut W, so_far: &mut SoFar, text: &mut Vec<u8>) -> R
     Ok(())
 }
 
-/// Searches for the states to which events of these kinds come, in whatever order and however many, and for the alerts in which they end. What was
-/// found before a limit is met is answered too.
+/// Searches for the states to which events of these kinds come, in whatever order and however many, and for the alerts
+/// in which they end. What was found before a limit is met is answered too.
 ///
 /// # Errors
 ///

@@ -6,7 +6,8 @@ ghost use Rattle.closure.specs.Closed.{EndsAt, KeysTell};
 use crate::fault::Fault;
 use script::Event;
 
-/// What goes over the states of a machine: it begins anew as often as one likes, goes on by one event after another, and says where it is.
+/// What goes over the states of a machine: it begins anew as often as one likes, goes on by one event after another,
+/// and says where it is.
 pub trait Walker {
     /// The machine that it goes over.
     ghost machine_of: { Self → MachineData };
@@ -26,7 +27,8 @@ pub trait Walker {
         ensures same { machine_of self.new ≡ machine_of self.old }
         ensures there { OnOk result (stands self.new []) };
 
-    /// Goes on by an event, and answers whether it ended in an alert; the last line that the event writes is left in `text`.
+    /// Goes on by an event, and answers whether it ended in an alert; the last line that the event writes is left in
+    /// `text`.
     ///
     /// # Errors
     ///

@@ -1,5 +1,5 @@
-//! How a text that somebody else wrote, as a path, a word of a command line or a name in a file, is shown on a terminal: each character that a
-//! terminal obeys or does not show is written as an escape.
+//! How a text that somebody else wrote, as a path, a word of a command line or a name in a file, is shown on a
+//! terminal: each character that a terminal obeys or does not show is written as an escape.
 #![tactic(auto)]
 
 ghost use Rattle.std.specs.Prelude.{◌≡◌, ◌&&◌, IfOk, IfSome, Some, map, nat_le, string_bytes};
@@ -111,8 +111,8 @@ fn write_shown<W: fmt::Write>(text: &str, f: &mut fmt::Formatter<W>) -> fmt::Res
     Ok(())
 }
 
-/// A text as it is shown: a tab as `\t`, a line feed as `\n`, and other characters that a terminal obeys or does not show by their number, as
-/// `\u{202e}`. A text of plain characters is shown as it is.
+/// A text as it is shown: a tab as `\t`, a line feed as `\n`, and other characters that a terminal obeys or does not
+/// show by their number, as `\u{202e}`. A text of plain characters is shown as it is.
 #[derive(Clone, Copy)]
 pub struct Shown<'a>(pub &'a str);
 
@@ -202,5 +202,6 @@ pub fn words_if_hidden(alloc: Global, words: &[&str]) -> Result<Option<Vec<Strin
     }
 }
 
-/// What is said of a command line whose words have such a character, if it is refused otherwise than the words as they are shown.
+/// What is said of a command line whose words have such a character, if it is refused otherwise than the words as they
+/// are shown.
 pub const HIDDEN_WORD: &str = "a word has a character that a terminal obeys or does not show";

@@ -1,2 +1,3 @@
 -- The lemma files of `execadvice`.
 pub mod Reading
+pub mod Trees

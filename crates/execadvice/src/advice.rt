@@ -1,23 +1,28 @@
 //! Why a line is not a command, in one sentence, with a proposal if one is near.
 
-use crate::branches::{branch_meant, compares};
-use crate::calculations::{Wordless, name_of_operator, without_word};
-use crate::foreign::{instead_of, is_type, number_of_constants};
+use crate::assembler::is_operation;
+use crate::branches::{branch_meant, compared_reason, compares};
+use crate::calculations::{Wordless, asks, is_operator, name_of_operator, without_word};
+use crate::escaped::shown_name;
+use crate::events::is_event;
+use crate::foreign::{Instead, instead_of, is_type, number_of_constants, place_of};
+use crate::interrupt_lines::lacked_in_interrupt;
 use crate::made::Made;
 use crate::members::position_named;
-use crate::mending::{Mending, takes_task};
+use crate::mending::{Mending, is_store, takes_task};
 use crate::near::are_digits;
-use crate::plain::plain_line;
+use crate::plain::{plain_line, without_quotes};
 use crate::proposal::fix_of_line;
+use crate::reads::is_number;
 use crate::said::cut;
 use crate::show::{Advice, Fix, Span, field_span, width_of};
 use crate::spacing::spacing_advice;
-use crate::stands::lacked_in_interrupt;
+use crate::topics::topic_of;
 use crate::values::{base_sixteen, has_point, is_constant, is_value, number_meant};
 use crate::variables::is_variable;
 use crate::words::{word_meant, word_near, words_begun};
 use escape::is_hidden;
-use script::{Kind, Word, is_name, is_word_of_interrupt, word_of};
+use script::{Kind, PortWord, Word, is_name, is_word_of_interrupt, word_of};
 use std::alloc::Global;
 use taskscript::{fields_of, is_identifier, items_at, label_in, quoted_in};
 use toml::{Table, Value};
@@ -30,23 +35,229 @@ const LABEL: &str =
 const TARGET: &str =
     "expected a variable: a letter a to z, then letters a to z, digits and _, 1 to 16 characters, with @ before it if it is shared";
 
-/// What is said of a text that is near no word.
-const UNKNOWN: &str = "unknown word; a line is [VARIABLE =] WORD ARGUMENTS, or LABEL:";
+/// Where the words are, and what a line is.
+const LINES: &str =
+    "docs/WORDS.md lists all words; a line is [VARIABLE =] WORD ARGUMENTS, or LABEL:";
 
 /// What is said of `->`.
 const FIELDS: &str =
     "structures have no fields here; words read and set them, as x = MsgWord m and SetMsgWord m 3";
 
-/// What is said of a comparison that is no branch.
-const COMPARED: &str =
-    "a branch asks whether one value is 0; of two values the difference is compared: d = Sub x y and then JumpZ d LABEL";
-
 /// What is said of the braces of C.
 const BRACES: &str =
     "there are no blocks; a label, JumpZ x LABEL and Jump LABEL have the place of if and while";
 
+/// What is said of a call as an argument of another one.
+const CALL_WITHIN: &str = "a call has a line of its own, before the line that takes its answer";
+
+/// What is said of a line that has its quotes twice.
+const QUOTES: &str = "a line of code has one pair of quotes around it, those of the file";
+
+/// What is said of a list, or a structure, as a value.
+const ONE_NUMBER: &str = "a variable holds one number; there are no lists of numbers";
+
+/// What is said of a value that begins with the `*` of C.
+const NO_BASE: &str = "variables have no addresses, and the words of Exec need no base";
+
+/// What is said of `++` or `--` within a line.
+const STEP_WITHIN: &str = "a line does one thing: y = Add y 1 and then x = Set y";
+
+/// What is said of a calculation with more than two values.
+const STEPS: &str =
+    "a line calculates once, from two values, and another line goes on: x = Add y 1 and then x = Sub x z";
+
+/// What is said of a value of C that is none if another is 0.
+const CHOICES: &str =
+    "there is no such operator; JumpZ x LABEL and JumpNZ x LABEL ask for one value each";
+
+/// What is said of `#` before a variable.
+const HASH: &str =
+    "a variable has no # before it, and a comment is written after the closing quote";
+
+/// What is said of a line of an event text.
+const EVENT: &str = "this is a line of an event text, which is the second path";
+
+/// What is said of a store of C through an address.
+const NO_STORE: &str = "variables have no addresses, so nothing is written at one";
+
+/// What is said of the signal of a port.
+const PORT_SIGNAL: &str = "the signal of a port is not asked for; WaitPort p waits for its message";
+
+/// What is said of a line of a trace.
+const TRACE: &str =
+    "this is a line of a trace, which execsim writes; a line of code has no name of a task before it";
+
+/// What is said of the end of a function in an interrupt.
+const INTERRUPT_END: &str = "write nothing: the body of an interrupt ends with its last line";
+
+/// What is said of a text that is to be printed.
+const NO_TEXTS: &str = "words are case-sensitive, and Print takes a value: there are no texts";
+
+/// What is said of a line that has its variable after an arrow.
+const ARROW: &str = "the variable is first, and = after it, as in x = Set 5";
+
+/// What is said of a call of an assembler.
+const BASE_CALL: &str =
+    "a call of Exec is its name alone, with its arguments after it, as Forbid and Wait $1000";
+
+/// What is said of the declarations of C that have no place here.
+const NO_STRINGS: &str = "a variable needs no declaration and holds one number: there are no texts";
+
+const NO_ARRAYS: &str = "a variable needs no declaration and holds one number: there are no arrays";
+
+const NO_FUNCTIONS: &str = "there are no functions; the code of each task is in its [[task]] table";
+
+/// What is said of a calculation as an argument.
+const ONE_VALUE: &str = "an argument is one number or variable; a line before it calculates";
+
+/// What is said of the name of a semaphore.
+const NAMELESS: &str =
+    "a semaphore has no name, but the address that @s = NewSem returns, which all tasks have in @s";
+
+/// What is said of a size of C.
+const SIZES: &str =
+    "sizeof is not known: a word that makes an object takes no size, and others a number of bytes";
+
+/// What is said of a text that is to be printed.
+const SHOWN: &str = "Print shows a number; there are no texts";
+
+/// What is said of a number as the name of a task.
+const FOUND: &str = "FindTask takes the name of a task and answers its number, which this is";
+
+/// What is said of `#` before a number.
+const NUMBER_HASH: &str = "a number has no # before it";
+
 /// What is said of a call in the manner of C.
 const CALLED: &str = "arguments follow the word, with one space before each";
+
+/// Whether a text is written as the name of a function: letters, digits, `_` and dots.
+fn is_identifier_like(text: &str) -> bool {
+    !text.is_empty()
+        && text
+            .as_bytes()
+            .iter()
+            .all(|b| b.is_ascii_alphanumeric() || *b == b'_' || *b == b'.')
+}
+
+/// What has the place of an operator of C for which there is no word, if the parts of a line are a step with one, as
+/// `x *= 2`.
+fn place_of_step(parts: &[&str]) -> Option<&'static str> {
+    match parts {
+        [_, operator, _] => place_of(name_of_operator(operator.trim_end_matches('='))?),
+        _ => None,
+    }
+}
+
+/// Whether the parts of a line begin with two variables and `=`.
+fn has_two_targets(parts: &[&str]) -> bool {
+    match parts {
+        [one, other, equals, ..] => is_variable(one) && is_variable(other) && *equals == "=",
+        _ => false,
+    }
+}
+
+/// What is said of the parts after `=`, if they are a calculation that asks, or one with more than two values.
+fn calculation_reason(after: &[&str]) -> Option<&'static str> {
+    match after {
+        [value, ..] if value.starts_with("[") || value.starts_with("{") => Some(ONE_NUMBER),
+        [value, ..] if value.starts_with("*") => Some(NO_BASE),
+        [value] if value.starts_with("!") => Some(CHOICES),
+        [value] if value.contains("++") || value.contains("--") => Some(STEP_WITHIN),
+        [_, operator, ..] if asks(*operator) => Some(CHOICES),
+        [_, operator, _, _, ..] if is_operator(*operator) => Some(STEPS),
+        _ => None,
+    }
+}
+
+/// Whether a part is the field of a structure, as `msg.value`, and no name of another system.
+fn is_field(part: &str) -> bool {
+    match part.split_once(".") {
+        None => false,
+        Some((before, after)) => {
+            is_identifier(before.as_bytes())
+                && is_identifier(after.as_bytes())
+                && instead_of(part).is_none()
+        }
+    }
+}
+
+/// Whether a line sets the field of a structure, or sets a variable to one.
+fn has_field(line: &str) -> bool {
+    match line.split_once(" = ") {
+        None => false,
+        Some((target, value)) => is_field(target) || is_field(value),
+    }
+}
+
+/// Whether a plain line begins with a name of another system or language that is not `if`.
+fn begins_foreign(plain: &str) -> bool {
+    let first = plain.split(' ').next().unwrap_or("");
+    instead_of(first).is_some() && !first.eq_ignore_ascii_case("if")
+}
+
+/// Whether a line of code is one of a trace: it has an answer after an arrow, or it waits, or it is of a switch or of an
+/// interrupt that is served.
+fn is_copied_from_trace(line: &str) -> bool {
+    let is_other = line.starts_with("switch ") || line.starts_with("serve ");
+    line.contains(" -> $") || line.ends_with(" waits") || is_other && !line.contains('(')
+}
+
+/// Whether a line of an assembler calls a function of Exec, or fetches the base of Exec.
+fn is_base_call(line: &str) -> bool {
+    let (first, rest) = line.split_once(" ").unwrap_or((line, ""));
+    let is_jump = ["call", "jsr", "bsr"]
+        .iter()
+        .any(|name| first.eq_ignore_ascii_case(*name));
+    line.contains("_LVO")
+        || line.ends_with("(a6)")
+        || line.contains("4.w")
+        || is_jump && word_of(rest).is_some()
+}
+
+/// What is said of a line with an arrow to its variable, and of a call of an assembler through the base of a library.
+fn arrow_reason(line: &str) -> Option<&'static str> {
+    if line.contains(" -> ") {
+        Some(ARROW)
+    } else if is_base_call(line) {
+        Some(BASE_CALL)
+    } else if line.contains(" : ") && !line.contains('?') {
+        Some("each command has a line of its own")
+    } else {
+        None
+    }
+}
+
+/// What is said of a declaration without a line that is meant, or with one.
+fn declared_reason(line: &str) -> &'static str {
+    if line.contains("= \"") {
+        NO_STRINGS
+    } else if line.contains('[') || line.starts_with("DIM ") {
+        NO_ARRAYS
+    } else if line.contains('(') && !line.contains('=') {
+        NO_FUNCTIONS
+    } else {
+        "a variable needs no declaration"
+    }
+}
+
+/// What is said of a line of a trace, and of one of C that has to do with addresses.
+fn memory_reason(line: &str) -> Option<&'static str> {
+    if is_copied_from_trace(line) {
+        Some(TRACE)
+    } else if line.contains("mp_SigBit") {
+        Some(PORT_SIGNAL)
+    } else if is_store(line) {
+        Some(NO_STORE)
+    } else {
+        arrow_reason(line)
+    }
+}
+
+/// Whether a part begins as a number or as a text does.
+fn begins_as_value(part: &str) -> bool {
+    let first = part.as_bytes().first().copied().unwrap_or(b' ');
+    first.is_ascii_digit() || first == b'$' || first == b'-' || first == b'"' || first == b'\''
+}
 
 /// Whether a part is a word, with a target and `=` that no spaces separate.
 fn is_assignment(field: &str) -> bool {
@@ -66,6 +277,48 @@ fn label_reason(alloc: Global, name: &str, wanted: &'static str) -> Made<&'stati
     })
 }
 
+/// What is said of the name of another language with which the parts of a line begin that ends with a colon.
+fn instead_before_colon(parts: &[&str]) -> Option<Instead> {
+    match parts {
+        [first, _, ..] if parts.last().copied().unwrap_or("").ends_with(":") => instead_of(*first),
+        _ => None,
+    }
+}
+
+/// Why a number or a text is no word, of a line with that many parts.
+fn value_in_place(alloc: Global, text: &str, count: usize) -> Made<Option<&'static str>> {
+    match word_near(alloc, text)? {
+        Some(near) if text.eq_ignore_ascii_case(near) => return Ok(None),
+        _ => {}
+    }
+    if is_value(text) && count > 3 {
+        return Ok(Some("a word is first after the =, as in x = Add y 1"));
+    }
+    if is_number(text) {
+        return Ok(Some("a word is missing, as in x = Set 1"));
+    }
+    if begins_as_value(text) {
+        return Ok(Some(value_reason(alloc, text)?));
+    }
+    Ok(None)
+}
+
+/// What is said of a text that is no word, of a line with that many parts, if it begins with a colon or is a shared variable alone.
+fn lone_reason(text: &str, count: usize) -> Option<&'static str> {
+    if text.starts_with(":") {
+        Some("a label has its colon after its name")
+    } else if count == 1 && text.starts_with("@") && is_variable(text) {
+        Some("a variable alone is not a command, as @x = Set 1 is")
+    } else {
+        None
+    }
+}
+
+/// Whether a value may be where a word belongs, in a line whose part of that number is no word: after `=`, and no name of another system.
+fn is_value_place(text: &str, at: usize) -> bool {
+    at == 2 && instead_of(text).is_none()
+}
+
 /// What is wrong with a text that is no word, if the characters at its end, or the part after it, show that.
 fn joint_reason(text: &str, fields: &[&str], at: usize) -> Option<&'static str> {
     let next = fields.get(1).copied().unwrap_or("");
@@ -79,6 +332,10 @@ fn joint_reason(text: &str, fields: &[&str], at: usize) -> Option<&'static str> 
         Some("put one space before and one after the =")
     } else if at == 0 && is_variable(text) && next == ":=" {
         Some("put = in place of :=")
+    } else if at == 0 && is_variable(text) && next == "<-" {
+        Some("put = in place of <-")
+    } else if at == 0 && text.eq_ignore_ascii_case("end") && next.eq_ignore_ascii_case("if") {
+        Some("a choice has no end; a label is where a jump goes on")
     } else if at == 0 && is_variable(text) && word_of(next).is_some() {
         Some("a = is missing after the variable")
     } else if at == 2 && fields.get(3).copied().unwrap_or("") == "=" {
@@ -90,26 +347,62 @@ fn joint_reason(text: &str, fields: &[&str], at: usize) -> Option<&'static str> 
     } else if at == 0 && are_digits(text) && !next.is_empty() {
         Some("a line has no number")
     } else {
-        None
+        lone_reason(text, fields.len())
     }
+}
+
+/// That a text is no word, with the text as names are shown, and what there is to say of it, if there is something.
+fn unknown_text(alloc: Global, text: &str, more: &str) -> Made<String> {
+    let name = shown_name(alloc, text)?;
+    if more.is_empty() {
+        return format!(in alloc; "unknown word {name}");
+    }
+    format!(in alloc; "unknown word {name}; {more}")
+}
+
+/// What is said of a text that is near no word: which words begin so, which are for what it is about, or what a line is.
+fn far_reason(alloc: Global, text: &str) -> Made<String> {
+    let begun = words_begun(alloc, text)?;
+    if begun.len() < 2 || begun.len() > 7 {
+        return unknown_text(alloc, text, topic_of(alloc, text)?.unwrap_or(LINES));
+    }
+    let list = begun.join(alloc, ", ")?;
+    let more = format!(in alloc; "those that begin so are {list}")?;
+    unknown_text(alloc, text, more.as_str())
 }
 
 /// Why a text is no word. `meant` is the line that is meant, if that is known.
 fn unknown_word_reason(alloc: Global, text: &str, meant: Option<&str>) -> Made<String> {
     let Some(near) = word_near(alloc, text)? else {
-        let begun = words_begun(alloc, text)?;
-        if begun.len() > 1 && begun.len() < 6 {
-            let list = begun.join(alloc, ", ")?;
-            return format!(in alloc; "unknown word; those that begin so are {list}");
-        }
-        return String::from_str(alloc, UNKNOWN);
+        return far_reason(alloc, text);
     };
     match meant {
-        None => format!(in alloc; "unknown word; the nearest one is {near}"),
-        Some(_) if text.eq_ignore_ascii_case(near) => {
-            String::from_str(alloc, "unknown word; words are case-sensitive")
+        None => {
+            let more = if text.eq_ignore_ascii_case(near) {
+                format!(in alloc; "words are case-sensitive, and this one is {near}")?
+            } else {
+                format!(in alloc; "the nearest one is {near}")?
+            };
+            unknown_text(alloc, text, more.as_str())
         }
-        Some(_) => String::from_str(alloc, "unknown word"),
+        Some(_) if text.eq_ignore_ascii_case(near) => {
+            unknown_text(alloc, text, "words are case-sensitive")
+        }
+        Some(_) => unknown_text(alloc, text, ""),
+    }
+}
+
+/// Why a name of Exec, of another system or of another language is no word.
+fn instead_reason(alloc: Global, name: &str, instead: Instead) -> Made<String> {
+    match instead {
+        Instead::Write(text) => {
+            let more = format!(in alloc; "write {text}")?;
+            unknown_text(alloc, name, more.as_str())
+        }
+        Instead::Nothing(reason) => {
+            let name = shown_name(alloc, name)?;
+            format!(in alloc; "{name} is not one of the calls here: {reason}")
+        }
     }
 }
 
@@ -146,6 +439,8 @@ fn constant_reason(field: &str) -> &'static str {
 fn foreign_number_reason(field: &str) -> &'static str {
     if number_of_constants(field).is_some() {
         "constants are written as numbers"
+    } else if field == "-0" {
+        "0 has no minus before it"
     } else if are_digits(field.trim_start_matches('-').trim_start_matches('+')) {
         "a number has no zero before its digits"
     } else {
@@ -153,28 +448,43 @@ fn foreign_number_reason(field: &str) -> &'static str {
     }
 }
 
-/// Why a part is no number and no variable, if its characters show that.
-fn shape_reason(field: &str) -> Option<&'static str> {
-    if field.starts_with("\"") || field.starts_with("'") {
-        Some("expected a number or a variable here, not a name")
-    } else if field.starts_with("&") || field.starts_with("*") {
-        Some("a variable has no & and no * before it")
-    } else if has_point(field) {
-        Some("a number is whole: it has no point")
+/// What is said of a part with a comma, with brackets, or with an operator of C in it.
+fn sign_within(field: &str) -> Option<&'static str> {
+    if field.contains(',') {
+        Some("there is no comma between arguments, and none in a number")
+    } else if field.starts_with("[") || field.starts_with("{") {
+        Some("an argument has no brackets around it")
     } else if field.contains('+') || field.contains('*') || field.contains('/') {
-        Some("an argument is one number or variable; a line before it calculates")
+        Some(ONE_VALUE)
     } else {
         None
     }
 }
 
+/// Why a part is no number and no variable, if its characters show that.
+fn shape_reason(field: &str) -> Option<&'static str> {
+    if is_operator(field) {
+        Some(ONE_VALUE)
+    } else if field.contains('=') {
+        Some("there is no = between arguments")
+    } else if field.starts_with("\"") || field.starts_with("'") {
+        Some("expected a number or a variable here, not a name")
+    } else if field.starts_with("&") || field.starts_with("*") {
+        Some("a variable has no & and no * before it")
+    } else if has_point(field) {
+        Some("a number is whole: it has no point")
+    } else {
+        sign_within(field)
+    }
+}
+
 /// Why a part is no number and no variable.
 fn value_reason(alloc: Global, field: &str) -> Made<&'static str> {
-    if let Some(digits) = base_sixteen(field) {
-        return Ok(base_sixteen_reason(digits));
-    }
     if let Some(reason) = shape_reason(field) {
         return Ok(reason);
+    }
+    if let Some(digits) = base_sixteen(field) {
+        return Ok(base_sixteen_reason(digits));
     }
     if is_constant(field) && !field.contains(',') && number_of_constants(field).is_none() {
         return Ok(constant_reason(field));
@@ -182,6 +492,9 @@ fn value_reason(alloc: Global, field: &str) -> Made<&'static str> {
     let digits = field.trim_start_matches('-');
     if field == "-0" || number_meant(alloc, field)?.is_some() || field.starts_with("\u{2212}") {
         return Ok(foreign_number_reason(field));
+    }
+    if field.contains("<<") {
+        return Ok("nothing is shifted: 1 << 12 is written $1000, and x = Add y y is y << 1");
     }
     if !digits.is_empty() && are_digits(digits) {
         return Ok("a number is from -2147483648 to 4294967295");
@@ -222,6 +535,10 @@ fn quoted_reason(field: &str, wanted: &'static str) -> &'static str {
         "a name between double quotes has no space, and ends with a double quote"
     }
 }
+
+/// What is said of a name that no task has, where a task is named.
+const NO_TASK: &str =
+    "a task is named by its number here, from 1 in the order of the file, and none has this name";
 
 /// What has to be where a name is.
 const NAME: &str = "expected a name between double quotes here";
@@ -299,6 +616,60 @@ fn count_reason(alloc: Global, word: Word, given: usize, has_target: bool) -> Ma
     format!(in alloc; "{takes}, but {given} {verb} given{end}")
 }
 
+/// Whether a part joins two values in other languages.
+fn joins(part: &str) -> bool {
+    is_operator(part) || part == "or" || part == "and"
+}
+
+/// What is said of a part after the arguments of a word, if it shows what is meant.
+fn extra_reason(part: &str) -> Option<&'static str> {
+    if part == "=" {
+        Some("there is no = between arguments")
+    } else if word_of(part).is_some() {
+        Some("each command has a line of its own")
+    } else if part == "if" {
+        Some("a jump that asks is JumpZ x LABEL or JumpNZ x LABEL")
+    } else if joins(part) {
+        Some(ONE_VALUE)
+    } else {
+        None
+    }
+}
+
+/// What is said of a number for FindTask, and of a text for Print.
+fn said_of_argument(word: Word, field: &str) -> Option<&'static str> {
+    if word.text() == "FindTask" && is_number(field) {
+        Some(FOUND)
+    } else if word.text() == "Print" && (field.starts_with("\"") || field.starts_with("'")) {
+        Some(SHOWN)
+    } else {
+        None
+    }
+}
+
+/// Whether a word takes the address of a semaphore.
+fn takes_semaphore(word: Word) -> bool {
+    match word {
+        Word::Semaphores(_) => true,
+        _ => false,
+    }
+}
+
+/// Whether a word takes the address of a port first, and no name after it.
+fn takes_port(word: Word) -> bool {
+    match word {
+        Word::Ports(
+            PortWord::PutMsg
+            | PortWord::GetMsg
+            | PortWord::WaitPort
+            | PortWord::NewMsg
+            | PortWord::RemPort
+            | PortWord::DeleteMsgPort,
+        ) => true,
+        _ => false,
+    }
+}
+
 /// The number of a part of a line that is not right, and why.
 #[derive(Drop)]
 struct Mistake {
@@ -332,6 +703,15 @@ impl Line<'_, '_, '_> {
         }
     }
 
+    /// Whether the line that is meant sets a variable to the one part that this one, of these parts, has after its `=`.
+    fn gains_set(&self, parts: &[&str]) -> bool {
+        let (target, after) = cut(parts);
+        match self.meant {
+            None => false,
+            Some(meant) => target.is_some() && after.len() == 1 && meant.contains(" = Set "),
+        }
+    }
+
     /// Whether a field is an argument of that kind.
     fn is_right(&self, kind: Kind, field: &str) -> bool {
         match kind {
@@ -345,6 +725,20 @@ impl Line<'_, '_, '_> {
                     position_named(items_at(self.table, "softint"), name.as_str()).is_some()
                 }
             },
+        }
+    }
+
+    /// Why a name between double quotes is no task, with the number of the task of that name.
+    fn task_reason(&self, field: &str) -> Made<String> {
+        let name = field.trim_matches('"');
+        match position_named(items_at(self.table, "task"), name) {
+            None => String::from_str(self.alloc, NO_TASK),
+            Some(item) => {
+                let number = item.saturating_add(1);
+                format!(in self.alloc;
+                    "a task is named by its number here, and task \"{name}\" is number {number}"
+                )
+            }
         }
     }
 
@@ -362,6 +756,29 @@ impl Line<'_, '_, '_> {
         })
     }
 
+    /// Why a field is not the argument of that number, from 0, and of that kind, of a word.
+    fn argument_reason(&self, word: Word, number: usize, kind: Kind, field: &str) -> Made<String> {
+        let is_name = number == 0 && quoted_in(field).is_some();
+        if is_name && takes_task(word) {
+            return self.task_reason(field);
+        }
+        if is_name && takes_semaphore(word) {
+            return String::from_str(self.alloc, NAMELESS);
+        }
+        if is_name && takes_port(word) {
+            return format!(in self.alloc;
+                "a port is named by its address here, which p = FindPort {field} finds"
+            );
+        }
+        if word_of(field).is_some() {
+            return String::from_str(self.alloc, CALL_WITHIN);
+        }
+        match said_of_argument(word, field) {
+            Some(reason) => String::from_str(self.alloc, reason),
+            None => String::from_str(self.alloc, self.kind_reason(kind, field)?),
+        }
+    }
+
     /// The first argument of a word that is not right: it is of another kind, or there is none, or it is one too many. `first` is the number of
     /// the part that is the first argument.
     fn argument_mistake(&self, word: Word, after: &[&str], first: usize) -> Made<Option<Mistake>> {
@@ -370,15 +787,16 @@ impl Line<'_, '_, '_> {
             if let Some(field) = after.get(i).copied() {
                 if !self.is_right(*kind, field) {
                     let part = first.saturating_add(i);
-                    if i == 0 && takes_task(word) && quoted_in(field).is_some() {
-                        return self.at(part, "a task is named by its number here");
-                    }
-                    return self.at(part, self.kind_reason(*kind, field)?);
+                    let sentence = self.argument_reason(word, i, *kind, field)?;
+                    return Ok(Some(Mistake { part, sentence }));
                 }
             }
         }
         if after.len() == count {
             return Ok(None);
+        }
+        if let Some(reason) = extra_reason(after.get(count).copied().unwrap_or("")) {
+            return self.at(first.saturating_add(count), reason);
         }
         let part = first.saturating_add(count.min(after.len()));
         let sentence = count_reason(self.alloc, word, after.len(), self.gains_target())?;
@@ -400,6 +818,15 @@ impl Line<'_, '_, '_> {
         Ok(None)
     }
 
+    /// Why a text is no word that is no name of another system.
+    fn unknown_reason(&self, text: &str) -> Made<String> {
+        let has_quote = self.text.contains('"') || self.text.contains('\'');
+        if has_quote && self.meant.is_none() && text.eq_ignore_ascii_case("print") {
+            return unknown_text(self.alloc, text, NO_TEXTS);
+        }
+        unknown_word_reason(self.alloc, text, self.meant)
+    }
+
     /// Why the part of that number is no word.
     fn word_reason(&self, fields: &[&str], at: usize) -> Made<String> {
         let alloc = self.alloc;
@@ -408,30 +835,55 @@ impl Line<'_, '_, '_> {
             let reason = label_reason(alloc, text.trim_end_matches(':'), LABEL)?;
             return String::from_str(alloc, reason);
         }
+        if let Some(instead) = instead_before_colon(fields) {
+            return instead_reason(alloc, text, instead);
+        }
         if let Some(reason) = joint_reason(text, fields, at) {
             return String::from_str(alloc, reason);
         }
-        if self.meant.is_some() && without_word(alloc, self.text)? != Wordless::Never {
+        let is_wordless = self.meant.is_some()
+            && without_word(alloc, self.text)? != Wordless::Never;
+        if is_wordless || self.gains_set(fields) {
             return String::from_str(alloc, "a word is missing");
         }
-        if let Some((beginning, rest)) = instead_of(text) {
-            return format!(in alloc; "{beginning}{rest}");
+        if at == 0 && is_event(self.text) {
+            return String::from_str(alloc, EVENT);
         }
-        match self.meant {
-            Some(meant) if fields.len() == 1 && meant.ends_with(":") => {
-                String::from_str(alloc, "unknown word; a label ends with a colon")
+        if is_value_place(text, at) {
+            if let Some(reason) = value_in_place(alloc, text, fields.len())? {
+                return String::from_str(alloc, reason);
             }
-            Some(meant) if fields.len() == 1 && meant.starts_with("Jump ") => {
-                String::from_str(alloc, "this is the name of a label, which Jump goes on at")
+        }
+        if fields.len() == 1 {
+            if let Some(reason) = self.label_line_reason(text)? {
+                return Ok(reason);
+            }
+        }
+        match instead_of(text) {
+            Some(instead) => instead_reason(alloc, text, instead),
+            None => self.unknown_reason(text),
+        }
+    }
+
+    /// Why a line that is one part is no word, if it is the name of a label, or may be one.
+    fn label_line_reason(&self, text: &str) -> Made<Option<String>> {
+        let alloc = self.alloc;
+        let reason = match self.meant {
+            Some(meant) if meant.ends_with(":") => {
+                unknown_text(alloc, text, "a label ends with a colon")?
+            }
+            Some(meant) if meant.starts_with("Jump ") && instead_of(text).is_none() => {
+                String::from_str(alloc, "this is the name of a label, which Jump goes on at")?
             }
             None
-                if fields.len() == 1
-                    && word_near(alloc, text)?.is_none()
-                    && is_identifier(text.as_bytes()) => {
-                String::from_str(alloc, "unknown word; a label ends with a colon")
+                if instead_of(text).is_none()
+                    && is_identifier(text.as_bytes())
+                    && word_near(alloc, text)?.is_none() => {
+                unknown_text(alloc, text, "a label ends with a colon")?
             }
-            meant => unknown_word_reason(alloc, text, meant),
-        }
+            _ => return Ok(None),
+        };
+        Ok(Some(reason))
     }
 
     /// The first part that is not right, and why: a word that is wanted or is not known, a target, or an argument.
@@ -454,12 +906,25 @@ impl Line<'_, '_, '_> {
         self.argument_mistake(word, arguments, at.saturating_add(1))
     }
 
+    /// Whether the line is written in the manner of C: it has a parenthesis, or a semicolon at its end.
+    fn is_foreign_form(&self) -> bool {
+        self.text.contains('(') || self.text.ends_with(";")
+    }
+
+    /// Whether the line has a name with a parenthesis after it, as a call of C.
+    fn is_called(&self, name: &str) -> bool {
+        match self.text.split_once(name) {
+            None => false,
+            Some((_, rest)) => is_identifier_like(name) && rest.trim_start().starts_with("("),
+        }
+    }
+
     /// Why a name of another system is no word, if the line is written in the manner of C or of an assembler.
     fn foreign_reason(&self, name: &str) -> Made<Option<String>> {
-        let has_form = self.text.contains('(') || self.text.ends_with(";");
+        let has_sign = self.text.contains('#') || self.text.contains(',');
         match instead_of(name) {
-            Some((beginning, rest)) if has_form || self.text.contains('#') => {
-                Ok(Some(format!(in self.alloc; "{beginning}{rest}")?))
+            Some(instead) if self.is_foreign_form() || has_sign => {
+                Ok(Some(instead_reason(self.alloc, name, instead)?))
             }
             _ => Ok(None),
         }
@@ -468,44 +933,72 @@ impl Line<'_, '_, '_> {
     /// What has the place of an operator of C for which there is no word, if the parts after the `=` are a calculation
     /// with one.
     fn operator_reason(&self, after: &[&str]) -> Made<Option<String>> {
+        if let Some(reason) = calculation_reason(after) {
+            return Ok(Some(String::from_str(self.alloc, reason)?));
+        }
         let name = match after {
             [_, operator, _] => name_of_operator(*operator),
             [value] if value.contains("<<") => name_of_operator("<<"),
             _ => None,
         };
-        match instead_of(name.unwrap_or("")) {
+        match place_of(name.unwrap_or("")) {
             None => Ok(None),
-            Some((_, rest)) => Ok(Some(format!(in self.alloc;
-                "there is no such operator; write {rest}"
+            Some(text) => Ok(Some(format!(in self.alloc;
+                "there is no such operator; write {text}"
             )?)),
         }
     }
 
     /// What is wrong with a line that has a sign of C, or the name of a type.
     fn sign_reason(&self, plain: &str) -> Made<Option<&'static str>> {
-        if self.text.contains("->") {
+        if let Some(reason) = memory_reason(self.text) {
+            return Ok(Some(reason));
+        }
+        if self.text.contains("->") || has_field(self.text.trim_end_matches(';')) {
             return Ok(Some(FIELDS));
         }
         if self.text.ends_with("{") || self.text.starts_with("}") {
             return Ok(Some(BRACES));
         }
+        if self.text.starts_with("#") && self.meant.is_some() {
+            return Ok(Some(HASH));
+        }
         if branch_meant(self.alloc, plain)?.is_some() && self.meant.is_some() {
             return Ok(Some("a branch is JumpZ or JumpNZ with a value and a label"));
         }
-        if self.meant.is_none() && compares(self.alloc, plain)? {
-            return Ok(Some(COMPARED));
+        if without_quotes(self.text).len() < self.text.len() && self.meant.is_some() {
+            return Ok(Some(QUOTES));
+        }
+        if self.meant.is_none() && compares(self.alloc, plain)? && !begins_foreign(plain) {
+            return Ok(Some(compared_reason(plain)));
         }
         let first = self.text.split(' ').next().unwrap_or("");
         Ok(if is_type(first) && self.text.contains(' ') {
-            Some("a variable needs no declaration")
+            Some(declared_reason(self.text))
         } else {
             None
         })
     }
 
+    /// What is said of a call in the manner of C that cannot be mended, if all of the line shows it.
+    fn whole_reason(&self) -> Option<&'static str> {
+        if self.meant.is_some() {
+            None
+        } else if self.text.contains("sizeof") {
+            Some(SIZES)
+        } else if self.text.contains("; ") {
+            Some("each command has a line of its own")
+        } else {
+            None
+        }
+    }
+
     /// What is wrong with a call in the manner of C, whose plain form has these parts. Of one that cannot be mended as
     /// a whole its first mistake is said too.
     fn call_reason(&self, parts: &[&str]) -> Made<String> {
+        if let Some(reason) = self.whole_reason() {
+            return format!(in self.alloc; "{CALLED}; {reason}");
+        }
         if self.meant.is_none() {
             if let Some(mistake) = self.mistake(parts)? {
                 let sentence = mistake.sentence.as_str();
@@ -520,6 +1013,9 @@ impl Line<'_, '_, '_> {
     fn plain_reason(&self, plain: &str, parts: &[&str]) -> Made<Option<String>> {
         let (_, after) = cut(parts);
         let first = after.first().copied().unwrap_or("");
+        if self.gains_set(parts) && self.is_foreign_form() {
+            return Ok(Some(String::from_str(self.alloc, "a word is missing")?));
+        }
         let foreign = self.foreign_reason(first)?;
         if foreign.is_some() {
             return Ok(foreign);
@@ -529,6 +1025,19 @@ impl Line<'_, '_, '_> {
         }
         if self.text.contains('(') && (self.meant.is_some() || word_of(first).is_some()) {
             return Ok(Some(self.call_reason(parts)?));
+        }
+        if self.is_called(first) || self.meant.is_some() && is_operation(self.alloc, first)? {
+            return Ok(Some(self.unknown_reason(first)?));
+        }
+        if self.meant.is_some() && plain.contains('#') {
+            return Ok(Some(String::from_str(self.alloc, NUMBER_HASH)?));
+        }
+        if let Some(text) = place_of_step(parts) {
+            return Ok(Some(format!(in self.alloc; "there is no such operator; write {text}")?));
+        }
+        if has_two_targets(parts) {
+            let reason = "a line has one variable before its word";
+            return Ok(Some(String::from_str(self.alloc, reason)?));
         }
         if after.len() < parts.len() {
             return self.operator_reason(after);
@@ -575,6 +1084,9 @@ impl Line<'_, '_, '_> {
         match self.word()? {
             Some(word) if is_word_of_interrupt(word) => Ok(None),
             Some(word) => Ok(Some(lacked_in_interrupt(self.alloc, word.text())?)),
+            None if reason.contains("the end of the code ends the task") => {
+                Ok(Some(String::from_str(self.alloc, INTERRUPT_END)?))
+            }
             None
                 if ["Jump", "RemTask", "Wait", "IO", "Mem", "Sem"]
                     .iter()

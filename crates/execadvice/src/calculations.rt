@@ -1,5 +1,6 @@
 //! Lines that set a variable without a word, as C has them: `x = 5`, `x++`, `x = y + 1`, `x += 1`, `x = -y`.
 
+use crate::foreign::{instead_of, number_of_constants, undotted};
 use crate::made::Made;
 use crate::values::value_meant;
 use crate::variables::is_variable;
@@ -24,13 +25,23 @@ fn word_for(operator: &str) -> Option<&'static str> {
 /// The name of another system for an operator of C that no word has the place of.
 pub(crate) fn name_of_operator(operator: &str) -> Option<&'static str> {
     match operator {
-        "*" => Some("Mul"),
+        "*" | "**" => Some("Mul"),
         "/" => Some("Div"),
         "%" => Some("Mod"),
         "<<" => Some("Shl"),
         "^" => Some("Xor"),
         _ => None,
     }
+}
+
+/// Whether a part is an operator of C that asks whether values are 0.
+pub(crate) fn asks(part: &str) -> bool {
+    part == "&&" || part == "||" || part == "?"
+}
+
+/// Whether a part is an operator of C that calculates.
+pub(crate) fn is_operator(part: &str) -> bool {
+    word_for(part).is_some() || name_of_operator(part).is_some()
 }
 
 /// The word for the operator of C with which a text ends.
@@ -49,11 +60,11 @@ fn without_operators(before: &str) -> &str {
     text.trim_end_matches('&').trim_end_matches('|').trim()
 }
 
-/// A target without the `:` of `:=`, the word `Set` and the `*` of C.
+/// A target without the `:` of `:=`, the word `Set`, the `*` of C and the `#` of an assembler.
 fn plain_target(before: &str) -> &str {
     let target = before.trim_end_matches(':').trim();
     let target = target.strip_prefix("Set ").unwrap_or(target);
-    target.trim_start_matches('*')
+    target.trim_start_matches('*').trim_start_matches('#')
 }
 
 /// The target of an assignment of C, and the word for its operator, as in `x += 1`.
@@ -101,13 +112,22 @@ fn is_name_of_call(part: &str) -> bool {
     is_capital && part.as_bytes().iter().any(|b| b.is_ascii_lowercase())
 }
 
+/// Whether a part is a word or the name of a call, here or elsewhere, and no constant.
+fn is_call(alloc: Global, value: &str) -> Made<bool> {
+    if number_of_constants(value).is_some() {
+        return Ok(false);
+    }
+    let is_known = value.len() > 1 && instead_of(value).is_some();
+    Ok(is_known || is_name_of_call(value) || word_meant(alloc, value)?.is_some())
+}
+
 /// A line with a word for one value of C.
 fn calculated_value(alloc: Global, value: &str) -> Made<Option<String>> {
     let found = signed(alloc, value)?;
     if found.is_some() {
         return Ok(found);
     }
-    if word_meant(alloc, value)?.is_some() || is_name_of_call(value) {
+    if is_call(alloc, value)? {
         return Ok(None);
     }
     if value_meant(alloc, value)?.is_some() {
@@ -184,8 +204,9 @@ pub(crate) fn without_word(alloc: Global, line: &str) -> Made<Wordless> {
 /// What is meant by a name of another system with one argument that two of a word have the place of: a line with that
 /// word.
 pub(crate) fn idiom(alloc: Global, name: &str, argument: &str) -> Made<Option<String>> {
-    let name = name.to_ascii_lowercase(alloc)?;
+    let name = undotted(name).to_ascii_lowercase(alloc)?;
     let line = match name.as_str() {
+        "clr" => String::from_str(alloc, "Set 0"),
         "inc" => format!(in alloc; "Add {argument} 1"),
         "dec" => format!(in alloc; "Sub {argument} 1"),
         "not" => format!(in alloc; "Sub -1 {argument}"),

@@ -3,6 +3,7 @@
 use crate::diagnostic::{Diagnostic, of_line};
 use crate::escaped::hidden_reason;
 use crate::events::{is_event, is_of_trace};
+use crate::foreign::is_type;
 use crate::held::{table_with, value_held};
 use crate::made::Made;
 use crate::reads::says_something;
@@ -24,6 +25,18 @@ const EVENT: &str =
 /// What is said of a line of a trace.
 const TRACE: &str =
     "this is a line of a trace, which execsim writes; the first path is the machine file";
+
+/// What is said of a line of YAML.
+const YAML: &str =
+    "this is YAML; a machine file is TOML, with KEY = VALUE, and [[task]] above each task";
+
+/// What is said of a line of C.
+const C: &str =
+    "this is C, which execc runs; a machine file is TOML, with KEY = VALUE, and [[task]] above each task";
+
+/// What is said of the head of a table that does not end.
+const HEAD: &str =
+    "the head of a table is its kind between two brackets on each side, as [[task]], with its name below: name = \"a\"";
 
 /// What is said of a line of code.
 const CODE: &str =
@@ -62,6 +75,11 @@ fn likely_reason(before: char, c: char, wants_value: bool) -> Option<&'static st
             "there is no comma after a value"
         });
     }
+    if c == ';' && before == '"' {
+        return Some(
+            "there is a comma between the items of an array, and no semicolon after a value",
+        );
+    }
     let likely = character_likely(c);
     if likely.is_some() {
         return likely;
@@ -88,6 +106,9 @@ fn character_reason(alloc: Global, message: &str, before: char, c: char) -> Made
         }
         None if message.starts_with("key with no value") => {
             format!(in alloc; "{message}; {PAIRS}")
+        }
+        None if message == "duplicate key" => {
+            format!(in alloc; "{message}; a table has each key once, so leave one of the two out")
         }
         None => String::from_str(alloc, message),
     }
@@ -150,11 +171,51 @@ fn other_text_reason(alloc: Global, line: &str) -> Made<Option<&'static str>> {
     if says_something(alloc, line.trim())? && line.contains(' ') {
         return Ok(Some(CODE));
     }
-    Ok(if line.starts_with("---") || line.trim_start().starts_with("- ") {
-        Some("this is YAML; a machine file is TOML, with KEY = VALUE, and [[task]] above each task")
+    Ok(other_language_reason(line))
+}
+
+/// Whether a line begins as the head of a table does, or with parentheses in its place, and has no comma as an array
+/// has.
+fn begins_as_head(line: &str) -> bool {
+    let inside = line.trim_start_matches('[').trim_start_matches('(');
+    let first = inside.as_bytes().first().copied().unwrap_or(b' ');
+    let is_whole = !line.contains(',') && !line.contains('\r');
+    inside.len() < line.len() && first.is_ascii_alphabetic() && is_whole
+}
+
+/// Whether a line sets a kind of tables to what is no array.
+fn sets_kind(line: &str) -> bool {
+    match line.split_once("=") {
+        None => false,
+        Some((name, value)) => {
+            let is_kind = ["task", "server", "softint", "library", "region"]
+                .iter()
+                .any(|kind| name.trim() == *kind);
+            is_kind && !value.trim_start().starts_with("[")
+        }
+    }
+}
+
+/// Whether a line begins a table, or sets a kind of tables, in another way than a head does. `text` is it without the spaces around it.
+fn is_wrong_head(line: &str, text: &str) -> bool {
+    begins_as_head(line) && (!text.ends_with("]") || text.contains(' ')) || sets_kind(text)
+}
+
+/// What is said of a line of another language.
+fn other_language_reason(line: &str) -> Option<&'static str> {
+    let text = line.trim();
+    let first = text.split(' ').next().unwrap_or("");
+    if text.starts_with("---") || text.starts_with("- ") {
+        Some(YAML)
+    } else if text.ends_with(":") && !text.contains('"') && !text.contains('=') {
+        Some(YAML)
+    } else if text.contains('(') && is_type(first) {
+        Some(C)
+    } else if is_wrong_head(line, text) {
+        Some(HEAD)
     } else {
         None
-    })
+    }
 }
 
 /// What is said where a line ends too soon.
@@ -214,8 +275,13 @@ fn fix_of_value(alloc: Global, line: &str, text: &str) -> Made<Option<Fix>> {
         let span = Span { start, width };
         return Ok(Some(Fix { span, text }));
     }
-    let (before, _) = line.split_once(value).unwrap_or((line, ""));
-    let (start, width) = (width_of(before), width_of(value));
+    // The value may also be a part of the key.
+    let (head, rest) = line.split_once("=").unwrap_or((line, ""));
+    let (gap, _) = rest.split_once(value).unwrap_or((rest, ""));
+    let start = width_of(head)
+        .saturating_add(1)
+        .saturating_add(width_of(gap));
+    let width = width_of(value);
     let span = Span { start, width };
     let text = String::from_str(alloc, text)?;
     Ok(Some(Fix { span, text }))
@@ -250,15 +316,29 @@ pub(crate) fn reason_of_bytes(bytes: &[u8]) -> &'static str {
     }
 }
 
-/// What is said of what is no document: what the reader of TOML says, at its place.
+/// A text without its byte order mark, and how many bytes the mark has: 0 if there is none.
+fn after_mark<'a>(text: &Text<'a>) -> (Text<'a>, usize) {
+    let alloc = text.alloc;
+    match text.bytes {
+        [0xEF, 0xBB, 0xBF, bytes @ ..] => (Text { alloc, bytes }, 3),
+        _ => (*text, 0),
+    }
+}
+
+/// What is said of what is no document: what the reader of TOML says, at its place. A byte order mark is no part of the
+/// first line.
 pub(crate) fn no_document(
     text: &Text<'_>,
     rule: &'static str,
     error: &toml::de::Error,
 ) -> Made<Diagnostic> {
+    let (text, mark) = after_mark(text);
     let (offset, end) = match error.span() {
         None => (0, 1),
-        Some(span) => (span.start, span.end),
+        Some(span) => (
+            span.start.saturating_sub(mark),
+            span.end.saturating_sub(mark),
+        ),
     };
     let before = text_or_nothing(text.bytes.get(..offset).unwrap_or(&[]));
     let at = FilePlace { line: 1, column: 1 }.after(before);

@@ -5,9 +5,11 @@ ghost use Rattle.execadvice.specs.Findings.{fault_of};
 
 use crate::diagnostic::{Diagnostic, of_line};
 use crate::document::reason_of_bytes;
+use crate::elsewhere::row_of;
 use crate::made::Made;
 use crate::near::{are_digits, nearest};
 use crate::proposal::change;
+use crate::reads::says_something;
 use crate::show::{Advice, Fix, Span, field_span, width_of};
 use crate::spacing::hidden_advice;
 use crate::text::{Text, is_line_feed, text_or_nothing};
@@ -17,16 +19,28 @@ use std::alloc::{AllocError, Global};
 use std::str::from_utf8;
 use taskscript::{EventFault, read_events};
 
-/// Why a number of turns is none. `short` is it without the zeros before it.
-fn number_reason_of(digits: &str, short: &str) -> &'static str {
+/// What is said of a carriage return within a line.
+const RETURN: &str = "lines end with a line feed, not with a carriage return alone";
+
+/// Why a number of turns of a line is too great.
+fn great_number_reason(line: &str) -> &'static str {
+    if line.starts_with("tick ") {
+        "a number is from 1 to 1000000; all ticks of a run together are 1000000 at most"
+    } else {
+        "a number is from 1 to 1000000; all steps of a run together are 1000000 at most"
+    }
+}
+
+/// Why a number of turns of a line is none. `short` is it without the zeros before it.
+fn number_reason_of(line: &str, digits: &str, short: &str) -> &'static str {
     if digits.is_empty() {
         "expected a number from 1 to 1000000 here"
     } else if !are_digits(digits) {
-        "expected a number from 1 to 1000000 here, in decimal digits"
+        digits_reason(line, digits)
     } else if short.is_empty() {
         "0 asks for nothing: a number is from 1 to 1000000"
     } else {
-        "a number is from 1 to 1000000; write several lines"
+        great_number_reason(line)
     }
 }
 
@@ -43,24 +57,123 @@ fn number_advice(alloc: Global, line: &str, digits: &str) -> Made<Advice> {
     let reason = if !short.is_empty() && short.len() < digits.len() && are_digits(digits) {
         "a number has no zero before its digits"
     } else {
-        number_reason_of(digits, short)
+        number_reason_of(line, digits, short)
     };
     part_advice(alloc, line, 1, reason)
 }
 
+/// Whether a name is that of the source that comes with ticks.
+fn is_blank(name: &str) -> bool {
+    ["VERTB", "VBLANK", "VBL"]
+        .iter()
+        .any(|source| name.eq_ignore_ascii_case(*source))
+}
+
 /// Why a name is none of a source that is asked for.
 fn source_advice(alloc: Global, line: &str, name: &str) -> Made<Advice> {
-    let reason = if name.eq_ignore_ascii_case("VERTB") {
+    let reason = if is_blank(name) {
         "VERTB comes with each tick; PORTS and EXTER are asked for by irq"
+    } else if !name.is_empty() && are_digits(name) {
+        "a source has a name here: PORTS, of level 2, or EXTER, of level 6; VERTB, of level 3, comes with each tick"
     } else {
         "expected PORTS or EXTER here, a source of interrupts"
     };
     part_advice(alloc, line, 1, reason)
 }
 
+/// What is said of a line that begins with another word.
+const LINES: &str = "a line is run N, tick N or irq S";
+
+/// What is said of words by which other systems wait, end, begin and repeat.
+const WAITS: &str = "time passes by ticks, of tick_micros microseconds each: tick N";
+
+const ENDS: &str = "the run ends after the last line";
+
+const REPEATS: &str = "each line is done once; a greater N has more steps: run N, tick N or irq S";
+
+const BEGINS: &str = "the machine starts before the first line; run N makes N steps";
+
+const SIGNALS: &str =
+    "a signal is sent by the code of a task or of a server, which irq PORTS, irq EXTER or tick N runs";
+
+const BLANKS: &str = "tick N is N vertical blanks";
+
+const SMALL: &str = "its word is in small letters, with one argument: run N, tick N or irq S";
+
+/// Words that begin no event, each with what has its place.
+const HABITS: [(&str, &str); 39] = [
+    ("wait", WAITS),
+    ("sleep", WAITS),
+    ("delay", WAITS),
+    ("pause", WAITS),
+    ("timer", WAITS),
+    ("time", WAITS),
+    ("end", ENDS),
+    ("quit", ENDS),
+    ("exit", ENDS),
+    ("stop", ENDS),
+    ("halt", ENDS),
+    ("done", ENDS),
+    ("idle", ENDS),
+    ("loop", REPEATS),
+    ("repeat", REPEATS),
+    ("for", REPEATS),
+    ("while", REPEATS),
+    ("forever", REPEATS),
+    (
+        "until",
+        "run N makes N steps, and goes on if the machine is idle",
+    ),
+    ("vblank", BLANKS),
+    ("vbl", BLANKS),
+    ("vertb", BLANKS),
+    ("frame", BLANKS),
+    ("start", BEGINS),
+    ("boot", BEGINS),
+    ("begin", BEGINS),
+    ("init", BEGINS),
+    ("reset", BEGINS),
+    ("go", BEGINS),
+    ("step", "run N makes N steps"),
+    ("steps", "run N makes N steps"),
+    ("next", "run N makes N steps"),
+    ("continue", "run N makes N steps"),
+    ("signal", SIGNALS),
+    ("send", SIGNALS),
+    ("nmi", "irq PORTS and irq EXTER are requests of interrupts"),
+    ("run", SMALL),
+    ("tick", SMALL),
+    ("irq", SMALL),
+];
+
 /// Why the first word of a line begins no event.
 fn word_advice(alloc: Global, line: &str) -> Made<Advice> {
-    part_advice(alloc, line, 0, "a line is run N, tick N or irq S")
+    let (word, _) = line.split_once(" ").unwrap_or((line, ""));
+    part_advice(alloc, line, 0, row_of(&HABITS, word).unwrap_or(LINES))
+}
+
+/// Whether a text is the name of a source of interrupts.
+fn is_source(text: &str) -> bool {
+    ["PORTS", "EXTER", "VERTB"]
+        .iter()
+        .any(|source| text.eq_ignore_ascii_case(*source))
+}
+
+/// Whether a text is a number of seconds, or of parts of one.
+fn is_span(text: &str) -> bool {
+    let first = text.as_bytes().first().copied().unwrap_or(b' ');
+    first.is_ascii_digit() && text.ends_with("s")
+}
+
+/// Why what is no digits is no number of turns.
+fn digits_reason(line: &str, digits: &str) -> &'static str {
+    if is_source(digits) {
+        "irq PORTS and irq EXTER ask for a source of interrupts; run and tick have a number from 1 to 1000000 here"
+    } else if is_span(digits) && line.starts_with("tick ") {
+        "expected a number of ticks from 1 to 1000000 here, in decimal digits; each is of tick_micros microseconds"
+    } else {
+        "expected a number from 1 to 1000000 here, in decimal digits"
+    }
 }
 
 /// What is wrong with the spaces of a line, or with its end.
@@ -101,12 +214,14 @@ fn is_of_machine_file(line: &str) -> bool {
 
 /// Whether a line is one of a trace.
 pub(crate) fn is_of_trace(line: &str) -> bool {
+    let line = line.strip_suffix(" waits").unwrap_or(line);
     let digits = match line.rsplit_once(" $") {
         None => "",
         Some((_, digits)) => digits,
     };
     let is_result = digits.len() == 8 && digits.as_bytes().iter().all(|b| b.is_ascii_hexdigit());
-    line == "idle" || line.starts_with("switch ") || is_result && !line.contains('=')
+    let is_other = line.starts_with("switch ") || line.starts_with("serve ");
+    line == "idle" || is_other || is_result && !line.contains('=')
 }
 
 /// The word of an event that is meant by another one.
@@ -114,7 +229,7 @@ fn word_meant(alloc: Global, word: &str) -> Made<Option<&'static str>> {
     let lower = word.to_ascii_lowercase(alloc)?;
     let meant = match lower.as_str() {
         "step" | "steps" | "go" => "run",
-        "vblank" | "vertb" => "tick",
+        "vblank" | "vbl" | "vertb" => "tick",
         "int" | "interrupt" => "irq",
         _ => return nearest(alloc, word, &["run", "tick", "irq"]),
     };
@@ -124,7 +239,7 @@ fn word_meant(alloc: Global, word: &str) -> Made<Option<&'static str>> {
 /// Whether a character of other languages separates the parts of an event.
 fn is_apart(c: char) -> bool {
     match c {
-        '(' | ')' | ':' | ';' | '=' | '"' => true,
+        '(' | ')' | '[' | ']' | ':' | ';' | '=' | '"' => true,
         _ => c.is_whitespace(),
     }
 }
@@ -147,10 +262,19 @@ fn plain_event(alloc: Global, line: &str) -> Made<String> {
     Ok(out)
 }
 
+/// The source of interrupts that is meant by a name or by the number of its level.
+fn source_meant(alloc: Global, name: &str) -> Made<Option<&'static str>> {
+    match name {
+        "2" => Ok(Some("PORTS")),
+        "6" => Ok(Some("EXTER")),
+        _ => nearest(alloc, name, &["PORTS", "EXTER"]),
+    }
+}
+
 /// The argument of an event that is meant by another one.
 fn argument_meant(alloc: Global, word: &str, argument: &str) -> Made<Option<String>> {
     if word == "irq" {
-        return match nearest(alloc, argument, &["PORTS", "EXTER"])? {
+        return match source_meant(alloc, argument)? {
             None => Ok(None),
             Some(source) => Ok(Some(String::from_str(alloc, source)?)),
         };
@@ -183,6 +307,15 @@ fn event_of(alloc: Global, word: &str, argument: &str) -> Made<Option<String>> {
     }
 }
 
+/// Whether a text is an event text that is accepted.
+fn is_accepted(alloc: Global, text: &str) -> Made<bool> {
+    match read_events(alloc, text.as_bytes()) {
+        Ok(_) => Ok(true),
+        Err(EventFault::OutOfMemory) => Err(AllocError),
+        Err(_) => Ok(false),
+    }
+}
+
 /// The event that is meant by a line, if that can be told: a line that the reader of events accepts.
 fn event_meant(alloc: Global, line: &str) -> Made<Option<String>> {
     let plain = plain_event(alloc, line)?;
@@ -190,11 +323,16 @@ fn event_meant(alloc: Global, line: &str) -> Made<Option<String>> {
     let found = match plain.split_once(" ") {
         None if are_digits(plain) => event_of(alloc, "run", plain)?,
         None => None,
+        Some((number, word)) if are_digits(number) => event_of(alloc, word, number)?,
         Some((word, argument)) => event_of(alloc, word, argument)?,
     };
-    match found {
-        Some(event) if read_events(alloc, event.as_str().as_bytes()).is_ok() => Ok(Some(event)),
-        _ => Ok(None),
+    let Some(event) = found else {
+        return Ok(None);
+    };
+    if is_accepted(alloc, event.as_str())? {
+        Ok(Some(event))
+    } else {
+        Ok(None)
     }
 }
 
@@ -211,10 +349,13 @@ fn is_event_word(word: &str) -> bool {
     word == "run" || word == "tick" || word == "irq"
 }
 
-/// Why a line with more than two parts is no event.
-fn rest_reason(rest: &str) -> &'static str {
+/// Why a line with more than two parts, of which the first is that word, is no event.
+fn rest_reason(word: &str, rest: &str) -> &'static str {
     let another = [" run ", " tick ", " irq "];
-    if another.iter().any(|event| rest.contains(*event)) {
+    let first = rest.as_bytes().first().copied().unwrap_or(b' ');
+    if word == "run" && first.is_ascii_alphabetic() {
+        "run takes a number alone, from 1 to 1000000"
+    } else if another.iter().any(|event| rest.contains(*event)) {
         "each event has a line of its own"
     } else {
         "a line ends with its one argument"
@@ -224,7 +365,10 @@ fn rest_reason(rest: &str) -> &'static str {
 /// Why the parts of a line are no event, and which of them.
 fn parts_advice(alloc: Global, line: &str) -> Made<Advice> {
     let (word, rest) = line.split_once(" ").unwrap_or((line, ""));
-    if line.starts_with("//") || line.starts_with(";") || line.starts_with("REM ") {
+    if ["//", ";", "REM ", "--", "'"]
+        .iter()
+        .any(|mark| line.starts_with(*mark))
+    {
         return part_advice(alloc, line, 0, "a comment begins with #");
     }
     if !is_event_word(word) {
@@ -234,7 +378,7 @@ fn parts_advice(alloc: Global, line: &str) -> Made<Advice> {
         return part_advice(alloc, line, 1, "a comment has a line of its own");
     }
     if rest.contains(" ") {
-        return part_advice(alloc, line, 2, rest_reason(rest));
+        return part_advice(alloc, line, 2, rest_reason(word, rest));
     }
     if word == "irq" {
         source_advice(alloc, line, rest)
@@ -255,10 +399,18 @@ fn event_advice(alloc: Global, line: &str) -> Made<Advice> {
             "this is a line of a trace, which execsim writes; the second path is the event text";
         return Advice::new(alloc, field_span(line, 0), reason);
     }
+    if line.contains(' ') && says_something(alloc, line)? {
+        let reason =
+            "this is a line of code, which belongs to a machine file; a line is run N, tick N or irq S";
+        return Advice::new(alloc, field_span(line, 0), reason);
+    }
     // A carriage return at the end has a reason of its own.
     let mut shown = line.trim_end_matches('\r').chars();
     if let Some(start) = shown.position(|c| is_hidden(c) && c != '\t') {
         let mut advice = hidden_advice(alloc, line, start)?;
+        if line.chars().nth(start) == Some('\r') {
+            advice.reason = String::from_str(alloc, RETURN)?;
+        }
         advice.fix = fix_of_event(alloc, line, usize::MAX)?;
         return Ok(advice);
     }
@@ -283,9 +435,9 @@ fn amount(line: &str, word: &str) -> u64 {
 /// The first limit that sums are past.
 fn limit_reason(steps: u64, ticks: u64, events: u64) -> Option<&'static str> {
     if steps > 1_000_000 {
-        Some("this line takes the steps past 1000000")
+        Some("with this line there are more than 1000000 steps")
     } else if ticks > 1_000_000 {
-        Some("this line takes the ticks past 1000000")
+        Some("with this line there are more than 1000000 ticks")
     } else if events > 100_000 {
         Some("with this line there are more than 100000 events")
     } else {

@@ -1,6 +1,8 @@
 //! What is found in a machine file.
 ghost use Rattle.std.specs.Prelude.{◌≡◌, IfOk, Some};
-ghost use Rattle.taskscript.specs.File.{file_of, placed_file_of};
+ghost use Rattle.toml.specs.{Errors.IsMemory, View.table_view};
+ghost use Rattle.taskscript.specs.File.{file_of, placed_file_of, placed_file_of_document};
+ghost use Rattle.taskscript.specs.Places.{without_place};
 ghost use Rattle.execadvice.specs.Findings.{fault_of, place_of};
 
 use crate::advice::line_advice;
@@ -8,20 +10,21 @@ use crate::bodies::{body_at, is_interrupt, line_at};
 use crate::diagnostic::{Diagnostic, FileSpan, Severity};
 use crate::document::no_document;
 use crate::file::{File, line_found};
+use crate::interrupt_lines::not_in_interrupt;
 use crate::labels::bad_label;
 use crate::made::Made;
 use crate::mending::Mending;
 use crate::show::{Advice, Span, width_of};
-use crate::stands::not_in_interrupt;
 use crate::text::{Text, text_or_nothing};
 use crate::tree::Wrong;
 use crate::variables::past_limit_in;
 use crate::warnings::{Warning, warnings_of};
 use crate::written::{Part, Written};
 use std::alloc::{AllocError, Global};
-use taskscript::{FileFault, LinePlace, Place, Refused, TreePlace, read_placed};
+use taskscript::{FileFault, LinePlace, Place, Refused, TreePlace, read_tree};
+use toml::Table;
 
-/// How many parts of dotted keys a refused file has at most that is read again. Each part is a table of its own.
+/// How many parts of dotted keys a refused file has at most if its tree is looked at again. Each part is a table of its own.
 const MOST_PARTS: usize = 200_000;
 
 /// What was found in a machine file.
@@ -83,7 +86,7 @@ impl File<'_> {
         let (alloc, table) = (self.alloc, &self.table);
         let body = body_at(table, place);
         let found = match fault {
-            FileFault::BadLabel => bad_label(alloc, body)?,
+            FileFault::BadLabel => bad_label(alloc, table, body)?,
             FileFault::NotInInterrupt => not_in_interrupt(alloc, body)?,
             FileFault::TooMany => past_limit_in(alloc, table)?,
             _ => None,
@@ -120,7 +123,7 @@ impl File<'_> {
     }
 }
 
-/// What is said of a refused file that takes long to read again, since it has very many dotted keys: where the first of them is, if it is one of
+/// What is said of a refused file whose tree takes long to look at, since it has very many dotted keys: where the first of them is, if it is one of
 /// the faulty table.
 fn brief_found(alloc: Global, written: &Written<'_>, refused: Refused) -> Made<Diagnostic> {
     let reason = String::from_str(alloc, "no key of a machine file has a dot in it")?;
@@ -138,38 +141,29 @@ fn brief_found(alloc: Global, written: &Written<'_>, refused: Refused) -> Made<D
     Ok(found)
 }
 
-/// What is said of a refused file.
-fn refusal_found(alloc: Global, bytes: &[u8], refused: Refused) -> Made<Diagnostic> {
-    let text = text_or_nothing(bytes);
-    let written = Written::new(alloc, text)?;
+/// What is said of a file whose tree is refused.
+fn tree_refusal_found(
+    alloc: Global,
+    bytes: &[u8],
+    table: Table,
+    refused: Refused,
+) -> Made<Diagnostic> {
+    let written = Written::new(alloc, text_or_nothing(bytes))?;
     if written.parts > MOST_PARTS {
         return brief_found(alloc, &written, refused);
     }
-    match toml::table_from_slice(alloc, bytes) {
-        Err(error) => {
-            if error.is_memory() {
-                return Err(AllocError);
-            }
-            no_document(&Text { alloc, bytes }, refused.fault.name(), &error)
-        }
-        Ok(table) => {
-            let file = File {
-                alloc,
-                written,
-                table,
-            };
-            file.fault_found(refused)
-        }
-    }
+    let file = File {
+        alloc,
+        written,
+        table,
+    };
+    file.fault_found(refused)
 }
 
-/// What is said of a file that is accepted: its warnings.
-fn accepted_found(alloc: Global, bytes: &[u8]) -> Made<Vec<Diagnostic>> {
-    let Ok(table) = toml::table_from_slice(alloc, bytes) else {
-        return Err(AllocError);
-    };
+/// What is said of a file that is accepted, by its tree: its warnings.
+fn accepted_found(alloc: Global, bytes: &[u8], table: &Table) -> Made<Vec<Diagnostic>> {
     let mut found = Vec::new(alloc);
-    let warnings = warnings_of(alloc, &table)?;
+    let warnings = warnings_of(alloc, table)?;
     if warnings.is_empty() {
         return Ok(found);
     }
@@ -181,18 +175,18 @@ fn accepted_found(alloc: Global, bytes: &[u8]) -> Made<Vec<Diagnostic>> {
             advice,
         } = warning;
         let grade = (Severity::Warning, rule);
-        found.push(line_found(alloc, &written, &table, place, grade, advice)?)?;
+        found.push(line_found(alloc, &written, table, place, grade, advice)?)?;
     }
     Ok(found)
 }
 
 /// What a refused file's finding has.
-fn refusal(alloc: Global, bytes: &[u8], refused: Refused) -> Made<Finding>
+fn refusal(alloc: Global, refused: Refused, said: Diagnostic) -> Made<Finding>
     ensures fault { IfOk result (λ finding. finding.fault ≡ Some refused.fault) }
     ensures place { IfOk result (λ finding. finding.place ≡ Some refused.place) }
 {
     let mut found = Vec::new(alloc);
-    found.push(refusal_found(alloc, bytes, refused)?)?;
+    found.push(said)?;
     Ok(Finding {
         fault: Some(refused.fault),
         place: Some(refused.place),
@@ -200,7 +194,57 @@ fn refusal(alloc: Global, bytes: &[u8], refused: Refused) -> Made<Finding>
     })
 }
 
-/// What the bytes of a machine file are refused for, and where, or else what is worth a warning.
+/// What is found in bytes that are no TOML document.
+fn unread(alloc: Global, bytes: &[u8], error: &toml::de::Error) -> Made<Finding>
+    ensures memory { IfOk result (λ _. ¬ IsMemory error.now) }
+    ensures fault { IfOk result (λ finding. finding.fault ≡ Some FileFault.NotToml) }
+    ensures place { IfOk result (λ finding. finding.place ≡ Some Place.File) }
+{
+    if error.is_memory() {
+        return Err(AllocError);
+    }
+    let refused = Refused {
+        fault: FileFault::NotToml,
+        place: Place::File,
+    };
+    let said = no_document(&Text { alloc, bytes }, refused.fault.name(), error)?;
+    refusal(alloc, refused, said)
+}
+
+/// What is found in a file whose tree is refused.
+fn refused_tree(alloc: Global, bytes: &[u8], table: Table, refused: Refused) -> Made<Finding>
+    ensures memory { IfOk result (λ _. ¬ (refused.fault ≡ FileFault.OutOfMemory)) }
+    ensures fault { IfOk result (λ finding. finding.fault ≡ Some refused.fault) }
+    ensures place { IfOk result (λ finding. finding.place ≡ Some refused.place) }
+{
+    match refused.fault {
+        FileFault::OutOfMemory => Err(AllocError),
+        _ => {
+            let said = tree_refusal_found(alloc, bytes, table, refused)?;
+            refusal(alloc, refused, said)
+        }
+    }
+}
+
+/// What is found in the tree of a machine file.
+fn tree_finding(alloc: Global, bytes: &[u8], table: Table) -> Made<Finding>
+    ensures fault { IfOk result (λ finding. finding.fault ≡ fault_of (without_place (placed_file_of_document (Some (table_view table))))) }
+    ensures place { IfOk result (λ finding. finding.place ≡ place_of (placed_file_of_document (Some (table_view table)))) }
+{
+    match read_tree(alloc, &table) {
+        Ok(_) => {
+            let found = accepted_found(alloc, bytes, &table)?;
+            Ok(Finding {
+                fault: None,
+                place: None,
+                found,
+            })
+        }
+        Err(refused) => refused_tree(alloc, bytes, table, refused),
+    }
+}
+
+/// What the bytes of a machine file are refused for, and where, or else what is worth a warning. They are read as TOML once.
 ///
 /// The file is refused exactly if `execsim` refuses it, with that fault. Its place is the first faulty place of the file, in the order in
 /// which the file is judged. What is said of it has the line and the column of the file, the place in words, the name of the fault and a
@@ -209,24 +253,12 @@ fn refusal(alloc: Global, bytes: &[u8], refused: Refused) -> Made<Finding>
 /// # Errors
 ///
 /// If memory is refused, by the reader too.
-#[tactic(auto, using(taskscript::proofs::Whole::placed_is))]
 pub fn check_machine(alloc: Global, bytes: &[u8]) -> Result<Finding, AllocError>
     ensures fault { IfOk result (λ finding. finding.fault ≡ fault_of (file_of bytes.now)) }
     ensures place { IfOk result (λ finding. finding.place ≡ place_of (placed_file_of bytes.now)) }
 {
-    let refused = match read_placed(alloc, bytes) {
-        Ok(_) => {
-            let found = accepted_found(alloc, bytes)?;
-            return Ok(Finding {
-                fault: None,
-                place: None,
-                found,
-            });
-        }
-        Err(refused) => refused,
-    };
-    match refused.fault {
-        FileFault::OutOfMemory => Err(AllocError),
-        _ => refusal(alloc, bytes, refused),
+    match toml::table_from_slice(alloc, bytes) {
+        Ok(table) => tree_finding(alloc, bytes, table),
+        Err(error) => unread(alloc, bytes, &error),
     }
 }

@@ -1,13 +1,18 @@
 //! Names of other systems and of Exec's headers, with what has their place in a machine file.
 
+use crate::elsewhere::{lack_elsewhere, place_elsewhere, place_of_capitals, row_of};
 use crate::made::Made;
 use std::alloc::Global;
 
-/// The constants of Exec's headers that the words of the simulator take or answer, each with its number.
-const CONSTANTS: [(&str, u32); 45] = [
+/// The constants of Exec's headers that the words of the simulator take or answer, and those of C and of Python for
+/// none and for truth, each with its number.
+const CONSTANTS: [(&str, u32); 48] = [
     ("NULL", 0),
     ("FALSE", 0),
     ("TRUE", 1),
+    ("None", 0),
+    ("False", 0),
+    ("True", 1),
     ("MEMF_ANY", 0),
     ("MEMF_PUBLIC", 0x1),
     ("MEMF_CHIP", 0x2),
@@ -80,7 +85,7 @@ const NOT_SHARED: &str = "ObtainSemaphore s, since semaphores are not shared her
 const READ_TIME: &str = "SetIO r 10 0 0 and then DoIO r; the time is in IOSecs r and IOMicros r";
 
 /// Names of Exec and of other systems, each with what is written in their place.
-const NAMES: [(&str, &str); 111] = [
+const NAMES: [(&str, &str); 109] = [
     ("InitSemaphore", "s = NewSem"),
     (
         "AddSemaphore",
@@ -189,8 +194,6 @@ const NAMES: [(&str, &str); 111] = [
     ("JumpIf", "JumpNZ x LABEL"),
     ("JumpEQ", COMPARE),
     ("JumpNE", COMPARE),
-    ("JumpLT", COMPARE),
-    ("JumpGT", COMPARE),
     ("else", "Jump LABEL before a label"),
     ("WaitSignal", "Wait MASK"),
     ("SendSignal", "Signal TASK MASK"),
@@ -322,30 +325,52 @@ pub(crate) fn is_type(part: &str) -> bool {
     TYPES.iter().any(|row| name == *row) || name == "LET" || name == "DIM" || name == "Let"
 }
 
-/// The second part of the row of a name, in whatever case.
-fn row_of(rows: &[(&'static str, &'static str)], name: &str) -> Option<&'static str> {
-    Some(rows.iter().find(|row| name.eq_ignore_ascii_case(row.0))?.1)
-}
-
-/// A name without what is after its dot in an assembler, and without what is before its last dot elsewhere.
-fn undotted(name: &str) -> &str {
+/// A name without what is after its dot in an assembler, without what is before its last dot elsewhere, and without the
+/// `#` of C.
+pub(crate) fn undotted(name: &str) -> &str {
+    let name = name.trim_start_matches('#');
     match name.rsplit_once(".") {
-        Some((before, after)) if after.len() == 1 => before,
+        Some((before, after)) if after.len() < 2 => before,
         Some((_, after)) => after,
         None => name,
     }
 }
 
-/// What has the place of a name of Exec or of another system, as text.
-pub(crate) fn place_of(name: &str) -> Option<&'static str> {
-    row_of(&NAMES, undotted(name))
+/// What is said of a name of Exec, of another system or of another language that is no word.
+#[derive(Clone, Copy)]
+pub(crate) enum Instead {
+    /// What is written in its place.
+    Write(&'static str),
+    /// Why nothing has its place, or what serves.
+    Nothing(&'static str),
 }
 
-/// What is said of a name of Exec or of another system that is no word: how that begins, and what has its place or why nothing has.
-pub fn instead_of(name: &str) -> Option<(&'static str, &'static str)> {
+/// What has the place of a name of Exec, of another system or of another language, as text.
+pub(crate) fn place_of(name: &str) -> Option<&'static str> {
+    let name = undotted(name);
+    let found = place_of_capitals(name);
+    if found.is_some() {
+        return found;
+    }
+    match row_of(&NAMES, name) {
+        Some(text) => Some(text),
+        None => place_elsewhere(name),
+    }
+}
+
+/// Why nothing has the place of a name.
+fn lack_of(name: &str) -> Option<&'static str> {
+    match row_of(&ABSENT, name) {
+        Some(text) => Some(text),
+        None => lack_elsewhere(undotted(name)),
+    }
+}
+
+/// What is said of a name of Exec, of another system or of another language that is no word.
+pub(crate) fn instead_of(name: &str) -> Option<Instead> {
     match place_of(name) {
-        Some(text) => Some(("unknown word; write ", text)),
-        None => Some(("not one of the calls here: ", row_of(&ABSENT, name)?)),
+        Some(text) => Some(Instead::Write(text)),
+        None => Some(Instead::Nothing(lack_of(name)?)),
     }
 }
 

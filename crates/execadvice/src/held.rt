@@ -1,5 +1,6 @@
 //! Values of keys that are written in the manner of other languages, as they are written in a machine file.
 
+use crate::foreign::number_of_constants;
 use crate::keys::keys_of;
 use crate::made::Made;
 use crate::near::nearest;
@@ -51,13 +52,26 @@ fn without_point(text: &str) -> &str {
     }
 }
 
+/// The attributes of a region that are meant by a name as `chip`, without what is before it in Exec's header.
+fn attributes_named(alloc: Global, key: Key, text: &str) -> Made<Option<String>> {
+    if key != Key::Attrs {
+        return Ok(None);
+    }
+    let upper = inside(text).to_ascii_uppercase(alloc)?;
+    let name = format!(in alloc; "MEMF_{}", upper.as_str())?;
+    match number_of_constants(name.as_str()) {
+        Some(number) if number <= 7 => Ok(Some(format!(in alloc; "{number}")?)),
+        _ => Ok(None),
+    }
+}
+
 /// The number that is meant by a value, if a key of a table may hold it.
 fn number_held(alloc: Global, of: TablePlace, key: Key, text: &str) -> Made<Option<String>> {
     let plain = inside(text).replace(alloc, '\u{2212}', "-")?;
     let plain = without_point(plain.as_str());
     let digits = plain.trim_start_matches('-').trim_start_matches('+');
     let Some(number) = number_meant(alloc, digits)? else {
-        return Ok(None);
+        return attributes_named(alloc, key, text);
     };
     let magnitude = i64::from(number);
     let number = if plain.starts_with("-") {
@@ -112,13 +126,18 @@ fn code_held(alloc: Global, text: &str) -> Made<Option<String>> {
     let Some(inner) = text.strip_prefix("[") else {
         return Ok(None);
     };
-    if !inner.ends_with("]") || inner.contains('"') || inner.contains('\'') {
+    if !inner.ends_with("]") || inner.starts_with("[") {
+        return Ok(None);
+    }
+    if inner.contains('"') || inner.contains('\'') {
         return Ok(None);
     }
     let mut lines = Vec::new(alloc);
     for part in inner.trim_end_matches(']').split(',') {
         let line = part.trim();
-        lines.push(format!(in alloc; "\"{line}\"")?)?;
+        if !line.is_empty() {
+            lines.push(format!(in alloc; "\"{line}\"")?)?;
+        }
     }
     let lines: Vec<&str> = lines.iter().map(|line| line.as_str()).collect(alloc)?;
     let list = lines.join(alloc, ", ")?;

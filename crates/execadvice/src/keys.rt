@@ -1,5 +1,6 @@
 //! The keys of the tables of a machine file, what each may hold, in words, and what is likely meant by another one.
 
+use crate::elsewhere::row_of;
 use crate::escaped::shown_name;
 use crate::made::Made;
 use crate::near::nearest;
@@ -70,7 +71,7 @@ pub fn unknown_key(alloc: Global, of: TablePlace, table: &Table) -> Made<&str> {
 }
 
 /// Names that other systems have for keys, each with the keys that may be meant.
-const OTHER_KEYS: [(&str, &str); 20] = [
+const OTHER_KEYS: [(&str, &str); 42] = [
     ("libraries", "library"),
     ("lib", "library"),
     ("libs", "library"),
@@ -90,8 +91,88 @@ const OTHER_KEYS: [(&str, &str); 20] = [
     ("script", "code"),
     ("lines", "code"),
     ("commands", "code"),
+    ("program", "code"),
+    ("body", "code"),
+    ("steps", "code"),
     ("tick", "tick_micros"),
+    ("timeslice", "quantum"),
+    ("slice", "quantum"),
+    ("start", "base"),
+    ("begin", "base"),
+    ("addr", "base"),
+    ("origin", "base"),
+    ("len", "size"),
+    ("bytes", "size"),
+    ("type", "attrs"),
+    ("kind", "attrs"),
+    ("interrupt", "source"),
+    ("irq", "source"),
+    ("event", "source"),
+    ("autostart", "start"),
+    ("auto_start", "start"),
+    ("enabled", "start"),
+    ("exclusive", "claim"),
+    ("id", "name"),
+    ("label", "name"),
 ];
+
+/// Names of what is in no machine file, each with what has its place.
+const ELSEWHERE: [(&str, &str); 38] = [
+    ("port", PORTS),
+    ("ports", PORTS),
+    ("msgport", PORTS),
+    ("message", "a task makes a message by m = NewMsg 0 VALUE"),
+    ("messages", "a task makes a message by m = NewMsg 0 VALUE"),
+    ("semaphore", SEMAPHORES),
+    ("semaphores", SEMAPHORES),
+    ("mutex", SEMAPHORES),
+    ("lock", SEMAPHORES),
+    ("list", "a task makes a list by l = NewList"),
+    ("lists", "a task makes a list by l = NewList"),
+    ("device", DEVICES),
+    ("devices", DEVICES),
+    ("timer", DEVICES),
+    ("signal", SIGNALS),
+    ("signals", SIGNALS),
+    ("event", EVENTS),
+    ("events", EVENTS),
+    ("run", EVENTS),
+    ("ticks", EVENTS),
+    ("steps", EVENTS),
+    ("machine", TOP),
+    ("options", TOP),
+    ("config", TOP),
+    ("settings", TOP),
+    ("global", TOP),
+    ("exec", TOP),
+    ("include", "a machine is in one file"),
+    ("vector", SOURCES),
+    ("level", SOURCES),
+    ("vblank", SOURCES),
+    ("vertb", SOURCES),
+    ("revision", "a library has its version alone"),
+    ("loop", "its code goes on at a label by Jump LABEL"),
+    ("end", "a region has its size, and no end"),
+    ("stack", "tasks have no stacks"),
+    ("stack_size", "tasks have no stacks"),
+    ("stacksize", "tasks have no stacks"),
+];
+
+/// What has the place of objects and of events in a machine file.
+const PORTS: &str = "a task makes a port by p = CreateMsgPort";
+
+const SEMAPHORES: &str = "a task makes a semaphore by s = NewSem";
+
+const DEVICES: &str = "timer.device is the only device, and is there from the start";
+
+const SIGNALS: &str = "a task allocates a signal by x = AllocSignal -1";
+
+const SOURCES: &str =
+    "a [[server]] table has its source by name: source = \"PORTS\", \"VERTB\" or \"EXTER\"";
+
+const TOP: &str = "the keys of the whole machine are at the top of the file, without a head";
+
+const EVENTS: &str = "events are in a text of their own, the second path";
 
 /// The first of some keys that is likely meant by a name of another system.
 fn key_meant(name: &str, keys: &[&str]) -> Option<&'static str> {
@@ -103,7 +184,21 @@ fn key_meant(name: &str, keys: &[&str]) -> Option<&'static str> {
     None
 }
 
-/// Why a key is none of a table, with the keys that the table may have.
+/// The tables that have a key.
+fn owners_of(key: &str) -> Option<&'static str> {
+    match key {
+        "code" | "name" => Some("[[task]], [[server]] and [[softint]]"),
+        "pri" => Some("[[task]], [[server]], [[softint]] and [[region]]"),
+        "start" => Some("[[task]]"),
+        "source" | "claim" => Some("[[server]]"),
+        "base" | "attrs" => Some("[[region]]"),
+        "size" => Some("[[region]] and [[library]]"),
+        "version" => Some("[[library]]"),
+        _ => None,
+    }
+}
+
+/// Why a key is none of a table, with the keys that the table may have, and the tables that have it, if some do.
 pub fn unknown_key_reason(alloc: Global, of: TablePlace, key: &str) -> Made<String> {
     if of != TablePlace::Top && key_texts(alloc, TablePlace::Top)?.contains(&key) {
         let reason = "this key belongs to the top of the file, above all tables";
@@ -113,7 +208,23 @@ pub fn unknown_key_reason(alloc: Global, of: TablePlace, key: &str) -> Made<Stri
         shown_name(alloc, key)?,
         key_texts(alloc, of)?.join(alloc, ", ")?,
     );
-    format!(in alloc; "unknown key {name} in this table; its keys are {list}")
+    match owners_of(key) {
+        None => {
+            let place = place_text(alloc, key)?;
+            format!(in alloc; "unknown key {name} in this table; its keys are {list}{place}")
+        }
+        Some(owners) => format!(in alloc;
+            "unknown key {name} in this table; its keys are {list}; {name} is a key of {owners}"
+        ),
+    }
+}
+
+/// What has the place of a key that no table has, as the end of a sentence.
+fn place_text(alloc: Global, key: &str) -> Made<String> {
+    match row_of(&ELSEWHERE, key) {
+        None => Ok(String::new(alloc)),
+        Some(place) => format!(in alloc; "; {place}"),
+    }
 }
 
 /// The key of a table that is likely meant by another one, if there is one.

@@ -1,13 +1,15 @@
 //! Labels that are twice in a body, and jumps to labels that it lacks.
 
+use crate::escaped::shown_name;
 use crate::made::Made;
+use crate::members::name_of;
 use crate::near::nearest;
 use crate::proposal::{fix_of_line, fix_of_part};
 use crate::said::{Said, label_of, said_by};
 use crate::show::{Advice, Span, width_of};
 use std::alloc::Global;
-use taskscript::line_in;
-use toml::Value;
+use taskscript::{items_at, line_in, lines_of};
+use toml::{Table, Value};
 
 /// A label of a body, and the number of its line from 0.
 #[derive(Clone, Copy)]
@@ -55,9 +57,34 @@ fn repeated(alloc: Global, labels: &[Label<'_>]) -> Made<Option<Advice>> {
     Ok(None)
 }
 
-/// Why a body lacks the label of that name, to which a line jumps in the part of that number, and what is likely meant.
+/// The name of the first task of a file whose code has a label of that name.
+fn task_with<'a>(alloc: Global, table: &'a Table, name: &str) -> Made<Option<&'a str>> {
+    for task in items_at(table, "task") {
+        if label_named(&labels_of(alloc, lines_of(task))?, name).is_some() {
+            return Ok(Some(name_of(task)));
+        }
+    }
+    Ok(None)
+}
+
+/// Why a body has no label of that name, to which a line jumps.
+fn lacked_reason(alloc: Global, table: &Table, name: &str) -> Made<String> {
+    match task_with(alloc, table, name)? {
+        None => String::from_str(alloc, "the body has no label of this name"),
+        Some(task) => {
+            let task = shown_name(alloc, task)?;
+            format!(in alloc;
+                "the body has no label of this name; task \"{task}\" has it, and a jump stays within its body"
+            )
+        }
+    }
+}
+
+/// Why a body of a file lacks the label of that name, to which a line jumps in the part of that number, and what is
+/// likely meant.
 fn astray_advice(
     alloc: Global,
+    table: &Table,
     labels: &[Label<'_>],
     said: &Said<'_>,
     line: &str,
@@ -78,31 +105,31 @@ fn astray_advice(
     let names: Vec<&str> = labels.iter().map(|label| label.name).collect(alloc)?;
     let near = nearest(alloc, name, &names)?;
     let fix = fix_of_part(alloc, line, part, near)?;
-    let reason = String::from_str(alloc, "the body has no label of this name")?;
+    let reason = lacked_reason(alloc, table, name)?;
     Ok(Advice::of_field(line, part, reason, fix))
 }
 
 /// What is wrong with a line if it jumps to a label that is none of these.
-fn astray(alloc: Global, labels: &[Label<'_>], line: &str) -> Made<Option<Advice>> {
+fn astray(alloc: Global, table: &Table, labels: &[Label<'_>], line: &str) -> Made<Option<Advice>> {
     let Some(said) = said_by(alloc, line)? else {
         return Ok(None);
     };
     match said.jump() {
         Some((part, name)) if label_named(labels, name).is_none() => {
-            Ok(Some(astray_advice(alloc, labels, &said, line, part)?))
+            Ok(Some(astray_advice(alloc, table, labels, &said, line, part)?))
         }
         _ => Ok(None),
     }
 }
 
-/// What is wrong with a body that is BadLabel: its first label that was before, or else its first jump to a label that it lacks.
-pub fn bad_label(alloc: Global, lines: &[Value]) -> Made<Option<Advice>> {
+/// What is wrong with a body of a file that is BadLabel: its first label that was before, or else its first jump to a label that it lacks.
+pub fn bad_label(alloc: Global, table: &Table, lines: &[Value]) -> Made<Option<Advice>> {
     let labels = labels_of(alloc, lines)?;
     if let Some(advice) = repeated(alloc, &labels)? {
         return Ok(Some(advice));
     }
     for item in lines {
-        if let Some(advice) = astray(alloc, &labels, line_in(item))? {
+        if let Some(advice) = astray(alloc, table, &labels, line_in(item))? {
             return Ok(Some(advice));
         }
     }

@@ -2,17 +2,20 @@
 #![tactic(auto)]
 
 mod advice;
+mod assembler;
 mod bodies;
 mod branches;
 mod calculations;
 mod diagnostic;
 mod document;
+mod elsewhere;
 mod escaped;
 mod events;
 mod file;
 mod finding;
 mod foreign;
 mod held;
+mod interrupt_lines;
 mod keys;
 mod labels;
 mod made;
@@ -29,8 +32,8 @@ mod said;
 mod scan;
 mod show;
 mod spacing;
-mod stands;
 mod text;
+mod topics;
 mod tree;
 mod unfit;
 mod unreached;

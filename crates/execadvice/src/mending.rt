@@ -1,16 +1,17 @@
 //! What is meant by a line that is not a command, as a whole line: its target, its word and its arguments, as far as
 //! each can be told.
 
+use crate::assembler::assembled;
 use crate::branches::branch_meant;
 use crate::calculations::{calculated, counted, idiom, target_of};
-use crate::foreign::instead_of;
+use crate::foreign::{instead_of, is_type};
+use crate::interrupt_lines::may_be_in_interrupt;
 use crate::labels::labels_of;
 use crate::made::Made;
 use crate::members::{name_of, position_named};
 use crate::near::nearest;
-use crate::plain::{plain_line, without_groups};
+use crate::plain::{plain_line, without_groups, without_quotes};
 use crate::reads::says_something;
-use crate::stands::may_be_in_interrupt;
 use crate::values::{quoted_meant, quoted_or_none_meant, unquoted, value_meant};
 use crate::variables::{is_shared, is_variable};
 use crate::words::word_meant;
@@ -36,7 +37,8 @@ fn target_place(word: Word, fields: &[&str]) -> Option<usize> {
         Word::Plain(_) => true,
         _ => false,
     };
-    if is_first && (is_plain || !is_last) {
+    // What is first after a word on a request is the request.
+    if is_first && (is_plain || !is_last && !word.text().ends_with("IO")) {
         Some(0)
     } else if is_last {
         Some(word.kinds().len())
@@ -110,6 +112,31 @@ fn ends_with_name(line: &str, name: &str) -> bool {
         None => false,
         Some((_, last)) => last.trim_end_matches(';') == name,
     }
+}
+
+/// Whether a line has that name before its `=`.
+fn sets(line: &str, name: &str) -> bool {
+    match line.split_once(" = ") {
+        None => false,
+        Some((target, _)) => target == name,
+    }
+}
+
+/// Whether a line of C writes through an address, as `*p = 5`.
+pub(crate) fn is_store(line: &str) -> bool {
+    match line.strip_prefix("*") {
+        None => false,
+        Some(rest) => {
+            let first = rest.as_bytes().first().copied().unwrap_or(b' ');
+            first.is_ascii_alphabetic() && rest.contains(" = ")
+        }
+    }
+}
+
+/// Whether a line of C declares a variable and does not set it.
+fn is_declaration(line: &str) -> bool {
+    let (first, rest) = line.split_once(" ").unwrap_or((line, ""));
+    is_type(first) && !rest.contains('=') && !rest.contains('(')
 }
 
 /// The body of a line that is to be mended, and its file.
@@ -254,6 +281,15 @@ impl Mending<'_> {
         }
     }
 
+    /// What is meant by a line of an assembler, or by what is a line without a target.
+    fn line_of_parts(self, line: &str) -> Made<Option<String>> {
+        let parts = fields_of(self.alloc, line)?;
+        match assembled(self.alloc, &parts)? {
+            None => self.command_meant(None, line),
+            Some(other) => self.again(other.as_str()),
+        }
+    }
+
     /// What is meant by a target and what is after its `=`, or by what is a line without them.
     fn command_meant(self, target: Option<&str>, rest: &str) -> Made<Option<String>> {
         let fields = fields_of(self.alloc, rest)?;
@@ -285,10 +321,19 @@ impl Mending<'_> {
             let right = format!(in self.alloc; "{word} {target} {right}")?;
             return self.command_meant(Some(target), right.as_str());
         }
+        if self.is_set(right) {
+            let right = format!(in self.alloc; "Set {right}")?;
+            return self.command_meant(Some(target), right.as_str());
+        }
         match calculated(self.alloc, right)? {
             None => self.command_meant(Some(target), right),
             Some(right) => self.command_meant(Some(target), right.as_str()),
         }
+    }
+
+    /// Whether a line of the body sets the variable of that name.
+    fn is_set(self, name: &str) -> bool {
+        self.lines.iter().any(|item| sets(line_in(item), name))
     }
 
     /// Whether another line of the body ends with that name, as a jump does.
@@ -301,23 +346,25 @@ impl Mending<'_> {
     /// What is meant by a line that is a name: a label, if a line jumps to it or it has its colon, or a jump to the
     /// label of that name.
     fn label_line(self, line: &str) -> Made<Option<String>> {
-        let lower = line.replace(self.alloc, ' ', "_")?;
+        let close = line.replace(self.alloc, " :", ":")?;
+        let lower = close.as_str().replace(self.alloc, ' ', "_")?;
         let lower = lower.as_str().to_ascii_lowercase(self.alloc)?;
         let name = lower.as_str().trim_end_matches(':');
         let first = line.split(' ').next().unwrap_or("");
-        let is_call = word_meant(self.alloc, first)?.is_some() || instead_of(first).is_some();
-        if !is_identifier(name.as_bytes()) || is_call {
+        let is_foreign = instead_of(first).is_some();
+        let is_call = is_foreign || word_meant(self.alloc, first)?.is_some();
+        if !is_identifier(name.as_bytes()) || is_call && !is_foreign {
             return Ok(None);
         }
         let has_colon = line.ends_with(":");
         if self.labels()?.contains(&name) {
-            return if has_colon {
+            return if has_colon || is_foreign {
                 Ok(None)
             } else {
                 Ok(Some(format!(in self.alloc; "Jump {name}")?))
             };
         }
-        if has_colon || self.is_named(name) {
+        if has_colon && !is_foreign || self.is_named(name) {
             return Ok(Some(format!(in self.alloc; "{name}:")?));
         }
         Ok(None)
@@ -337,7 +384,7 @@ impl Mending<'_> {
             Some((target, rest)) if is_variable(target) && begins_with_word(rest) => {
                 self.assigned(target, rest)
             }
-            _ => self.command_meant(None, line),
+            _ => self.line_of_parts(line),
         }
     }
 
@@ -353,6 +400,9 @@ impl Mending<'_> {
     fn plain_meant(self, line: &str) -> Made<Option<String>> {
         if let Some(branch) = branch_meant(self.alloc, line)? {
             return self.command_meant(None, branch.as_str());
+        }
+        if let Some((target, rest)) = line.split_once(" <- ") {
+            return self.assigned(target, rest);
         }
         match line.split_once("=") {
             None => self.unassigned(line),
@@ -371,8 +421,9 @@ impl Mending<'_> {
     /// The line that is meant by one whose punctuation is as it is given, if that can be told as a whole and may be in
     /// the body.
     fn meant_by(self, line: &str) -> Made<Option<String>> {
-        let plain = plain_line(self.alloc, line)?;
+        let plain = plain_line(self.alloc, without_quotes(line))?;
         match self.plain_meant(plain.as_str())? {
+            Some(meant) if meant.as_str().contains("sizeof") => Ok(None),
             Some(meant) if self.fits(meant.as_str())? => Ok(Some(meant)),
             _ => Ok(None),
         }
@@ -381,6 +432,9 @@ impl Mending<'_> {
     /// The line that is meant by another one, if that can be told as a whole: a line that says something, and may be
     /// in the body.
     pub(crate) fn line_meant(self, line: &str) -> Made<Option<String>> {
+        if is_store(line) || is_declaration(line) {
+            return Ok(None);
+        }
         let found = self.meant_by(line)?;
         if found.is_some() {
             return Ok(found);

@@ -30,13 +30,20 @@ fn without_punctuation(alloc: Global, line: &str) -> Made<String> {
     Ok(out)
 }
 
+/// Whether a part is the stars of C alone, as after the name of a type.
+fn are_stars(part: &str) -> bool {
+    part.trim_start_matches('*').is_empty()
+}
+
 /// A line without the names of types, as in a cast or a declaration, and without the name of a structure.
 fn without_types(alloc: Global, line: &str) -> Made<String> {
     let mut out = String::new(alloc);
     let mut was_struct = false;
+    let mut was_left_out = false;
     for part in line.split(' ') {
-        let is_left_out = was_struct || is_type(part);
+        let is_left_out = was_struct || is_type(part) || was_left_out && are_stars(part);
         was_struct = part == "struct";
+        was_left_out = is_left_out;
         if !is_left_out {
             if !out.is_empty() {
                 out.push(' ')?;
@@ -89,11 +96,26 @@ fn before_mark<'a>(line: &'a str, mark: &str) -> &'a str {
     }
 }
 
+/// Whether a text begins as a number does, as it does after the `#` of an assembler.
+fn begins_as_number(text: &str) -> bool {
+    let first = text.as_bytes().first().copied().unwrap_or(b' ');
+    first.is_ascii_digit() || first == b'$' || first == b'%' || first == b'-'
+}
+
+/// What of a line is before a `#` that begins a comment.
+fn before_hash(line: &str) -> &str {
+    match line.split_once(" #") {
+        Some((before, after)) if !begins_as_number(after) => before,
+        _ => line,
+    }
+}
+
 /// What of a line is before a comment.
 fn before_comment(line: &str) -> &str {
     let line = before_mark(line, " //");
     let line = before_mark(line, " /*");
-    before_mark(before_mark(line, " ;"), " #")
+    let line = before_mark(line, " -- ");
+    before_hash(before_mark(line, " ;"))
 }
 
 /// A line without the number that BASIC has before it.
@@ -102,6 +124,19 @@ fn without_number(line: &str) -> &str {
         Some((number, rest)) if are_digits(number) => rest,
         _ => line,
     }
+}
+
+/// A line without the quotes around all of it, and without the comma after them, as it is in the file.
+pub(crate) fn without_quotes(line: &str) -> &str {
+    let whole = line.trim_end_matches(',');
+    for quote in ["\"", "'"] {
+        if let Some(rest) = whole.strip_prefix(quote) {
+            if let Some(inside) = rest.strip_suffix(quote) {
+                return inside;
+            }
+        }
+    }
+    line
 }
 
 /// A line as it is without the punctuation, the casts, the declarations and the comments of other languages, and with

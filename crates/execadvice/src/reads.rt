@@ -1,6 +1,6 @@
 //! Whether a line says something, as the reader of machine files reads it. Here nothing is made of what it says.
 ghost use Rattle.std.specs.Prelude.{◌≡◌, is_some, map, option_map, IfOk};
-ghost use Rattle.taskscript.specs.{Identifiers.identifier_in, Meaning.line_meaning, Numbers.number_of, Parsing.argument_of, Parsing.arguments_of, Parsing.command_of, Parsing.label_in, Parsing.label_of, Parsing.quoted_in, Parsing.target_of, Parsing.with_word};
+ghost use Rattle.taskscript.specs.{Identifiers.identifier_in, Meaning.line_meaning, Numbers.number_written, Parsing.argument_of, Parsing.arguments_of, Parsing.command_of, Parsing.label_in, Parsing.label_of, Parsing.quoted_in, Parsing.target_of, Parsing.with_word};
 
 use crate::made::Made;
 use crate::variables::is_variable;
@@ -10,7 +10,7 @@ use taskscript::{fields_of, is_identifier, label_in, number_of, quoted_in};
 
 /// Whether a field is a number.
 pub(crate) fn is_number(field: &str) -> bool
-    ensures { result ≡ is_some (number_of field.now) }
+    ensures { result ≡ is_some (number_written field.now) }
 {
     number_of(field.as_bytes()).is_some()
 }

@@ -10,6 +10,9 @@ use toml::{Table, Value};
 /// The address that no region goes past.
 const REACH: u64 = 2_147_483_648;
 
+/// The bytes that all regions have together at most in version 2.
+const VERSION_2: u64 = 4_194_304;
+
 /// What a region is judged by: where it begins and ends.
 #[derive(Clone, Copy)]
 struct Extent {
@@ -163,6 +166,15 @@ fn first_found(extents: &[Extent], most: u64) -> Option<Found> {
     found
 }
 
+/// What has more room for that many bytes, which are more than there may be.
+fn more_text(total: u64, most: u64) -> &'static str {
+    if most < VERSION_2 && total <= VERSION_2 {
+        "; with version = 2 at the top of the file there are at most 4194304"
+    } else {
+        ""
+    }
+}
+
 /// Why a region does not fit.
 fn reason_of(alloc: Global, found: Found) -> Made<String> {
     let (number, key) = (found.item.saturating_add(1), found.key);
@@ -173,7 +185,10 @@ fn reason_of(alloc: Global, found: Found) -> Made<String> {
         Fault::Empty => format!(in alloc; "region {number}: its size is 0"),
         Fault::Low(base) => format!(in alloc; "region {number}: its base {base} is below 4096"),
         Fault::Past(total, most) => {
-            format!(in alloc; "the regions have {total} bytes together; there are at most {most}")
+            let more = more_text(total, most);
+            format!(in alloc;
+                "the regions have {total} bytes together; there are at most {most}{more}"
+            )
         }
         Fault::Beyond(end) => {
             format!(in alloc; "region {number}: it ends at {end}, past {REACH}")

@@ -25,7 +25,7 @@ enum Role {
 }
 
 /// The array of tables of that key.
-fn array_named(name: &str) -> Option<Array> {
+pub(crate) fn array_named(name: &str) -> Option<Array> {
     Array::ALL.iter().find(|array| array.key() == name).copied()
 }
 

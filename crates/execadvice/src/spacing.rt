@@ -9,7 +9,7 @@ use std::alloc::Global;
 /// What a part is that no line has, if it is one: a comment, or one with a comma or a semicolon at its end.
 fn reason_of(part: &str) -> Option<&'static str> {
     let marks = ["#", ";", "//", "/*"];
-    if marks.iter().any(|mark| part.starts_with(*mark)) {
+    if part == "--" || marks.iter().any(|mark| part.starts_with(*mark)) {
         Some("no comments inside a line of code; put it after the closing quote")
     } else if part.ends_with(",") {
         Some("put one space in place of the comma")

@@ -7,6 +7,7 @@ use crate::keys::{key_near, unknown_key, unknown_key_reason, wanted_of};
 use crate::made::Made;
 use crate::members::position_named;
 use crate::regions::unfit_region;
+use crate::scan::array_named;
 use crate::written::Part;
 use std::alloc::Global;
 use taskscript::{Array, FileFault, Key, LINE_LIMIT, TablePlace, TreePlace, items_at, member};
@@ -33,17 +34,34 @@ fn is_single_head(text: &str, array: Array) -> bool {
     }
 }
 
-/// A key as it is written, with a name in place of its own: the brackets of a table's head stay.
-fn renamed(alloc: Global, part: Option<Part<'_>>, name: Option<&str>) -> Made<Option<String>> {
-    let (Some(part), Some(name)) = (part, name) else {
-        return Ok(None);
-    };
-    let text = part.text;
-    Ok(Some(if text.starts_with("[[") {
-        format!(in alloc; "[[{name}]]")?
+/// A key as it is written, with a name in place of its own; the head of a table is that of an array of tables.
+fn renamed(alloc: Global, part: Part<'_>, name: &str) -> Made<String> {
+    if part.text.starts_with("[") {
+        format!(in alloc; "[[{name}]]")
     } else {
-        String::from_str(alloc, name)?
-    }))
+        String::from_str(alloc, name)
+    }
+}
+
+/// The array of tables that is meant by a key of a table, if its name is known.
+fn array_meant(of: TablePlace, name: Option<&str>) -> Option<Array> {
+    match of {
+        TablePlace::Top => array_named(name?),
+        TablePlace::Item(_, _) => None,
+    }
+}
+
+/// Whether a key of a table holds tables alone, in an array.
+fn holds_tables(own: &Table, key: &str) -> bool {
+    match member(own, key) {
+        None => false,
+        Some(value) => {
+            value.is_array()
+                && items_at(own, key)
+                    .iter()
+                    .all(|item| item.as_table().is_some())
+        }
+    }
 }
 
 /// What is at a place.
@@ -81,6 +99,16 @@ fn marked_line(own: &Table, key: Key, fault: FileFault) -> Option<usize> {
     }
 }
 
+/// What is said besides of a text of several lines.
+fn lines_reason(value: &Value) -> &'static str {
+    match value.as_str() {
+        Some(text) if text.trim().contains('\n') => {
+            "; each line is a string of its own, as [\"Print 1\", \"Print 2\"]"
+        }
+        _ => "",
+    }
+}
+
 /// Why a value of a key is not one that the key may have. `wanted` is what it may have.
 fn bad_value_reason(alloc: Global, own: &Table, key: Key, wanted: &str) -> Made<String> {
     let name = key.text();
@@ -93,8 +121,8 @@ fn bad_value_reason(alloc: Global, own: &Table, key: Key, wanted: &str) -> Made<
             format!(in alloc; "{name}: expected {wanted}, but line {number} is not a string")
         }
         _ => {
-            let held = held_text(alloc, value)?;
-            format!(in alloc; "{name}: expected {wanted}, found {held}")
+            let (held, more) = (held_text(alloc, value)?, lines_reason(value));
+            format!(in alloc; "{name}: expected {wanted}, found {held}{more}")
         }
     }
 }
@@ -157,6 +185,38 @@ impl<'a> File<'a> {
         })
     }
 
+    /// Whether a table may have what it has at a key, which is that part of the file, at one of that name: an array of tables has tables
+    /// alone, and no key is there twice.
+    fn may_be_renamed(&self, of: TablePlace, key: &str, part: Part<'_>, name: &str) -> bool {
+        let own = self.table_at(of);
+        let is_head = part.text.starts_with("[");
+        match array_meant(of, Some(name)) {
+            Some(_) if is_head => !part.text.contains('.'),
+            Some(_) => holds_tables(own, key) && member(own, name).is_none(),
+            None => !is_head && member(own, name).is_none(),
+        }
+    }
+
+    /// Why a key is none of a table; of one that is meant to be an array of tables also how these are written, if nothing is proposed.
+    fn unknown_reason(
+        &self,
+        of: TablePlace,
+        key: &str,
+        array: Option<Array>,
+        has_fix: bool,
+    ) -> Made<String> {
+        let reason = unknown_key_reason(self.alloc, of, key)?;
+        match array {
+            Some(array) if !has_fix => {
+                let (reason, word, name) = (reason.as_str(), item_word(array), array.key());
+                format!(in self.alloc;
+                    "{reason}; each {word} is a table that begins with [[{name}]]"
+                )
+            }
+            _ => Ok(reason),
+        }
+    }
+
     /// What is wrong if a table has a key that it may not have.
     fn wrong_table(&self, of: TablePlace) -> Made<Wrong<'a>> {
         let key = unknown_key(self.alloc, of, self.table_at(of))?;
@@ -164,11 +224,18 @@ impl<'a> File<'a> {
             None => self.head_of(of),
             Some(found) => Some(found.key),
         };
+        let near = key_near(self.alloc, of, key)?;
+        let fix = match (part, near) {
+            (Some(part), Some(name)) if self.may_be_renamed(of, key, part, name) => {
+                Some(renamed(self.alloc, part, name)?)
+            }
+            _ => None,
+        };
         Ok(Wrong {
             words: self.key_words(of, key)?,
-            reason: unknown_key_reason(self.alloc, of, key)?,
+            reason: self.unknown_reason(of, key, array_meant(of, near), fix.is_some())?,
             part,
-            fix: renamed(self.alloc, part, key_near(self.alloc, of, key)?)?,
+            fix,
         })
     }
 

@@ -62,7 +62,16 @@ fn number_of_units(text: &str) -> Option<u32> {
     u32::from_str_radix(digits, 10).ok()?.checked_mul(unit)
 }
 
-/// The number of digits, in the base that the sign before them has. It is in small letters.
+/// Whether the first character of a text is a decimal digit.
+fn is_begun_by_digit(text: &str) -> bool {
+    text.as_bytes()
+        .first()
+        .copied()
+        .unwrap_or(b' ')
+        .is_ascii_digit()
+}
+
+/// The number of digits, in the base that the sign before them has, or the letter of an assembler after them. It is in small letters.
 fn number_of_digits(text: &str) -> Option<u32> {
     for sign in ["0x", "$", "&h"] {
         if let Some(digits) = text.strip_prefix(sign) {
@@ -74,7 +83,10 @@ fn number_of_digits(text: &str) -> Option<u32> {
             return u32::from_str_radix(digits, 2).ok();
         }
     }
-    number_of_units(text)
+    match text.strip_suffix("h") {
+        Some(digits) if is_begun_by_digit(digits) => u32::from_str_radix(digits, 16).ok(),
+        _ => number_of_units(text),
+    }
 }
 
 /// The number that a part is, in whatever base, or of which it is the name.
@@ -138,11 +150,17 @@ fn variable_meant(alloc: Global, field: &str) -> Made<Option<String>> {
     })
 }
 
+/// Names of signals of other systems, which have no number here.
+const POSIX_SIGNALS: [&str; 7] = [
+    "SIGINT", "SIGTERM", "SIGKILL", "SIGALRM", "SIGHUP", "SIGUSR1", "SIGCHLD",
+];
+
 /// Whether a part is written as the constants of C are: in capital letters, with `_`, or it is one of those that are
 /// known.
 pub(crate) fn is_constant(field: &str) -> bool {
     let has_small = field.as_bytes().iter().any(|b| b.is_ascii_lowercase());
-    field.contains('_') && !has_small || number_of_constants(field).is_some()
+    let is_posix = POSIX_SIGNALS.iter().any(|name| field == *name);
+    field.contains('_') && !has_small || is_posix || number_of_constants(field).is_some()
 }
 
 /// The number or the variable that a part is meant to be, if there is one.
@@ -181,10 +199,18 @@ pub(crate) fn quoted_meant(alloc: Global, field: &str) -> Made<Option<String>> {
     Ok(None)
 }
 
+/// Whether a part is the name that other languages have for the one that calls.
+fn is_oneself(field: &str) -> bool {
+    field == "self" || field == "me" || field == "this"
+}
+
 /// The name between double quotes, or 0 for none, that a part is meant to be, if there is one.
 pub(crate) fn quoted_or_none_meant(alloc: Global, field: &str) -> Made<Option<String>> {
-    if quoted_in(field).is_none() && number_meant(alloc, field)? == Some(0) {
+    if quoted_in(field).is_none() && number_meant(alloc, field)? == Some(0) || is_oneself(field) {
         return Ok(Some(String::from_str(alloc, "0")?));
+    }
+    if is_number(field) {
+        return Ok(None);
     }
     quoted_meant(alloc, field)
 }

@@ -1,6 +1,6 @@
 //! The word that was likely meant by a text that is none.
 
-use crate::foreign::{instead_of, place_of};
+use crate::foreign::{instead_of, place_of, undotted};
 use crate::made::Made;
 use crate::near::{are_digits, nearest};
 use crate::said::cut;
@@ -72,8 +72,9 @@ pub(crate) fn words_begun(alloc: Global, text: &str) -> Made<Vec<&'static str>> 
     Ok(begun)
 }
 
-/// The text of the word that was likely meant: one in full, the only one that begins so, or the nearest one.
+/// The text of the word that was likely meant, also with what an assembler has after a dot, or another language before it: one in full, the only one that begins so, or the nearest one.
 pub(crate) fn word_near(alloc: Global, text: &str) -> Made<Option<&'static str>> {
+    let text = undotted(text);
     let texts = word_texts(alloc)?;
     let full = in_full(alloc, text, &texts)?;
     if full.is_some() {

@@ -1,5 +1,6 @@
 -- The lemma files of `execexplore`.
 pub mod AskLemmas
+mod CommandLemmas
 pub mod FailLemmas
 pub mod KindLemmas
 pub mod SearchLemmas

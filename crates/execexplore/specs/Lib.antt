@@ -1,5 +1,6 @@
 pub mod Answering
 pub mod Asking
+pub mod CommandLine
 pub mod Failing
 pub mod Fitting
 pub mod Framing

@@ -1,7 +1,9 @@
 //! The command over any words and writers, and on the arguments of its process.
-ghost use Rattle.std.specs.Prelude.{◌≤◌, ◌≡◌, ◌⊎◌, IfErr, IfOk, OnOk};
+ghost use Rattle.std.specs.Prelude.{◌≤◌, ◌≡◌, ◌≢◌, ◌⊎◌, IfErr, IfOk, OnOk};
 ghost use Rattle.std.specs.Io.KnownBytes.{Appends};
-ghost use Rattle.execrun.specs.{Running.Grows, Texts.nothing_told};
+ghost use Rattle.clap.specs.Walk.{texts as words_of};
+ghost use Rattle.execrun.specs.{CommandLine.AreRight, CommandLine.IsNoAnswer, Running.Grows, Texts.nothing_told};
+ghost use Rattle.execexplore.specs.CommandLine.{command_line};
 ghost use Rattle.execexplore.specs.{Asking.IsInRange, Asking.IsOfWords, Failing.status_of, Summing.SumsTexts};
 ghost use Rattle.execexplore.specs.Answering.{AnswersSearch, DoesAsked, FailsAsked, IsOfSearch, IsUnwritten, RefusesText, Writes, WritesAPart, WritesFound, WritesFront, WritesPart, WritesSearch, WritesSum, status_by};
 
@@ -261,6 +263,7 @@ fn answer_without_work<W: Write, E: Write>(
 ) -> u8
     ensures status { (result ≡ 0) ⊎ (result ≡ 2) ⊎ (result ≡ 4) }
     ensures help { result ≡ 0 → Grows (W.contents out.old) (W.contents out.new) }
+    ensures asked { IsNoAnswer error.now → result ≢ 0 }
     ensures untouched { result ≡ 2 → out.new ≡ out.old }
 {
     if error.kind() == ErrorKind::OutOfMemory {
@@ -323,6 +326,7 @@ pub fn run_on_texts<T: Texts, C: Clock, W: Write, E: Write + IsTerminal>(
 ) -> u8
     ensures status { result ≤ 4 }
     ensures done { result ≡ 0 → Grows (W.contents out.old) (W.contents out.new) ⊎ DoesAsked (T.text_at texts.now) (W.contents out.old) (W.contents out.new) 0 }
+    ensures right { AreRight command_line (words_of words.now) → result ≡ 0 → DoesAsked (T.text_at texts.now) (W.contents out.old) (W.contents out.new) 0 }
     ensures mixed { result ≡ 3 → DoesAsked (T.text_at texts.now) (W.contents out.old) (W.contents out.new) 3 }
     ensures refused_text { result ≡ 1 → RefusesText (T.text_at texts.now) × (out.new ≡ out.old) }
     ensures refused { result ≡ 2 → (out.new ≡ out.old) ⊎ WritesAPart (T.text_at texts.now) (W.contents out.old) (W.contents out.new) }
@@ -346,6 +350,7 @@ pub fn run<R: Files + Clock, W: Write, E: Write + IsTerminal>(
 ) -> u8
     ensures status { result ≤ 4 }
     ensures done { result ≡ 0 → Grows (W.contents out.old) (W.contents out.new) ⊎ DoesAsked nothing_told (W.contents out.old) (W.contents out.new) 0 }
+    ensures right { AreRight command_line (words_of words.now) → result ≡ 0 → DoesAsked nothing_told (W.contents out.old) (W.contents out.new) 0 }
     ensures mixed { result ≡ 3 → DoesAsked nothing_told (W.contents out.old) (W.contents out.new) 3 }
     ensures refused_text { result ≡ 1 → RefusesText nothing_told × (out.new ≡ out.old) }
     ensures refused { result ≡ 2 → (out.new ≡ out.old) ⊎ WritesAPart nothing_told (W.contents out.old) (W.contents out.new) }

@@ -1,5 +1,9 @@
 //! The command line: options and two paths, or `--sum` and the paths of reports.
-ghost use Rattle.std.specs.Prelude.{◌≡◌, ◌≤◌, IfErr, IfOk, IfSome};
+ghost use Rattle.std.specs.Prelude.{◌≡◌, ◌≤◌, IfErr, IfOk, IfSome, codes, false};
+ghost use Rattle.clap.specs.Walk.{texts};
+ghost use Rattle.clap.specs.Words.{FailsBy, HasMatchesOf, app_of, fault_of, kind_of, rule_of, with_rule};
+ghost use Rattle.execrun.specs.CommandLine.{AreRight, flag_rule, nameless_app, option_rule};
+ghost use Rattle.execexplore.specs.CommandLine.{IsNoHelp, TakesWords, command_line, of_search, of_ways, paths_rule};
 ghost use Rattle.execexplore.specs.Asking.{IsFromOne, IsInRange, IsOfOption, IsOfWords};
 
 use crate::failure::Failure;
@@ -22,7 +26,10 @@ pub enum Asked<'a> {
 }
 
 /// An option that takes a value.
-fn option<'a>(alloc: Global, name: &'a str, value: &'a str, help: &'a str) -> Arg<'a> {
+fn option<'a>(alloc: Global, name: &'static str, value: &'static str, help: &'static str) -> Arg<'a>
+    ensures rule { rule_of result ≡ option_rule name.now ArgAction.Set }
+    ensures local { result.global ≡ false }
+{
     Arg::new(alloc, name)
         .long(name)
         .value_name(value)
@@ -31,7 +38,10 @@ fn option<'a>(alloc: Global, name: &'a str, value: &'a str, help: &'a str) -> Ar
 }
 
 /// An option that takes none.
-fn flag<'a>(alloc: Global, name: &'a str, help: &'a str) -> Arg<'a> {
+fn flag<'a>(alloc: Global, name: &'static str, help: &'static str) -> Arg<'a>
+    ensures rule { rule_of result ≡ flag_rule name.now }
+    ensures local { result.global ≡ false }
+{
     Arg::new(alloc, name)
         .long(name)
         .action(ArgAction::SetTrue)
@@ -39,7 +49,10 @@ fn flag<'a>(alloc: Global, name: &'a str, help: &'a str) -> Arg<'a> {
 }
 
 /// The paths.
-fn paths<'a>(alloc: Global) -> Arg<'a> {
+fn paths<'a>(alloc: Global) -> Arg<'a>
+    ensures rule { rule_of result ≡ paths_rule (codes "PATH") }
+    ensures local { result.global ≡ false }
+{
     Arg::new(alloc, "PATH")
         .required(true)
         .num_args(1..)
@@ -47,56 +60,99 @@ fn paths<'a>(alloc: Global) -> Arg<'a> {
         .help("MACHINE and EVENTS: the machine file, in TOML, and the event text")
 }
 
-/// The command, whose words are given without its own name.
-fn command<'a>(alloc: Global) -> Result<Command<'a>, AllocError> {
+/// A command with one argument more.
+fn with<'a>(command: Command<'a>, arg: Arg<'a>) -> Result<Command<'a>, AllocError>
+    requires local { arg.global ≡ false }
+    ensures { IfOk result (λ c. app_of c ≡ with_rule (app_of command.entry) (rule_of arg.entry)) }
+{
+    command.arg(arg)
+}
+
+/// The command with no argument yet, whose words are given without its own name.
+fn bare_command<'a>(alloc: Global) -> Command<'a>
+    ensures { app_of result ≡ nameless_app (codes "execexplore") }
+{
     Command::new(alloc, "execexplore")
         .about("Runs every way in which interrupts can come in a run, and says what each shows")
-        .override_usage("execexplore [OPTIONS] MACHINE EVENTS\n       execexplore --sum REPORT..")
+        .override_usage(
+            "execexplore [OPTIONS] MACHINE EVENTS\n       execexplore --sum REPORT..\n       execexplore --all [--of LIST] MACHINE",
+        )
         .after_help(
             "Without --of, the kinds are tick and the sources that servers of MACHINE serve.\nA search keeps at most 160000000 bytes of outcomes. If there are more, the\nreport is of a part of the ways, and the status is 2.\n\nExample: `execexplore --extra 2 lost.toml lost.events` runs the events of\nlost.events with at most two more ticks, anywhere among them.\n`execexplore --extra 2 --events 3 lost.toml lost.events >third.events` keeps the\nevents of the first way of outcome 3, and `execsim lost.toml third.events`\nprints the trace of that run.\n\nexecexplore --version, with nothing else, prints the version.",
         )
         .no_binary_name(true)
-        .arg(option(
-            alloc,
-            "extra",
-            "N",
-            "The most extra interrupts of a way, 0 to 8 [default: 1]",
-        ))?
-        .arg(option(
-            alloc,
-            "of",
-            "LIST",
-            "Their kinds, such as tick,PORTS,EXTER [default: see below]",
-        ))?
-        .arg(option(
-            alloc,
-            "see",
-            "WHAT",
-            "What is compared: end, prints or trace [default: prints]",
-        ))?
-        .arg(option(
-            alloc,
-            "part",
-            "I/N",
-            "Runs only part I of N parts of the ways, I from 1",
-        ))?
-        .arg(option(
-            alloc,
-            "events",
-            "K",
-            "Prints only the events of the first way of outcome K",
-        ))?
-        .arg(flag(
-            alloc,
-            "progress",
-            "Reports progress on standard error, terminal or not",
-        ))?
-        .arg(flag(
-            alloc,
-            "sum",
-            "Reads the reports of all parts, and prints that of the whole",
-        ))?
-        .arg(paths(alloc))
+}
+
+/// The command with the options that say which ways are searched.
+fn command_of_ways<'a>(alloc: Global) -> Result<Command<'a>, AllocError>
+    ensures { IfOk result (λ c. app_of c ≡ of_ways) }
+{
+    let extra = option(
+        alloc,
+        "extra",
+        "N",
+        "The most extra interrupts of a way, 0 to 8 [default: 1]",
+    );
+    let of = option(
+        alloc,
+        "of",
+        "LIST",
+        "Their kinds, such as tick,PORTS,EXTER [default: see below]",
+    );
+    let see = option(
+        alloc,
+        "see",
+        "WHAT",
+        "What is compared: end, prints or trace [default: prints]",
+    );
+    with(with(with(bare_command(alloc), extra)?, of)?, see)
+}
+
+/// The command with all options of a search.
+fn command_of_search<'a>(alloc: Global) -> Result<Command<'a>, AllocError>
+    ensures { IfOk result (λ c. app_of c ≡ of_search) }
+{
+    let part = option(
+        alloc,
+        "part",
+        "I/N",
+        "Runs only part I of N parts of the ways, I from 1",
+    );
+    let events = option(
+        alloc,
+        "events",
+        "K",
+        "Prints only the events of the first way of outcome K",
+    );
+    let progress = flag(
+        alloc,
+        "progress",
+        "Reports progress on standard error, terminal or not",
+    );
+    with(
+        with(with(command_of_ways(alloc)?, part)?, events)?,
+        progress,
+    )
+}
+
+/// The command.
+fn command<'a>(alloc: Global) -> Result<Command<'a>, AllocError>
+    ensures { IfOk result TakesWords }
+{
+    let sum = flag(
+        alloc,
+        "sum",
+        "Reads the reports of all parts, and prints that of the whole",
+    );
+    let all = flag(
+        alloc,
+        "all",
+        "Tries every list of events; see execexplore --all --help",
+    );
+    with(
+        with(with(command_of_search(alloc)?, sum)?, all)?,
+        paths(alloc),
+    )
 }
 
 /// Why a command line gives nothing to do.
@@ -237,12 +293,16 @@ fn parse_shown(alloc: Global, words: &[String]) -> Result<(), Error> {
 }
 
 /// A refusal of a kind that has none of the words.
-fn bare_error(alloc: Global, kind: ErrorKind) -> Result<Error, AllocError> {
+fn bare_error(alloc: Global, kind: ErrorKind) -> Result<Error, AllocError>
+    ensures { IfOk result (λ error. kind_of error ≡ kind) }
+{
     command(alloc)?.error(kind, HIDDEN_WORD)
 }
 
 /// An error, if it is of a kind, or a refusal of that kind that has none of the words.
-fn error_of_kind(alloc: Global, error: Error, kind: ErrorKind) -> Result<Error, AllocError> {
+fn error_of_kind(alloc: Global, error: Error, kind: ErrorKind) -> Result<Error, AllocError>
+    ensures { IfOk result (λ error. kind_of error ≡ kind) }
+{
     if error.kind() == kind {
         return Ok(error);
     }
@@ -250,7 +310,9 @@ fn error_of_kind(alloc: Global, error: Error, kind: ErrorKind) -> Result<Error, 
 }
 
 /// What `clap` answers to words as they are shown, if it refuses them as they were refused, or a refusal that has none of them.
-fn error_over(alloc: Global, words: &[String], kind: ErrorKind) -> Result<Error, AllocError> {
+fn error_over(alloc: Global, words: &[String], kind: ErrorKind) -> Result<Error, AllocError>
+    ensures { IfOk result (λ error. kind_of error ≡ kind) }
+{
     match parse_shown(alloc, words) {
         Ok(()) => bare_error(alloc, kind),
         Err(error) => error_of_kind(alloc, error, kind),
@@ -258,7 +320,9 @@ fn error_over(alloc: Global, words: &[String], kind: ErrorKind) -> Result<Error,
 }
 
 /// What `clap` answers to some words, with the words as they are shown.
-fn error_shown(alloc: Global, words: &[&str], error: Error) -> Result<Error, AllocError> {
+fn error_shown(alloc: Global, words: &[&str], error: Error) -> Result<Error, AllocError>
+    ensures { IfOk result (λ shown. kind_of shown ≡ kind_of error) }
+{
     match words_if_hidden(alloc, words)? {
         None => Ok(error),
         Some(shown) => error_over(alloc, shown.as_slice(), error.kind()),
@@ -269,6 +333,7 @@ fn error_shown(alloc: Global, words: &[&str], error: Error) -> Result<Error, All
 fn sum_given<'a>(matches: &ArgMatches<'a>, paths: Vec<&'a str>) -> Result<Asked<'a>, Refusal<'a>>
     ensures range { IfOk result IsInRange }
     ensures refusal { IfErr result IsOfWords }
+    ensures unasked { IfErr result IsNoHelp }
 {
     if has_options(matches) {
         return Err(Refusal::Command(Failure::Option(
@@ -283,6 +348,7 @@ fn sum_given<'a>(matches: &ArgMatches<'a>, paths: Vec<&'a str>) -> Result<Asked<
 fn search_given<'a>(matches: &ArgMatches<'a>, paths: &[&'a str]) -> Result<Asked<'a>, Refusal<'a>>
     ensures range { IfOk result IsInRange }
     ensures refusal { IfErr result IsOfWords }
+    ensures unasked { IfErr result IsNoHelp }
 {
     if paths.len() != 2 {
         return Err(Refusal::Command(Failure::Option(
@@ -302,16 +368,37 @@ fn search_given<'a>(matches: &ArgMatches<'a>, paths: &[&'a str]) -> Result<Asked
 }
 
 /// What the matches of a command line ask for.
-#[tactic(auto, using(crate::proofs::AskLemmas::by_memory))]
+#[tactic(auto, using(crate::proofs::AskLemmas::by_memory, crate::proofs::AskLemmas::no_help_of_memory))]
 fn asked_of<'a>(alloc: Global, matches: &ArgMatches<'a>) -> Result<Asked<'a>, Refusal<'a>>
     ensures range { IfOk result IsInRange }
     ensures refusal { IfErr result IsOfWords }
+    ensures unasked { IfErr result IsNoHelp }
 {
     let paths = paths_given(alloc, matches)?;
     if matches.get_flag("sum") {
         sum_given(matches, paths)
     } else {
         search_given(matches, &paths)
+    }
+}
+
+/// The matches of the words of a command line, or what `clap` answers.
+fn matches_in<'a>(alloc: Global, words: &'a [&'a str]) -> Result<ArgMatches<'a>, Error>
+    ensures matches { IfOk result (HasMatchesOf command_line (texts words.now)) }
+    ensures refused { FailsBy (fault_of command_line (texts words.now)) result }
+{
+    let matches = command(alloc)?.try_get_matches_from(words)?;
+    Ok(matches)
+}
+
+/// The same, with the words as they are shown.
+#[tactic(auto, using(execrun::proofs::CommandLemmas::fails_as_shown))]
+fn matches_given<'a>(alloc: Global, words: &'a [&'a str]) -> Result<ArgMatches<'a>, Error>
+    ensures { FailsBy (fault_of command_line (texts words.now)) result }
+{
+    match matches_in(alloc, words) {
+        Ok(matches) => Ok(matches),
+        Err(error) => Err(error_shown(alloc, words, error)?),
     }
 }
 
@@ -322,14 +409,15 @@ fn asked_of<'a>(alloc: Global, matches: &ArgMatches<'a>) -> Result<Asked<'a>, Re
 /// What `clap` answers, and a value that an option does not take.
 ///
 /// Source: project rule.
-#[tactic(auto, using(crate::proofs::AskLemmas::by_memory))]
+#[tactic(auto, using(execrun::proofs::CommandLemmas::no_answer_if_right))]
 pub fn asked_by<'a>(alloc: Global, words: &'a [&'a str]) -> Result<Asked<'a>, Refusal<'a>>
     ensures range { IfOk result IsInRange }
     ensures refusal { IfErr result IsOfWords }
+    ensures right { AreRight command_line (texts words.now) → IfErr result IsNoHelp }
 {
-    match command(alloc)?.try_get_matches_from(words) {
+    match matches_given(alloc, words) {
         Ok(matches) => asked_of(alloc, &matches),
-        Err(error) => Err(Refusal::Words(error_shown(alloc, words, error)?)),
+        Err(error) => Err(Refusal::Words(error)),
     }
 }
 

@@ -2,10 +2,10 @@
 use Rattle.std.proofs.Common.{◌≡◌, ℕ, zero, suc, List, Bool, true, false, map, refl, ap, sym, ◌∙◌, Option, None, Some, codes, is_some, not, if◌then◌else◌, unwrap_or, IsSome, option_map}
 use Rattle.std.specs.Option.{ForSome}
 use Rattle.execlist.specs.{Order.first, Lists.home, Lists.part_after, Lists.sequence, Pool.slot}
-use Rattle.execmodel.specs.Lists.{find_alert, free_list_alert, free_node_alert, insert_alert, link_alert, linked_alert, list_alert, is_linked, is_list_at, is_node_at, is_pred_at, is_pred_in, nodes_of, pred_alert, predecessor, searched, sequence_with, stands_in}
+use Rattle.execmodel.specs.Lists.{find_alert, free_list_alert, free_node_alert, insert_alert, link_alert, linked_alert, list_alert, is_linked, is_list_at, is_node_at, is_pred_at, is_pred_in, nodes_of, pred_alert, predecessor, searched, sequence_with, is_in_nodes}
 use Rattle.execmodel.specs.State.{Heap}
 use Rattle.execheap.specs.declared.tag.Kind.TheVariants as variant
-use Rattle.execheap.specs.{Numbered.Numbered, Numbered.IsSound, Numbered.IsSpace, Numbered.address_in, Numbered.shown_heap, Numbered.places, Table.number_at, Refusals.is_none_or_in}
+use Rattle.execheap.specs.{Numbered.Numbered, Numbered.IsSoundHeap, Numbered.IsSpace, Numbered.address_in, Numbered.shown_heap, Numbered.places, Table.number_at, Refusals.is_none_or_in}
 use Rattle.execheap.proofs.{Linked.is_linked_shown, Linked.sequence_shown, Linked.some_is, Linked.stands_shown, Linked.told_apart, Mapped.first-map, Mapped.part_after-map, Matching.number_placed, Matching.number_same, Shown.list_at_shown, Shown.node_at_shown, Shown.nodes_shown}
 use Rattle.script.specs.declared.alert.Alert.TheVariants as an_alert
 use Rattle.script.specs.declared.alert.Alert.{Alert}
@@ -92,7 +92,7 @@ module _ (s : Numbered) (node : ℕ) (none : number_at variant.Node node s.table
 node_there : (s : Numbered) (node n : ℕ) → number_at variant.Node node s.table ≡ Some n → is_node_at node (shown_heap s) ≡ true
 node_there s node n found = node_at_shown s node ∙ ap is_some found
 
-module _ {s : Numbered} (sound : IsSound s) (space : IsSpace s) where
+module _ {s : Numbered} (sound : IsSoundHeap s) (space : IsSpace s) where
   module _ (node n : ℕ) (found : number_at variant.Node node s.table ≡ Some n) {list : Option ℕ} (at : home s.homes n ≡ list) where
     -- a node is linked if a list has it by number
     linked_where : is_linked node (shown_heap s) ≡ is_some list
@@ -169,7 +169,7 @@ module _ (s : Numbered) (list node pred : ℕ) (listed : list_alert list (shown_
     insert_by_pred refused =
         past_node ∙ refused_first (is_pred_at (predecessor pred) (shown_heap s)) (after_pred list node pred (shown_heap s)) refused
 
-    module _ (preceded : pred_alert (predecessor pred) (shown_heap s) ≡ None) (sound : IsSound s) (space : IsSpace s) where
+    module _ (preceded : pred_alert (predecessor pred) (shown_heap s) ≡ None) (sound : IsSoundHeap s) (space : IsSpace s) where
       past_pred : insert_alert list node pred (shown_heap s) ≡ after_pred list node pred (shown_heap s)
       past_pred =
           let there = is_there (is_pred_at (predecessor pred) (shown_heap s)) preceded in
@@ -185,7 +185,7 @@ module _ (s : Numbered) (list node pred : ℕ) (listed : list_alert list (shown_
       pub insert_by_link : {h : ℕ} → home s.homes n ≡ Some h → insert_alert list node pred (shown_heap s) ≡ Some an_alert.Link
       insert_by_link linked = past_link linked
 
-module _ {s : Numbered} (sound : IsSound s) (space : IsSpace s) (list h : ℕ) (placed : slot (places variant.List s) h ≡ Some list) where
+module _ {s : Numbered} (sound : IsSoundHeap s) (space : IsSpace s) (list h : ℕ) (placed : slot (places variant.List s) h ≡ Some list) where
   -- what begins at the address of a list is that list
   list_numbered : list_alert list (shown_heap s) ≡ None → number_at variant.List list s.table ≡ Some h
   list_numbered listed = elim (number_at variant.List list s.table) as (λ o. number_at variant.List list s.table ≡ o → o ≡ Some h) [
@@ -199,8 +199,8 @@ module _ {s : Numbered} (sound : IsSound s) (space : IsSpace s) (list h : ℕ) (
   pred_in_shown None found live = refl
   pred_in_shown (Some m) found live =
       let lives = some_is (slot (places variant.Node s) m) (live m refl) in
-      ap (stands_in (address_in (places variant.Node s) m)) (nodes_shown s list h found)
-      ∙ ap (λ a. stands_in a (map (address_in (places variant.Node s)) (sequence s.sequences h))) (ap (λ o. unwrap_or o 0) lives.1)
+      ap (is_in_nodes (address_in (places variant.Node s) m)) (nodes_shown s list h found)
+      ∙ ap (λ a. is_in_nodes a (map (address_in (places variant.Node s)) (sequence s.sequences h))) (ap (λ o. unwrap_or o 0) lives.1)
       ∙ stands_shown sound space h m lives.0 lives.1
 
   -- if the list, the node and the predecessor are there, and the node is not linked, the predecessor has to be in the list
@@ -235,7 +235,7 @@ pub find_node : (s : Numbered) (start : ℕ) → number_at variant.List start s.
 unfolding find_alert
 find_node s start none = ap (λ b. if b then None else linked_alert start (shown_heap s)) (no_list s start none)
 
-pub searched_node : {s : Numbered} → IsSound s → IsSpace s → (start n h : ℕ) → number_at variant.List start s.table ≡ None
+pub searched_node : {s : Numbered} → IsSoundHeap s → IsSpace s → (start n h : ℕ) → number_at variant.List start s.table ≡ None
     → slot (places variant.Node s) n ≡ Some start → home s.homes n ≡ Some h
     → searched start (shown_heap s) ≡ map (address_in (places variant.Node s)) (part_after n (sequence s.sequences h))
 unfolding searched

@@ -1,4 +1,4 @@
--- Libraries that are asked by number are expunged under low memory as those by address are.
+-- Libraries by number that are asked for memory do as those by address do.
 use Rattle.std.proofs.Common.{◌≡◌, ℕ, List, [], ◌∷◌, Bool, true, false, length, map, refl, ap, sym, ◌∙◌, subst, Some, None, Option, is_some, ◌&&◌, not, nat_eq, if◌then◌else◌, option_map}
 use Rattle.std.specs.List.{range_with_len}
 use Rattle.std.proofs.lemmas.List.{length-map}
@@ -7,9 +7,9 @@ use Rattle.execlist.specs.Pool.{IsStocked, next_number}
 use Rattle.execlib.specs.Libraries.{Lent, asked_each, asked_one, fits, gives_way, lent, loaded_at, memory_after_removal, numbers, removed}
 use Rattle.execlib.specs.declared.library.Loaded.{Loaded}
 use Rattle.execlib.specs.Libraries as library
-use Rattle.execmodel.specs.GivingWay as model
-use Rattle.execmodel.specs.{GivingWay.after_asking_for_object, GivingWay.gives_way_at, Memory.place_for, Memory.placed, State.Object, State.Plain, Objects.is_allowed, Objects.place_for_object}
-use Rattle.execheap.specs.{declared.tag.Kind.Kind, Tags.size_of, Table.Tabled, Table.IsSound, Table.after_asking, Table.library_removed, Table.next_object, Table.pool_of, Table.ready_for, Table.ready_for_number, Table.with_lent, Table.with_object, Numbered.Numbered, Numbered.Fits, Numbered.IsKept, Numbered.own_shape, Numbered.shown_library, Numbered.shown_memory, Numbered.test_of}
+use Rattle.execmodel.specs.LowMemory as model
+use Rattle.execmodel.specs.{LowMemory.after_asking_for_object, LowMemory.gives_way_at, Memory.place_for, Memory.placed, State.Object, State.Plain, Objects.is_allowed, Objects.place_for_object}
+use Rattle.execheap.specs.{declared.tag.Kind.Kind, Tags.size_of, Table.Tabled, Table.IsSoundTable, Table.after_asking, Table.library_removed, Table.next_object, Table.pool_of, Table.ready_for, Table.ready_for_number, Table.with_lent, Table.with_object, Numbered.Numbered, Numbered.Fits, Numbered.IsKept, Numbered.own_shape, Numbered.shown_library, Numbered.shown_memory, Numbered.test_of}
 use Rattle.execheap.specs.declared.tag.Kind.TheVariants as variant
 use Rattle.execheap.proofs.{Asking.IsSettled, Asking.settled_after, Asking.settled_now, Asking.settled_one, Blocks.fit_shown, Libraries.base_shown, LibraryCalls.removed_shown, Made.IsMade, Made.made_at, Plain.plain_placed, Showing.address_of, Showing.allowed_shown, Showing.place_shown}
 
@@ -92,7 +92,7 @@ module _ {s : Numbered} (kept : IsKept s) where
 
 -- ---- a plain block
 
-module _ {s : Numbered} (kept : IsKept s) (sound : IsSound s.table) (formed : IsWellFormed s.table.memory.regions s.table.memory.blocks)
+module _ {s : Numbered} (kept : IsKept s) (sound : IsSoundTable s.table) (formed : IsWellFormed s.table.memory.regions s.table.memory.blocks)
     (size reqs : ℕ) where
   asked_shown : shown_memory (record s { table = after_asking size reqs s.table }) ≡ model.after_asking size reqs (shown_memory s)
   asked_shown = after_shown kept size reqs (lent s.table.libs s.table.memory) (settled_now sound formed)
@@ -117,19 +117,19 @@ module _ {s : Numbered} (kept : IsKept s) (sound : IsSound s.table) (formed : Is
 
 -- ---- before an object is made
 
--- objects by number once libraries were expunged under low memory for an object of a kind
+-- objects by number after libraries were asked for memory for an object of a kind
 abbrev pub readied : Kind → Numbered → Numbered
 readied kind s = record s { table = ready_for kind s.table }
 
 -- they are as objects are, and are shown as the model has them then
 pub record IsReady (kind : Kind) (s u : Numbered) : Type 0 where
   pub kept : IsKept u
-  pub sound : IsSound u.table
+  pub sound : IsSoundTable u.table
   pub formed : IsWellFormed u.table.memory.regions u.table.memory.blocks
   pub stocked : IsStocked (pool_of kind u.table)
   pub shown : shown_memory u ≡ after_asking_for_object (test_of kind) (size_of kind) (shown_memory s)
 
-module _ {s seen : Numbered} (view : s ≡ seen) (kept : IsKept s) (sound : IsSound s.table) (formed : IsWellFormed s.table.memory.regions s.table.memory.blocks)
+module _ {s seen : Numbered} (view : s ≡ seen) (kept : IsKept s) (sound : IsSoundTable s.table) (formed : IsWellFormed s.table.memory.regions s.table.memory.blocks)
     (kind : Kind) (stocked : IsStocked (pool_of kind s.table)) where
   ready : IsReady kind s (readied kind s)
   unfolding after_asking_for_object
@@ -161,7 +161,7 @@ module _ {s seen : Numbered} (view : s ≡ seen) (kept : IsKept s) (sound : IsSo
   place_made made is =
       ap address_of is ∙ sym (place_shown (readied kind s) ready.sound kind ready.stocked) ∙ ap (place_for_object (test_of kind) (size_of kind)) shown_ready
 
-  -- if none is made, libraries may have been expunged under low memory all the same
+  -- if none is made, libraries may have been asked for memory all the same
   module _ (t : Tabled) (is : t ≡ with_object kind None (ready_for kind s.table)) where
     pub kept_unmade : IsKept (record s { table = t })
     kept_unmade = subst IsKept (λ i. record s { table = sym is i }) ready.kept

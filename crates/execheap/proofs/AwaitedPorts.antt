@@ -6,7 +6,7 @@ use Rattle.execlist.specs.Pool.{slot}
 use Rattle.iorequest.specs.{declared.request.Request.Request as TimerRequest, Request.idle_request, Request.is_under_way, Requests.is_under_way_at}
 use Rattle.execmodel.specs.{Ports.is_awaited_at, Ports.replies_to, State.Block}
 use Rattle.execheap.specs.declared.tag.Kind.TheVariants as variant
-use Rattle.execheap.specs.{declared.tag.Tagged.Tagged, Tags.tag_of, Tags.tagged, Table.pool_of, Numbered.Numbered, Numbered.IsSound, Numbered.places, Numbered.shown_entry, Numbered.shown_heap, Numbered.shown_tagged}
+use Rattle.execheap.specs.{declared.tag.Tagged.Tagged, Tags.tag_of, Tags.tagged, Table.pool_of, Numbered.Numbered, Numbered.IsSoundHeap, Numbered.places, Numbered.shown_entry, Numbered.shown_heap, Numbered.shown_tagged}
 use Rattle.execheap.specs.declared.tag.Tagged.TheVariants as tag
 use Rattle.execheap.proofs.{Linked.any_found, Linked.some_is, Matching.number_small, Stepping.shape_lives, Tagging.read_tag}
 
@@ -67,7 +67,7 @@ way_lives : (port : ℕ) (o : Option TimerRequest) → is_under_way_at port o �
 way_lives port None way = let bad : false ≡ true = way in cc
 way_lives port (Some q) way = refl
 
-module _ {s : Numbered} (sound : IsSound s) (port : ℕ) where
+module _ {s : Numbered} (sound : IsSoundHeap s) (port : ℕ) where
   by_number : (x : Tagged) → Replies port s x ≡ true → list_any (is_under_way_at port) s.requests.slots ≡ true
   by_number (tag.Object variant.Request r) replies =
       slot_any (is_under_way_at port) refl s.requests.slots r (sym (way_told port (slot s.requests.slots r)) ∙ replies)

@@ -3,7 +3,7 @@ use Rattle.std.proofs.Common.{◌≡◌, ℕ, ◌<◌, [], ◌∷◌, ◌++◌, 
 use Rattle.std.specs.List.{list_any}
 use Rattle.std.proofs.Math.Path.{fun_ext}
 use Rattle.std.proofs.lemmas.Simd.{map-map}
-use Rattle.execlist.specs.{Order.without, Lists.is_at, Lists.times, Pool.slot}
+use Rattle.execlist.specs.{Order.without_item, Lists.is_at, Lists.times, Pool.slot}
 use Rattle.execlist.proofs.Pools.{item_of}
 use Rattle.memlist.proofs.Answered.{nat_eq-other, nat_eq-same}
 use Rattle.sigsem.specs.Semaphores as sems
@@ -11,7 +11,7 @@ use Rattle.sigsem.specs.Semaphores.{Semaphores, dropped_from, sem_at, waiters_of
 use Rattle.memlist.specs.Memory.{IsWellFormed}
 use Rattle.execmodel.specs.{State.Object, State.Semaphore, State.Block, State.on_heap, Semaphores.left_by_task}
 use Rattle.execmodel.specs.Semaphores as model
-use Rattle.execheap.specs.Numbered.{Numbered, IsSound, object_of, shown_entry, shown_heap, shown_memory, shown_tagged, places}
+use Rattle.execheap.specs.Numbered.{Numbered, IsSoundHeap, object_of, shown_entry, shown_heap, shown_memory, shown_tagged, places}
 use Rattle.execheap.specs.{declared.tag.Kind.Kind, declared.tag.Tagged.Tagged, Tags.tagged, Table.number_at, Table.pool_of, Changes.on_semaphores}
 use Rattle.execheap.specs.declared.tag.Kind.TheVariants as variant
 use Rattle.execheap.specs.declared.tag.Tagged.TheVariants as tag
@@ -19,7 +19,7 @@ use Rattle.execheap.proofs.{Mapped.stands_by_times, Mapped.without_absent, Ownin
 
 -- ---- the queues without a task
 
-module _ {m : Semaphores} (held : sems.IsSound m) (t : ℕ) where
+module _ {m : Semaphores} (held : sems.IsSoundSemaphores m) (t : ℕ) where
   -- a task is in the queue if it waits, and in no other
   stands_where : (k : ℕ) → list_any (λ other. other == t) (waiters_of k m) ≡ is_at (waits_at t m) k
   stands_where k = stands_by_times t (waiters_of k m) (is_at (waits_at t m) k) (held.stands k t)
@@ -28,16 +28,16 @@ module _ {m : Semaphores} (held : sems.IsSound m) (t : ℕ) where
   queue_known j waits = omega (arith, held.each_queue, item_known m.sems.slots j (held.live t j waits))
 
   -- leaving a task out of every queue takes it from the one that has it
-  waiters_from : (o : Option ℕ) → waits_at t m ≡ o → (k : ℕ) → waiters_of k (dropped_from o t m) ≡ without t (waiters_of k m)
+  waiters_from : (o : Option ℕ) → waits_at t m ≡ o → (k : ℕ) → waiters_of k (dropped_from o t m) ≡ without_item t (waiters_of k m)
   waiters_from None none k = sym (without_absent t (waiters_of k m) (stands_where k ∙ ap (λ o. is_at o k) none))
   waiters_from (Some j) waits k =
-      sequence_set m.queues j (without t (waiters_of j m)) k (queue_known j waits)
-      ∙ either_number k j (λ b. (if b then without t (waiters_of j m) else waiters_of k m) ≡ without t (waiters_of k m))
-      (λ same. ap (λ i. without t (waiters_of i m)) (sym same))
+      sequence_set m.queues j (without_item t (waiters_of j m)) k (queue_known j waits)
+      ∙ either_number k j (λ b. (if b then without_item t (waiters_of j m) else waiters_of k m) ≡ without_item t (waiters_of k m))
+      (λ same. ap (λ i. without_item t (waiters_of i m)) (sym same))
       (λ other. sym (without_absent t (waiters_of k m)
       (stands_where k ∙ ap (λ o. is_at o k) waits ∙ nat_eq-other j k (λ same. other (sym same)))))
 
-  pub waiters_without : (k : ℕ) → waiters_of k (sems.dropped t m) ≡ without t (waiters_of k m)
+  pub waiters_without : (k : ℕ) → waiters_of k (sems.dropped t m) ≡ without_item t (waiters_of k m)
   waiters_without k = waiters_from (waits_at t m) refl k
 
   -- the semaphores stay as they are
@@ -50,7 +50,7 @@ module _ {m : Semaphores} (held : sems.IsSound m) (t : ℕ) where
 
 -- ---- a task that is dropped
 
-module _ (s : Numbered) (held : sems.IsSound s.sems) (t : ℕ) where
+module _ (s : Numbered) (held : sems.IsSoundSemaphores s.sems) (t : ℕ) where
   abbrev without_task : Numbered
   without_task = on_semaphores (sems.dropped t) s
 
@@ -93,7 +93,7 @@ module _ (s : Numbered) (n semaphore : ℕ) (found : number_at variant.Semaphore
 
 -- ---- a task that is in no queue
 
-module _ {s : Numbered} (sound : IsSound s) (held : sems.IsSound s.sems) (t : ℕ) where
+module _ {s : Numbered} (sound : IsSoundHeap s) (held : sems.IsSoundSemaphores s.sems) (t : ℕ) where
   -- a semaphore that lives begins at an address
   begins_there : (k : ℕ) → IsTrue (sems.is_sem k s.sems) → (a : ℕ) × (slot (places variant.Semaphore s) k ≡ Some a)
   begins_there k lives =
@@ -115,11 +115,11 @@ module _ {s : Numbered} (sound : IsSound s) (held : sems.IsSound s.sems) (t : �
 
 -- ---- the memory that is shown
 
-module _ (s : Numbered) (held : sems.IsSound s.sems) (t : ℕ) where
+module _ (s : Numbered) (held : sems.IsSoundSemaphores s.sems) (t : ℕ) where
   pub dropped_shown : shown_memory (on_semaphores (sems.dropped t) s) ≡ on_heap (model.dropped t) (shown_memory s)
   dropped_shown = heap_owned s (sems.dropped t s.sems) (model.dropped t (shown_heap s)) (dropped_heap s held t)
 
-module _ {s : Numbered} (sound : IsSound s) (held : sems.IsSound s.sems) (formed : IsWellFormed s.table.memory.regions s.table.memory.blocks) where
+module _ {s : Numbered} (sound : IsSoundHeap s) (held : sems.IsSoundSemaphores s.sems) (formed : IsWellFormed s.table.memory.regions s.table.memory.blocks) where
   module _ (n semaphore : ℕ) (here : slot (places variant.Semaphore s) n ≡ Some semaphore) (live : IsTrue (sems.is_sem n s.sems)) where
     begins : number_at variant.Semaphore semaphore s.table ≡ Some n
     begins = number_live sound.table variant.Semaphore n semaphore here

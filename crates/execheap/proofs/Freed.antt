@@ -6,7 +6,7 @@ use Rattle.execlist.proofs.Pools.{slot_new}
 use Rattle.msgport.specs.{declared.message.Message.Message, Ports.all_freed, Ports.is_message, Ports.no_ports}
 use Rattle.sigsem.specs.Semaphores.{no_sems}
 use Rattle.timerdev.specs.Timing.{new_timer}
-use Rattle.execheap.specs.{declared.tag.Kind.Kind, Table.pool_of, Numbered.IsKept, Numbered.IsSound, Numbered.Numbered, Numbered.Shape, Numbered.shape, Numbered.shown_library, Numbered.shown_memory}
+use Rattle.execheap.specs.{declared.tag.Kind.Kind, Table.pool_of, Numbered.IsKept, Numbered.IsSoundHeap, Numbered.Numbered, Numbered.Shape, Numbered.shape, Numbered.shown_library, Numbered.shown_memory}
 use Rattle.execheap.specs.declared.tag.Kind.TheVariants as variant
 use Rattle.execheap.specs.Table as table
 use Rattle.execheap.proofs.{Empty.kept_with, Empty.unused_with, Empty.with_shown, Reserved.IsReserved}
@@ -49,7 +49,7 @@ freed asks tick_micros s = record {
 as_many : {A B : Type 0} (p : Pooled A) (q : Pooled B) → shape p ≡ shape q → length p.slots ≡ length q.slots
 as_many p q same = sym (length-map p.slots is_some) ∙ ap (λ (of : Shape). length of.held) same ∙ length-map q.slots is_some
 
-module _ (s : Numbered) (sound : IsSound s) (asks : Bool) (tick_micros : ℕ) where
+module _ (s : Numbered) (sound : IsSoundHeap s) (asks : Bool) (tick_micros : ℕ) where
   of_pool : (kind : Kind) → length (pool_of kind s.table).slots ≡ s.table.pool
   of_pool kind = sound.table.each kind
 

@@ -59,13 +59,13 @@ module _ {s : Numbered} (kept : IsKept s) where
   message_step = kept.in_step variant.Message
 
   -- the number of a message is before those of the requests
-  pub message_small : table.IsSound s.table → (m : ℕ) → IsSome (slot (places variant.Message s) m) → m < s.table.pool
+  pub message_small : table.IsSoundTable s.table → (m : ℕ) → IsSome (slot (places variant.Message s) m) → m < s.table.pool
   message_small sound m lives =
       let item = item_of (slot (places variant.Message s) m) lives in
       omega (arith, slot_known (places variant.Message s) m item.0 item.1, sound.each variant.Message)
 
   -- what has an address among the messages is a message
-  pub message_live : table.IsSound s.table → (m : ℕ) → IsSome (slot (places variant.Message s) m) → IsTrue (is_message m s.ports)
+  pub message_live : table.IsSoundTable s.table → (m : ℕ) → IsSome (slot (places variant.Message s) m) → IsTrue (is_message m s.ports)
   message_live sound m lives =
       ap is_some (sym (slot_front s.table.pool s.ports.messages.slots m (message_small sound m lives)))
       ∙ sym (shape_lives (pool_of variant.Message s.table) own_messages message_step m) ∙ lives

@@ -2,12 +2,12 @@
 use Rattle.std.proofs.Common.{length, ◌≡◌, ◌≢◌, ℕ, ap, sym, ◌∙◌, subst, Some, is_some, IsSome}
 use Rattle.execlist.specs.{Lists.home, Pool.IsStocked, Pool.Pooled, Pool.given, Pool.next_number, Pool.released, Pool.slot}
 use Rattle.memlist.specs.{Fit.fit, Memory.IsWellFormed, Memory.Memory}
-use Rattle.execheap.specs.{declared.tag.Kind.Kind, Tags.kind_code, Tags.size_of, Table.Tabled, Table.IsSound, Table.pool_of, Table.slots_of, Table.with_object, Table.without_object, Numbered.Numbered, Numbered.Fits, Numbered.IsApt, Numbered.IsKept, Numbered.message_of_request, Numbered.own_shape}
+use Rattle.execheap.specs.{declared.tag.Kind.Kind, Tags.kind_code, Tags.size_of, Table.Tabled, Table.IsSoundTable, Table.pool_of, Table.slots_of, Table.with_object, Table.without_object, Numbered.Numbered, Numbered.Fits, Numbered.IsApt, Numbered.IsKept, Numbered.message_of_request, Numbered.own_shape}
 use Rattle.execheap.specs.declared.tag.Kind.TheVariants as variant
 use Rattle.execheap.proofs.Matching.{cases_object, changed, freed_beside, lives_beside, made_beside, made_here, pool_here, pool_other, sound_freed, sound_made}
 use Rattle.execheap.proofs.{InTime.IsAbout, InTime.IsAlong, InTime.in_time_kept, Tagging.cases_kind}
 
-module _ {s : Numbered} (sound : IsSound s.table) (formed : IsWellFormed s.table.memory.regions s.table.memory.blocks) (kept : IsKept s)
+module _ {s : Numbered} (sound : IsSoundTable s.table) (formed : IsWellFormed s.table.memory.regions s.table.memory.blocks) (kept : IsKept s)
     (kind : Kind) (number a : ℕ) where
   -- every kind stays in step
   steps : (p : Pooled ℕ) (u : Numbered) (memory : Memory) → u.table ≡ changed sound kind p memory
@@ -107,7 +107,7 @@ module _ {s : Numbered} (sound : IsSound s.table) (formed : IsWellFormed s.table
   slots_freed k ne = ap (λ (p : Pooled ℕ). p.slots) (pool_other sound kind (released number (pool_of kind s.table)) without.memory k ne)
 
 -- the pool of a kind that was given a number, or released one
-module _ {t : Tabled} (sound : IsSound t) (kind : Kind) (number a : ℕ) where
+module _ {t : Tabled} (sound : IsSoundTable t) (kind : Kind) (number a : ℕ) where
   pub pool_made : pool_of kind (with_object kind (Some (number, a)) t) ≡ given a (pool_of kind t)
   pool_made = pool_here sound kind (given a (pool_of kind t)) (with_object kind (Some (number, a)) t).memory
 

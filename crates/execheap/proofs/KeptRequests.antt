@@ -3,13 +3,13 @@ use Rattle.std.proofs.Common.{◌≡◌, ◌≢◌, ℕ, ◌+◌, ◌<◌, ◌�
 use Rattle.std.proofs.lemmas.Bool.{cases_eq}
 use Rattle.execlist.specs.{Lists.home, Pool.Pooled, Pool.slot, Answers.kept_or}
 use Rattle.execlist.proofs.Pools.{item_of, slot_known, slot_other, slot_same}
-use Rattle.iorequest.specs.Request.{asks_time, begun, done_state, finished, idle_request, is_under_way, is_way, reply_port, second}
+use Rattle.iorequest.specs.Request.{asks_time, in_progress, done_state, finished, idle_request, is_under_way, is_way, reply_port, second}
 use Rattle.iorequest.specs.{declared.request.Request.Request as TimerRequest, declared.fault.ReqFault.TheVariants.InUse, Requests.in_use_fault, Requests.is_request, Requests.request_at, Requests.with_request}
 use Rattle.msgport.specs.declared.fault.PortFault.TheVariants.{Link, Unknown}
-use Rattle.msgport.specs.{Port.Port, Ports.MessagePorts, Ports.is_held, Ports.is_message, Ports.is_port, Ports.is_queued as is_in_port, Ports.let_go, Ports.loose_fault, Ports.nt_replymsg, Ports.posted, Ports.queued_fault, Ports.taken_out}
+use Rattle.msgport.specs.{Port.Port, Ports.MessagePorts, Ports.is_held, Ports.is_message, Ports.is_port, Ports.is_queued as is_in_port, Ports.let_go, Ports.linked_fault, Ports.nt_replymsg, Ports.posted, Ports.queued_fault, Ports.taken_out}
 use Rattle.msgport.specs.Ports as ports
 use Rattle.timerdev.specs.{Held.Held, Held.on_timer, Timing.Due, Timing.begins_to_wait, Timing.is_waiting, Timing.waits_no_more}
-use Rattle.execheap.specs.Numbered.{Numbered, Fits, IsInTime, IsKept, IsSound, is_way_at, message_of_request, own_shape, places, shape}
+use Rattle.execheap.specs.Numbered.{Numbered, Fits, IsInTime, IsKept, IsSoundHeap, is_way_at, message_of_request, own_shape, places, shape}
 use Rattle.execheap.specs.{declared.tag.Kind.Kind, Table.number_at, Table.pool_of, Requesting.port_number, Requesting.put_at}
 use Rattle.execheap.specs.declared.tag.Kind.TheVariants as variant
 use Rattle.execheap.proofs.{Front.front_step, KeptPorts.IsOwn, Matching.number_placed, Stepping.shape_length, Stepping.shape_lives, Stepping.shape_written, Waits.IsMoved, Waits.IsTimed, Waits.moved_held, Waits.moved_let_go, Waits.moved_not, Waits.moved_out, Waits.moved_posted, Waits.timed_begun, Waits.timed_ended, Waits.timed_not}
@@ -133,11 +133,11 @@ module _ {s : Numbered} (kept : IsKept s) where
 written_not : {way : Bool} (r : ℕ) (old : Pooled TimerRequest) → is_way_at r old ≡ way → IsWritten way r old old
 written_not r old is = record { same = refl; here = is; rest = λ k other. refl; port = λ k. refl }
 
--- a request that rests may be written
+-- a request that is idle may be written
 rests_free : (r : ℕ) (old : Pooled TimerRequest) → is_under_way (request_at r old) ≡ false → in_use_fault r old ≡ None
 rests_free r old rests = ap (λ b. if b then Some InUse else None) rests
 
-pub begun_port : (quick : Bool) (system : ℕ) (q : TimerRequest) → (begun quick system q).port ≡ q.port
+pub begun_port : (quick : Bool) (system : ℕ) (q : TimerRequest) → (in_progress quick system q).port ≡ q.port
 begun_port quick system q = by_case (asks_time q) where
   by_case : (b : Bool) → (if b then record q { secs = system / second % 2 ^ 32; micros = system % second } else q).port ≡ q.port
   by_case true = refl
@@ -160,7 +160,7 @@ module _ {s : Numbered} (kept : IsKept s) where
       (moved_not (message_of_request r s) (λ p. slot (places variant.Port s) p ≡ Some (request_at r s.requests).port) s.ports (kept.in_time.held r ∙ not_way r s.requests rests))
       (timed_not r s.timing (kept.in_time.waits r ∙ not_way r s.requests rests)))
 
-module _ {s : Numbered} (sound : IsSound s) where
+module _ {s : Numbered} (sound : IsSoundHeap s) where
   kept : IsKept s
   kept = sound.kept
 
@@ -174,16 +174,16 @@ module _ {s : Numbered} (sound : IsSound s) where
   message_there r m lives is = ap (λ n. is_message n s.ports) is ∙ kept.in_time.made r (request_small r lives)
 
   -- it is in no port if the request is in progress
-  pub under_way_loose : ports.IsSound s.ports → (r m : ℕ) → IsTrue (is_request r s.requests) → IsTrue (is_under_way (request_at r s.requests))
+  pub under_way_loose : ports.IsSoundPorts s.ports → (r m : ℕ) → IsTrue (is_request r s.requests) → IsTrue (is_under_way (request_at r s.requests))
       → m ≡ message_of_request r s → home s.ports.places m ≡ None
   under_way_loose held r m lives way is =
       ap (home s.ports.places) is ∙ held.apart (message_of_request r s) (kept.in_time.held r ∙ (λ i. lives i && way i))
 
-  -- it may be held if the request rests and its reply is in no port
+  -- it may be held if the request is idle and its reply is in no port
   pub request_loose : (r m : ℕ) → IsTrue (is_request r s.requests) → is_under_way (request_at r s.requests) ≡ false
-      → home s.ports.places (message_of_request r s) ≡ None → m ≡ message_of_request r s → loose_fault m s.ports ≡ None
+      → home s.ports.places (message_of_request r s) ≡ None → m ≡ message_of_request r s → linked_fault m s.ports ≡ None
   request_loose r m lives rests loose is =
-      ap (λ n. loose_fault n s.ports) is
+      ap (λ n. linked_fault n s.ports) is
       ∙ (λ i. if not (message_there r (message_of_request r s) lives refl i) then Some Unknown
       else (if is_some (loose i) || (kept.in_time.held r ∙ not_way r s.requests rests) i then Some Link else None))
 
@@ -233,13 +233,13 @@ module _ {s : Numbered} (sound : IsSound s) where
     -- it is begun and waits
     pub kept_begun : (m : ℕ) → m ≡ message_of_request r s → (quick : Bool) (system : ℕ) (due : Due)
         → (q : Pooled TimerRequest) (p : MessagePorts) (t : Held)
-        → q ≡ with_request r (begun quick system (request_at r s.requests)) s.requests → p ≡ ports.held m s.ports
+        → q ≡ with_request r (in_progress quick system (request_at r s.requests)) s.requests → p ≡ ports.held m s.ports
         → t ≡ on_timer (begins_to_wait r due) s.timing → IsKept (record s { requests = q; ports = p; timing = t })
     kept_begun m is quick system due q p t is_q is_p is_t = subst (λ (x : Numbered). IsKept x)
         (λ i. record s { requests = sym is_q i; ports = sym (is_p ∙ ap (λ n. ports.held n s.ports) is) i; timing = sym is_t i })
-        (kept_call kept (with_request r (begun quick system (request_at r s.requests)) s.requests) (ports.held own s.ports)
+        (kept_call kept (with_request r (in_progress quick system (request_at r s.requests)) s.requests) (ports.held own s.ports)
         (on_timer (begins_to_wait r due) s.timing) r (request_live kept r lives)
-        (written_is r (begun quick system (request_at r s.requests)) s.requests lives (begun_port quick system (request_at r s.requests)))
+        (written_is r (in_progress quick system (request_at r s.requests)) s.requests lives (begun_port quick system (request_at r s.requests)))
         (moved_held own At s.ports) (timed_begun r s.timing due))
 
     done_rests : (q : TimerRequest) (error : ℤ) → is_under_way (finished error q) ≡ false

@@ -6,7 +6,7 @@ use Rattle.memlist.proofs.Answered.{cases_eq, found_later, nat_eq-other, nat_eq-
 use Rattle.execlib.specs.{declared.library.Loaded.Loaded, Libraries.count_of, Libraries.expunged, Libraries.is_delayed, Libraries.library_tag, Libraries.loaded_at, Libraries.with_loaded}
 use Rattle.execmodel.specs.{State.Library, State.Block, State.on_heap, Memory.freed, Memory.placed, Objects.is_kind, Objects.object_at, Objects.replaced, Libraries.is_library, Libraries.is_library_at, Libraries.is_numbered, Libraries.with_library}
 use Rattle.execmodel.specs.Libraries as model
-use Rattle.execheap.specs.{declared.tag.Kind.Kind, declared.tag.Tagged.Tagged, Tags.library_in, Tags.tagged, Table.IsSound, Table.IsTagged, Table.base_at, Table.library_at, Table.place_of, Numbered.Numbered, Numbered.object_of, Numbered.shown_block, Numbered.shown_entry, Numbered.shown_heap, Numbered.shown_memory, Numbered.shown_tagged}
+use Rattle.execheap.specs.{declared.tag.Kind.Kind, declared.tag.Tagged.Tagged, Tags.library_in, Tags.tagged, Table.IsSoundTable, Table.IsTagged, Table.base_at, Table.library_at, Table.place_of, Numbered.Numbered, Numbered.object_of, Numbered.shown_block, Numbered.shown_entry, Numbered.shown_heap, Numbered.shown_memory, Numbered.shown_tagged}
 use Rattle.execheap.specs.declared.tag.Kind.TheVariants as variant
 use Rattle.execheap.specs.declared.tag.Tagged.TheVariants as tag
 use Rattle.execheap.proofs.{Counting.all_freed, Entries.IsFound, Entries.all_found, Entries.all_then, Entries.all_with, Entries.map_same, Entries.put_shown, Entries.some_same, Entries.where_key_shown, Beside.objects_kept, Loaded.lies_known, Loaded.loaded_beside, Loaded.loaded_here, Loaded.read_library, Matching.tag_in, Relisted.tagged_replaced, Showing.object_at_shown, Tagging.either_number}
@@ -46,7 +46,7 @@ library_at_shown s a = ap (is_kind is_library) (object_at_shown s a) ∙ by_bloc
   by_block None = refl
   by_block (Some block) = library_shown s (tagged block.1)
 
-module _ (s : Numbered) (sound : IsSound s.table) (i : ℕ) where
+module _ (s : Numbered) (sound : IsSoundTable s.table) (i : ℕ) where
   module _ (a : ℕ) (lies : base_at i s.table.libs ≡ Some a) where
     pub library_begins : object_at a (shown_heap s) ≡ Some (Library i (count_of i s.table.libs) (is_delayed i s.table.libs))
     library_begins = object_at_shown s a ∙ by_block (block_at a s.table.memory.blocks) (sound.matched.loaded i a lies) where
@@ -152,7 +152,7 @@ module _ (s : Numbered) (sound : IsSound s.table) (i : ℕ) where
 
 -- ---- what changes
 
-module _ (s : Numbered) (sound : IsSound s.table) (formed : IsWellFormed s.table.memory.regions s.table.memory.blocks) (i a : ℕ) where
+module _ (s : Numbered) (sound : IsSoundTable s.table) (formed : IsWellFormed s.table.memory.regions s.table.memory.blocks) (i a : ℕ) where
   abbrev changed : Option Loaded → Numbered
   changed o = record s { table = record s.table { libs = with_loaded i o s.table.libs } }
 

@@ -8,7 +8,7 @@ use Rattle.execlib.specs.Libraries as library
 use Rattle.execmodel.specs.{State.Library, State.on_heap, Memory.freed, Memory.place_for, Memory.placed, Libraries.base_opened, Libraries.base_or_place, Libraries.entered_or_loaded, Libraries.library_named, Libraries.with_library}
 use Rattle.execmodel.specs.Libraries as model
 use Rattle.script.specs.File.{LibraryData}
-use Rattle.execheap.specs.{Table.Tabled, Table.IsSound, Table.base_at, Table.library_at, Table.library_closed, Table.library_opened, Table.library_removed, Numbered.Numbered, Numbered.IsKept, Numbered.shown_heap, Numbered.shown_library, Numbered.shown_memory}
+use Rattle.execheap.specs.{Table.Tabled, Table.IsSoundTable, Table.base_at, Table.library_at, Table.library_closed, Table.library_opened, Table.library_removed, Numbered.Numbered, Numbered.IsKept, Numbered.shown_heap, Numbered.shown_library, Numbered.shown_memory}
 use Rattle.execheap.proofs.Libraries.{base_shown, count_there, delayed_there, library_at_shown, library_changed, library_freed, library_placed, library_there, openings_shown}
 use Rattle.execheap.proofs.{Blocks.fit_shown, LibraryTables.loads_absent, LibraryTables.loads_loaded, LibraryTables.loads_nowhere, Loaded.lies_at}
 use Rattle.memlist.proofs.Answered.{nat_eq-other}
@@ -26,7 +26,7 @@ at_shown [] i = refl
 at_shown (d ∷ known) zero = refl
 at_shown (d ∷ known) (suc i) = at_shown known i
 
-module _ {s : Numbered} (kept : IsKept s) (sound : IsSound s.table) (formed : IsWellFormed s.table.memory.regions s.table.memory.blocks) where
+module _ {s : Numbered} (kept : IsKept s) (sound : IsSoundTable s.table) (formed : IsWellFormed s.table.memory.regions s.table.memory.blocks) where
   pub size_shown : (i : ℕ) → (model.library_at i (shown_memory s)).size ≡ (library.library_at i s.table.libs).size
   size_shown i = ap (λ (l : LibraryData). l.size) (at_shown s.table.libs.known i)
 

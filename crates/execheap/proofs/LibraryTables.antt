@@ -8,7 +8,7 @@ use Rattle.execlib.specs.Libraries.{Libraries, base_of, base_or_fit, close_fault
 use Rattle.execlib.specs.declared.library.Loaded.{Loaded}
 use Rattle.execlist.specs.Answers.{kept_or}
 use Rattle.execlib.specs.Libraries as library
-use Rattle.execheap.specs.{Tags.is_plain, Tags.library_in, Tags.tagged, declared.tag.Tagged.Tagged, Table.Tabled, Table.IsSound, Table.IsTagged, Table.base_at, Table.library_at, Table.library_closed, Table.library_opened, Table.library_removed, Table.place_of, Table.tag_at}
+use Rattle.execheap.specs.{Tags.is_plain, Tags.library_in, Tags.tagged, declared.tag.Tagged.Tagged, Table.Tabled, Table.IsSoundTable, Table.IsTagged, Table.base_at, Table.library_at, Table.library_closed, Table.library_opened, Table.library_removed, Table.place_of, Table.tag_at}
 use Rattle.execheap.specs.declared.tag.Tagged.TheVariants as tag
 use Rattle.execheap.proofs.{Entries.all_then, Entries.at_found, Entries.some_same, Loaded.base_beside, Loaded.bases_same, Loaded.each_kept, Loaded.lies_at, Loaded.lies_known, Loaded.loaded_here, Loaded.read_library, Loaded.tally_library, Matching.tag_in, Matching.tag_left, Matching.tag_placed, Placing.place_same, Placing.sound_left, Placing.sound_put, Tagging.kind_few}
 
@@ -26,9 +26,9 @@ loads_nowhere i m memory = either (is_loaded i m) where
   either true = refl
   either false = refl
 
-module _ {t : Tabled} (sound : IsSound t) where
+module _ {t : Tabled} (sound : IsSoundTable t) where
   -- libraries change, and lie where they lay
-  pub sound_same : (libs : Libraries) → ((j : ℕ) → base_at j libs ≡ base_at j t.libs) → length libs.loaded ≡ length libs.known → IsSound (record t { libs = libs })
+  pub sound_same : (libs : Libraries) → ((j : ℕ) → base_at j libs ≡ base_at j t.libs) → length libs.loaded ≡ length libs.known → IsSoundTable (record t { libs = libs })
   sound_same libs same each = record {
     matched = record {
       tagged = all_then {P = IsTagged t} {Q = IsTagged (record t { libs = libs })}
@@ -56,7 +56,7 @@ module _ {t : Tabled} (sound : IsSound t) where
           let bad : true ≡ false = sym (ap is_some there) ∙ ap (λ k. is_some (base_at k (expunged i t.libs))) same
           ∙ ap (λ o. is_some (option_map (λ (l : Loaded). l.base) o)) (loaded_here i t.libs None known) in cc
 
-      pub sound_expunged : i < length t.libs.loaded → IsSound (record t { memory = without_block a t.memory; libs = expunged i t.libs })
+      pub sound_expunged : i < length t.libs.loaded → IsSoundTable (record t { memory = without_block a t.memory; libs = expunged i t.libs })
       sound_expunged known = sound_left sound formed a (library_tag i) (expunged i t.libs) (tally_library i) (each_kept i t.libs None sound.each_library)
           (sound.matched.loaded i a lies)
           (λ k m small same. omega (arith, small, same, kind_few k))
@@ -70,9 +70,9 @@ module _ {t : Tabled} (sound : IsSound t) where
 
       -- a library is expunged, or changes where it lies
       pub sound_settled : (leaves : Bool) (l : Loaded) → l.base ≡ base_of i t.libs → i < length t.libs.loaded
-          → IsSound (record t { memory = (if leaves then memory_without i t.libs t.memory else t.memory); libs = (if leaves then expunged i t.libs else with_loaded i (Some l) t.libs) })
+          → IsSoundTable (record t { memory = (if leaves then memory_without i t.libs t.memory else t.memory); libs = (if leaves then expunged i t.libs else with_loaded i (Some l) t.libs) })
       sound_settled true l is known =
-          subst (λ b. IsSound (record t { memory = without_block b t.memory; libs = expunged i t.libs })) (sym (lies_at i t.libs a lies)) (sound_expunged known)
+          subst (λ b. IsSoundTable (record t { memory = without_block b t.memory; libs = expunged i t.libs })) (sym (lies_at i t.libs a lies)) (sound_expunged known)
       sound_settled false l is known =
           sound_same (with_loaded i (Some l) t.libs) (bases_same i t.libs a l lies (is ∙ lies_at i t.libs a lies)) (each_kept i t.libs (Some l) sound.each_library)
 
@@ -92,7 +92,7 @@ module _ {t : Tabled} (sound : IsSound t) where
           ∙ ap (λ o. is_some (option_map (λ (l : Loaded). l.base) o)) absent in cc
 
       pub sound_loaded : (size reqs : ℕ) → Some a ≡ fit t.memory.regions t.memory.blocks size reqs
-          → IsSound (record t { memory = allocated size (library_tag i) (Some a) t.memory; libs = entered_libs })
+          → IsSoundTable (record t { memory = allocated size (library_tag i) (Some a) t.memory; libs = entered_libs })
       sound_loaded size reqs fits = sound_put sound formed a (library_tag i) entered_libs (tally_library i) (each_kept i t.libs (Some l) sound.each_library) size fresh
           (ap (λ x. place_of x a new) (read_library i) ∙ lies_now)
           (ap is_plain (read_library i) ∙ sym (nat_eq-other (library_tag i) 0 (omega arith)))
@@ -118,9 +118,9 @@ module _ {t : Tabled} (sound : IsSound t) where
   -- ---- opened
 
   pub sound_opened : IsWellFormed t.memory.regions t.memory.blocks → (found base : Option ℕ) → IfSome found (λ i. i < length t.libs.known)
-      → base ≡ opened_base found t.libs t.memory → IsSound (library_opened found base t)
+      → base ≡ opened_base found t.libs t.memory → IsSoundTable (library_opened found base t)
   sound_opened formed None base known is = sound
-  sound_opened formed (Some i) None known is = subst (λ memory. IsSound (record t { memory = memory })) (sym (loads_nowhere i t.libs t.memory)) sound
+  sound_opened formed (Some i) None known is = subst (λ memory. IsSoundTable (record t { memory = memory })) (sym (loads_nowhere i t.libs t.memory)) sound
   sound_opened formed (Some i) (Some a) known is = by_loaded (loaded_at i t.libs) refl is where
     there : i < length t.libs.loaded
     there = omega (arith, known, sound.each_library)
@@ -129,11 +129,11 @@ module _ {t : Tabled} (sound : IsSound t) where
     now = entered a (loaded_at i t.libs)
 
     by_loaded : (o : Option Loaded) → loaded_at i t.libs ≡ o → Some a ≡ base_or_fit o (library.library_at i t.libs).size t.memory
-        → IsSound (library_opened (Some i) (Some a) t)
-    by_loaded None absent fits = subst (λ memory. IsSound (record t { memory = memory; libs = with_loaded i (Some now) t.libs }))
+        → IsSoundTable (library_opened (Some i) (Some a) t)
+    by_loaded None absent fits = subst (λ memory. IsSoundTable (record t { memory = memory; libs = with_loaded i (Some now) t.libs }))
         (sym (loads_absent i (Some a) t.libs t.memory absent))
         (sound_loaded formed i a now refl absent there (library.library_at i t.libs).size public_memory fits)
-    by_loaded (Some l) lies at = subst (λ memory. IsSound (record t { memory = memory; libs = with_loaded i (Some now) t.libs }))
+    by_loaded (Some l) lies at = subst (λ memory. IsSoundTable (record t { memory = memory; libs = with_loaded i (Some now) t.libs }))
         (sym (loads_loaded i (Some a) t.libs t.memory l lies))
         (sound_same (with_loaded i (Some now) t.libs)
         (bases_same i t.libs a now (ap (option_map (λ (l : Loaded). l.base)) lies ∙ sym at) refl) (each_kept i t.libs (Some now) sound.each_library))
@@ -154,34 +154,34 @@ module _ {t : Tabled} (sound : IsSound t) where
     by_block None is = let bad : false ≡ true = ap is_some is in cc
     by_block (Some block) is = refl
 
-  pub sound_closed : IsWellFormed t.memory.regions t.memory.blocks → (i : ℕ) → is_loaded i t.libs ≡ true → IsSound (library_closed i t)
+  pub sound_closed : IsWellFormed t.memory.regions t.memory.blocks → (i : ℕ) → is_loaded i t.libs ≡ true → IsSoundTable (library_closed i t)
   sound_closed formed i loaded =
       sound_settled formed i (base_of i t.libs) (loaded_lies i loaded) (leaves_by_close i t.libs)
       (record { base = base_of i t.libs; count = count_of i t.libs - 1; delayed_expunge = is_delayed i t.libs }) refl
       (lies_known i t.libs (base_of i t.libs) (loaded_lies i loaded))
 
-  pub sound_removed : IsWellFormed t.memory.regions t.memory.blocks → (i : ℕ) → is_loaded i t.libs ≡ true → IsSound (library_removed i t)
+  pub sound_removed : IsWellFormed t.memory.regions t.memory.blocks → (i : ℕ) → is_loaded i t.libs ≡ true → IsSoundTable (library_removed i t)
   sound_removed formed i loaded =
       sound_settled formed i (base_of i t.libs) (loaded_lies i loaded) (leaves_by_removal i t.libs)
       (record { base = base_of i t.libs; count = count_of i t.libs; delayed_expunge = true }) refl
       (lies_known i t.libs (base_of i t.libs) (loaded_lies i loaded))
 
   -- what the table becomes of its parts
-  pub sound_after : (u : Tabled) → IsSound u → (memory : Memory) (libs : Libraries) → u.pools ≡ t.pools → u.pool ≡ t.pool → memory ≡ u.memory → libs ≡ u.libs
-      → IsSound (record t { memory = memory; libs = libs })
+  pub sound_after : (u : Tabled) → IsSoundTable u → (memory : Memory) (libs : Libraries) → u.pools ≡ t.pools → u.pool ≡ t.pool → memory ≡ u.memory → libs ≡ u.libs
+      → IsSoundTable (record t { memory = memory; libs = libs })
   sound_after u is memory libs pools pool is_memory is_libs =
-      subst IsSound (λ k. record { memory = sym is_memory k; pools = pools k; pool = pool k; libs = sym is_libs k }) is
+      subst IsSoundTable (λ k. record { memory = sym is_memory k; pools = pools k; pool = pool k; libs = sym is_libs k }) is
 
   pub sound_after_close : IsWellFormed t.memory.regions t.memory.blocks → (i : ℕ) → is_loaded i t.libs ≡ true → close_fault i t.libs ≡ None
       → (memory : Memory) (libs : Libraries) → memory ≡ kept_or (close_fault i t.libs) t.memory (library.memory_after_close i t.libs t.memory)
-      → libs ≡ kept_or (close_fault i t.libs) t.libs (library.closed i t.libs) → IsSound (record t { memory = memory; libs = libs })
+      → libs ≡ kept_or (close_fault i t.libs) t.libs (library.closed i t.libs) → IsSoundTable (record t { memory = memory; libs = libs })
   sound_after_close formed i loaded is_open memory libs is_memory is_libs =
       sound_after (library_closed i t) (sound_closed formed i loaded) memory libs refl refl
       (is_memory ∙ ap (λ fault. kept_or fault t.memory (library.memory_after_close i t.libs t.memory)) is_open)
       (is_libs ∙ ap (λ fault. kept_or fault t.libs (library.closed i t.libs)) is_open)
 
 -- what begins at an address lies there
-pub library_lives : {t : Tabled} → IsSound t → (a : ℕ) (i : ℕ) → library_at a t ≡ Some i → base_at i t.libs ≡ Some a
+pub library_lives : {t : Tabled} → IsSoundTable t → (a : ℕ) (i : ℕ) → library_at a t ≡ Some i → base_at i t.libs ≡ Some a
 library_lives {t} sound a i is = by_block (block_at a t.memory.blocks) refl is where
   by_tag : (x : Tagged) → place_of x a t ≡ Some a → library_in x ≡ Some i → base_at i t.libs ≡ Some a
   by_tag tag.Plain there e = let bad : false ≡ true = ap is_some e in cc
@@ -193,6 +193,6 @@ library_lives {t} sound a i is = by_block (block_at a t.memory.blocks) refl is w
   by_block None found e = let bad : false ≡ true = ap is_some e in cc
   by_block (Some block) found e = by_tag (tagged block.1) (at_found (IsTagged t) a t.memory.blocks block sound.matched.tagged found).0 e
 
-pub library_found_lives : {t : Tabled} → IsSound t → (a : ℕ) (found : Option ℕ) → found ≡ library_at a t → IfSome found (λ i. base_at i t.libs ≡ Some a)
+pub library_found_lives : {t : Tabled} → IsSoundTable t → (a : ℕ) (found : Option ℕ) → found ≡ library_at a t → IfSome found (λ i. base_at i t.libs ≡ Some a)
 library_found_lives sound a None is = tt
 library_found_lives sound a (Some i) is = library_lives sound a i (sym is)

@@ -4,9 +4,9 @@ use Rattle.std.specs.{List.list_any, Ordering.eq_by_cmp, FinMap.find}
 use Rattle.execlist.specs.{Lists.home, Lists.is_at, Lists.sequence, Pool.slot}
 use Rattle.memlist.specs.Blocks.{Blocks}
 use Rattle.memlist.proofs.Answered.{nat_eq-other, nat_eq-same}
-use Rattle.execmodel.specs.Lists.{is_linked, nodes_in, sequence_with, stands_in}
+use Rattle.execmodel.specs.Lists.{is_linked, nodes_in, sequence_with, is_in_nodes}
 use Rattle.execheap.specs.declared.tag.Kind.TheVariants as variant
-use Rattle.execheap.specs.Numbered.{Numbered, IsSound, IsSpace, address_in, places, shown_entry, shown_heap, shown_tagged}
+use Rattle.execheap.specs.Numbered.{Numbered, IsSoundHeap, IsSpace, address_in, places, shown_entry, shown_heap, shown_tagged}
 use Rattle.execheap.specs.{declared.tag.Tagged.Tagged, Tags.tag_of, Tags.tagged, Table.tag_at}
 use Rattle.execheap.specs.declared.tag.Tagged.TheVariants as tag
 use Rattle.execheap.proofs.{Entries.some_same, Beside.at_home, Mapped.Alike, Mapped.alike_apart, Mapped.stands-map, Mapped.stands_by_times, Matching.number_same, Matching.number_small, Tagging.either_number, Tagging.read_tag}
@@ -42,7 +42,7 @@ any_found test b t (e ∷ es) holds is = elim (eq_by_cmp nat_cmp b e.0)
 module _ (s : Numbered) (a : ℕ) where
   -- what a tag names has the address among its nodes
   abbrev has : Tagged → Bool
-  has x = stands_in a (nodes_in (shown_tagged s x))
+  has x = is_in_nodes a (nodes_in (shown_tagged s x))
 
   in_no_list : ((x : Tagged) → has x ≡ false) → (es : Blocks) → sequence_with a (map (shown_entry s) es) ≡ []
   unfolding sequence_with
@@ -62,7 +62,7 @@ module _ (s : Numbered) (a : ℕ) where
         | false ↦ λ here rest. in_one_list nodes one es rest
       ] refl any
 
-module _ {s : Numbered} (sound : IsSound s) (space : IsSpace s) where
+module _ {s : Numbered} (sound : IsSoundHeap s) (space : IsSpace s) where
   -- ---- nodes by number
 
   -- a node that is in a sequence has that list as its home
@@ -88,9 +88,9 @@ module _ {s : Numbered} (sound : IsSound s) (space : IsSpace s) where
 
   -- an address is in the nodes of a list if the node's home is that list
   pub stands_shown : (h n a : ℕ) → slot (places variant.Node s) n ≡ Some a
-      → stands_in a (map (address_in (places variant.Node s)) (sequence s.sequences h)) ≡ is_at (home s.homes n) h
+      → is_in_nodes a (map (address_in (places variant.Node s)) (sequence s.sequences h)) ≡ is_at (home s.homes n) h
   stands_shown h n a here =
-      ap (λ x. stands_in x (map (address_in (places variant.Node s)) (sequence s.sequences h))) (sym (ap (λ o. unwrap_or o 0) here))
+      ap (λ x. is_in_nodes x (map (address_in (places variant.Node s)) (sequence s.sequences h))) (sym (ap (λ o. unwrap_or o 0) here))
       ∙ stands-map (address_in (places variant.Node s)) n (sequence s.sequences h) (told_apart h n a here) ∙ stands_at h n
 
   nowhere : (n a : ℕ) → slot (places variant.Node s) n ≡ Some a → home s.homes n ≡ None → (x : Tagged) → has s a x ≡ false
@@ -125,6 +125,6 @@ module _ {s : Numbered} (sound : IsSound s) (space : IsSpace s) where
 
   pub is_linked_shown : (n a : ℕ) → slot (places variant.Node s) n ≡ Some a → is_linked a (shown_heap s) ≡ is_some (home s.homes n)
   is_linked_shown n a here = elim (home s.homes n) as (λ o. home s.homes n ≡ o → is_linked a (shown_heap s) ≡ is_some o) [
-    | None ↦ λ none. ap (stands_in a) (nowhere_shown n a here none)
-    | Some h ↦ λ there. ap (stands_in a) (sequence_shown n a h here there) ∙ stands_shown h n a here ∙ ap (λ o. is_at o h) there ∙ nat_eq-same h
+    | None ↦ λ none. ap (is_in_nodes a) (nowhere_shown n a here none)
+    | Some h ↦ λ there. ap (is_in_nodes a) (sequence_shown n a h here there) ∙ stands_shown h n a here ∙ ap (λ o. is_at o h) there ∙ nat_eq-same h
   ] refl

@@ -3,11 +3,11 @@ use Rattle.std.proofs.Common.{◌≡◌, ℕ, ◌-◌, ◌<◌, List, [], ◌∷
 use Rattle.std.specs.{Option.ForSome, List.AllByRecursion}
 use Rattle.std.proofs.lemmas.{Simd.map-map, List.map-append}
 use Rattle.execlist.specs.Lists.{KeyData, home, is_at, is_named, last, name_is, part_after, part_before, part_from, pri_of, put_after, sequence, key_at}
-use Rattle.execlist.specs.{Order.enqueue, Order.first, Order.without, Pool.slot}
+use Rattle.execlist.specs.{Order.enqueue, Order.first, Order.without_item, Pool.slot}
 use Rattle.memlist.specs.Memory.{IsWellFormed}
 use Rattle.execmodel.specs.Lists.{added_head, added_tail, enqueued, found_node, first_of, has_name, inserted, key_of, last_of, left_by, nodes_of, or_none, pred_of, predecessor, removed_head, removed_tail, searched, succ_of, unlinked, with_nodes}
 use Rattle.execmodel.specs.State.{Object, ListHead, Block, Heap, on_heap}
-use Rattle.execheap.specs.Numbered.{IsSound, IsSpace, Numbered, address_in, object_of, places, shown_entry, shown_heap, shown_memory, shown_tagged}
+use Rattle.execheap.specs.Numbered.{IsSoundHeap, IsSpace, Numbered, address_in, object_of, places, shown_entry, shown_heap, shown_memory, shown_tagged}
 use Rattle.execheap.specs.{declared.tag.Kind.Kind, declared.tag.Tagged.Tagged, Tags.tagged}
 use Rattle.execheap.specs.declared.tag.Kind.TheVariants as variant
 use Rattle.execheap.specs.declared.tag.Tagged.TheVariants as tag
@@ -23,7 +23,7 @@ heap_set : (s : Numbered) (sequences : List (List ℕ)) (homes : List (Option �
     → shown_memory (record s { sequences = sequences; homes = homes }) ≡ on_heap (λ old. heap) (shown_memory s)
 heap_set s sequences homes heap is = λ i. record (shown_memory s) { heap = is i }
 
-module _ {s : Numbered} (sound : IsSound s) (space : IsSpace s) where
+module _ {s : Numbered} (sound : IsSoundHeap s) (space : IsSpace s) where
   -- ---- nodes of a live list
 
   pub nodes_at : (h list : ℕ) → slot (places variant.List s) h ≡ Some list → nodes_of list (shown_heap s) ≡ map (address_in (places variant.Node s)) (sequence s.sequences h)
@@ -163,23 +163,23 @@ module _ {s : Numbered} (sound : IsSound s) (space : IsSpace s) where
     -- ---- a node leaves the list that has it
 
     -- leaving a node out of every list takes it from the one that has it
-    sequence_without : (n h : ℕ) → home s.homes n ≡ Some h → (m : ℕ) → sequence (slice_set s.sequences h (without n (sequence s.sequences h))) m ≡ without n (sequence s.sequences m)
+    sequence_without : (n h : ℕ) → home s.homes n ≡ Some h → (m : ℕ) → sequence (slice_set s.sequences h (without_item n (sequence s.sequences h))) m ≡ without_item n (sequence s.sequences m)
     sequence_without n h there m =
-        sequence_set s.sequences h (without n (sequence s.sequences h)) m (let list = some_is (slot (places variant.List s) h) (sound.kept.live_lists n h there) in list_known h list.0 list.1)
-        ∙ either_number m h (λ b. (if b then without n (sequence s.sequences h) else sequence s.sequences m) ≡ without n (sequence s.sequences m))
-        (λ same. ap (λ k. without n (sequence s.sequences k)) (sym same))
+        sequence_set s.sequences h (without_item n (sequence s.sequences h)) m (let list = some_is (slot (places variant.List s) h) (sound.kept.live_lists n h there) in list_known h list.0 list.1)
+        ∙ either_number m h (λ b. (if b then without_item n (sequence s.sequences h) else sequence s.sequences m) ≡ without_item n (sequence s.sequences m))
+        (λ same. ap (λ k. without_item n (sequence s.sequences k)) (sym same))
         (λ other. sym (without_absent n (sequence s.sequences m) (stands_at sound space m n ∙ ap (λ o. is_at o m) there ∙ nat_eq-other h m (λ same. other (sym same)))))
 
     -- the objects once a node has left its list
     abbrev emptied : ℕ → ℕ → Numbered
-    emptied n h = numbered.unlinked h (Some n) (without n (sequence s.sequences h)) s
+    emptied n h = numbered.unlinked h (Some n) (without_item n (sequence s.sequences h)) s
 
     object_without : (n node h : ℕ) → slot (places variant.Node s) n ≡ Some node → home s.homes n ≡ Some h → (k : Kind) (m : ℕ)
         → object_of k m (emptied n h) ≡ left_by node (object_of k m s)
     object_without n node h live there variant.List m =
         ap (λ nodes. ListHead (map (address_in (places variant.Node s)) nodes)) (sequence_without n h there m)
         ∙ ap ListHead (sym (without-map (address_in (places variant.Node s)) n (sequence s.sequences m) (told_apart sound space m n node live)))
-        ∙ ap (λ a. ListHead (without a (map (address_in (places variant.Node s)) (sequence s.sequences m)))) (address_is n node live)
+        ∙ ap (λ a. ListHead (without_item a (map (address_in (places variant.Node s)) (sequence s.sequences m)))) (address_is n node live)
     object_without n node h live there _ m = refl
 
     shown_without : (n node h : ℕ) → slot (places variant.Node s) n ≡ Some node → home s.homes n ≡ Some h → (x : Tagged)
@@ -198,7 +198,7 @@ module _ {s : Numbered} (sound : IsSound s) (space : IsSpace s) where
         → shown_memory (numbered.taken_out n s) ≡ on_heap (unlinked node) (shown_memory s)
     taken_out_shown n node h live there =
         ap (λ o. shown_memory (numbered.left_out n o s)) there
-        ∙ heap_set s (slice_set s.sequences h (without n (sequence s.sequences h))) (slice_set s.homes n None) (unlinked node (shown_heap s))
+        ∙ heap_set s (slice_set s.sequences h (without_item n (sequence s.sequences h))) (slice_set s.homes n None) (unlinked node (shown_heap s))
         (emptied_shown n node h live there)
 
 -- a node that leaves a list keeps its address

@@ -20,7 +20,7 @@ no_home : (o : Option ℕ) (h : ℕ) → (o ≡ Some h → true ≡ false) → i
 no_home None h none = refl
 no_home (Some k) h none = either_number k h (λ b. b ≡ false) (λ same. none (ap Some same)) (λ other. refl)
 
--- a list that has no node is no node's home
+-- a list that has no node is not a node's home
 no_node : (s : Numbered) (n : ℕ) → Stands s → sequence s.sequences n ≡ [] → IsLoose variant.List n s
 no_node s n stands empty m h linked same =
     let at : is_at (home s.homes m) n ≡ true = ap (λ o. is_at o n) linked ∙ ap (λ k. nat_eq k n) same ∙ nat_eq-same n in

@@ -9,7 +9,7 @@ use Rattle.sigsem.specs.Semaphores.{Semaphores}
 use Rattle.iorequest.specs.declared.request.Request.{Request as TimerRequest}
 use Rattle.execmodel.specs.{State.Object, Memory.freed, Memory.placed}
 use Rattle.execheap.specs.Numbered.{Numbered, Fits, IsApt, IsKept, message_of_request, object_of, own_shape, places, shape, shown_memory, shown_public, shown_timer}
-use Rattle.execheap.specs.{declared.tag.Kind.Kind, Tags.kind_code, Tags.size_of, Table.Tabled, Table.IsSound, Table.object_at_next, Table.pool_of, Table.slots_of, Table.with_object, Table.without_object}
+use Rattle.execheap.specs.{declared.tag.Kind.Kind, Tags.kind_code, Tags.size_of, Table.Tabled, Table.IsSoundTable, Table.object_at_next, Table.pool_of, Table.slots_of, Table.with_object, Table.without_object}
 use Rattle.execheap.specs.declared.tag.Kind.TheVariants as variant
 use Rattle.execheap.proofs.Matching.{freed_beside, lives_beside, made_beside, next_known, next_vacant, other_object, sound_freed, sound_made}
 use Rattle.execheap.proofs.{Entries.some_same, Front.front, InTime.IsAlong, Kept.about_freed, Kept.kept_freed, Kept.kept_made, Kept.pool_freed, Kept.pool_made, Kept.slots_freed, Kept.slots_made, Showing.freed_shown, Showing.made_shown, Stepping.shape_given, Stepping.shape_length, Stepping.shape_lives, Stepping.shape_next, Stepping.shape_released}
@@ -32,14 +32,14 @@ own_kept s u pool ports sems requests _ = refl
 -- an object was made in the table, of that number and at that address
 pub record IsMade (kind : Kind) (s : Numbered) (n a : ℕ) (t : Tabled) : Type 0 where
   pub kept : IsKept s
-  pub sound : IsSound s.table
+  pub sound : IsSoundTable s.table
   pub formed : IsWellFormed s.table.memory.regions s.table.memory.blocks
   pub stocked : IsStocked (pool_of kind s.table)
   pub number : next_number (pool_of kind s.table) ≡ Some n
   pub address : fit s.table.memory.regions s.table.memory.blocks (size_of kind) 1 ≡ Some a
   pub is : t ≡ with_object kind (Some (n, a)) s.table
 
-module _ {s : Numbered} (kept : IsKept s) (sound : IsSound s.table) (formed : IsWellFormed s.table.memory.regions s.table.memory.blocks)
+module _ {s : Numbered} (kept : IsKept s) (sound : IsSoundTable s.table) (formed : IsWellFormed s.table.memory.regions s.table.memory.blocks)
     (kind : Kind) (stocked : IsStocked (pool_of kind s.table)) (n a : ℕ) (t : Tabled) (is : t ≡ with_object kind (Some (n, a)) s.table) where
   pub made_at : Some (n, a) ≡ object_at_next kind (next_number (pool_of kind s.table)) s.table → IsMade kind s n a t
   made_at answer = by_next (next_number (pool_of kind s.table)) refl answer where
@@ -84,8 +84,8 @@ module _ {kind : Kind} {s : Numbered} {n a : ℕ} {t : Tabled} (made : IsMade ki
   pub stays_new : (k : Kind) (m b : ℕ) → slot (places k s) m ≡ Some b → slot (slots_of k t) m ≡ slot (places k s) m
   stays_new k m b lives = beside k m (lives_beside made.sound made.formed kind n a made.stocked made.number made.address k m b lives)
 
-  pub sound_new : IsSound t
-  sound_new = subst IsSound (sym made.is) (sound_made made.sound made.formed kind n a made.stocked made.number made.address)
+  pub sound_new : IsSoundTable t
+  sound_new = subst IsSoundTable (sym made.is) (sound_made made.sound made.formed kind n a made.stocked made.number made.address)
 
   -- what objects hold fits the table if what holds the objects of other kinds gives the same numbers, and that of this kind the next
   pub kept_new : (u : Numbered) → u.table ≡ t → u.sequences ≡ s.sequences → u.homes ≡ s.homes
@@ -131,12 +131,12 @@ IsLoose _ n s = ⊤
 -- the object of that number and address was freed in the table
 pub record IsFreed (kind : Kind) (s : Numbered) (n a : ℕ) (t : Tabled) : Type 0 where
   pub kept : IsKept s
-  pub sound : IsSound s.table
+  pub sound : IsSoundTable s.table
   pub formed : IsWellFormed s.table.memory.regions s.table.memory.blocks
   pub live : slot (slots_of kind s.table) n ≡ Some a
   pub is : t ≡ without_object kind n a s.table
 
-pub freed_at : {s seen : Numbered} → s ≡ seen → IsKept s → IsSound s.table → IsWellFormed s.table.memory.regions s.table.memory.blocks
+pub freed_at : {s seen : Numbered} → s ≡ seen → IsKept s → IsSoundTable s.table → IsWellFormed s.table.memory.regions s.table.memory.blocks
     → (kind : Kind) (n a : ℕ) (t : Tabled) → slot (slots_of kind seen.table) n ≡ Some a → t ≡ without_object kind n a s.table → IsFreed kind s n a t
 freed_at view kept sound formed kind n a t live is =
     record { kept = kept; sound = sound; formed = formed; live = ap (λ (u : Numbered). slot (slots_of kind u.table) n) view ∙ live; is = is }
@@ -151,8 +151,8 @@ module _ {kind : Kind} {s : Numbered} {n a : ℕ} {t : Tabled} (gone : IsFreed k
   pub stays_left : (k : Kind) (m b : ℕ) → b ≢ a → slot (places k s) m ≡ Some b → slot (slots_of k t) m ≡ slot (places k s) m
   stays_left k m b other lives = beside_left k m (other_object gone.sound gone.formed kind n a gone.live k m b other lives)
 
-  pub sound_left : IsSound t
-  sound_left = subst IsSound (sym gone.is) (sound_freed gone.sound gone.formed kind n a gone.live)
+  pub sound_left : IsSoundTable t
+  sound_left = subst IsSoundTable (sym gone.is) (sound_freed gone.sound gone.formed kind n a gone.live)
 
   -- what objects hold fits the table, if nothing has it, and what holds the objects of other kinds gives the same numbers
   pub kept_left : (u : Numbered) → u.table ≡ t → u.sequences ≡ s.sequences → u.homes ≡ s.homes

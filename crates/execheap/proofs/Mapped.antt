@@ -3,7 +3,7 @@
 use Rattle.std.proofs.Common.{◌≡◌, ℕ, suc, ◌-◌, ◌==◌, Bool, true, false, cond, not, ◌||◌, List, [], ◌∷◌, ◌++◌, length, take, drop, map, find, refl, sym, ◌∙◌, ap, arith, Option, Some, None, option_map, inl, inr, ◌⊎◌, ℤ, int_lt, if◌then◌else◌, eq-eqb, ne_eqb}
 use Rattle.std.specs.{List.AllByRecursion, List.list_any, Option.ForSome}
 use Rattle.std.proofs.lemmas.{Bool.cases_eq, Bool.or_left, Bool.or_parts, Bool.or_right, List.drop-map, List.length-map, List.map-append, List.take-map}
-use Rattle.execlist.specs.{Order.chosen, Order.chosen_or, Order.enqueue, Order.first, Order.is_lower, Order.without, Lists.last, Lists.part_after, Lists.part_before, Lists.put_after, Lists.times}
+use Rattle.execlist.specs.{Order.chosen, Order.chosen_or, Order.enqueue, Order.first, Order.is_lower, Order.without_item, Lists.last, Lists.part_after, Lists.part_before, Lists.put_after, Lists.times}
 
 -- f distinguishes n from the members of a sequence
 abbrev pub Alike : (ℕ → ℕ) → ℕ → List ℕ → Type 0
@@ -37,11 +37,11 @@ pub put_after-map : (f : ℕ → ℕ) (pred : Option ℕ) (n : ℕ) (xs : List �
 put_after-map f None n xs alike = refl
 put_after-map f (Some p) n xs alike = put_after-map_some f p n xs (alike p refl)
 
-pub without-map : (f : ℕ → ℕ) (n : ℕ) (xs : List ℕ) → Alike f n xs → without (f n) (map f xs) ≡ map f (without n xs)
+pub without-map : (f : ℕ → ℕ) (n : ℕ) (xs : List ℕ) → Alike f n xs → without_item (f n) (map f xs) ≡ map f (without_item n xs)
 without-map f n [] alike = refl
 without-map f n (x ∷ xs) alike =
     (λ i. cond (not (alike.0 i)) (f x ∷ without-map f n xs alike.1 i) (without-map f n xs alike.1 i))
-    ∙ cond-map (map f) (not (x == n)) (x ∷ without n xs) (without n xs)
+    ∙ cond-map (map f) (not (x == n)) (x ∷ without_item n xs) (without_item n xs)
 
 -- ---- the two ends
 
@@ -114,7 +114,7 @@ stands_by_times n (x ∷ xs) b t = by_case (x == n) b t (stands_by_times n xs b)
   by_case false b t rest = rest t
 
 -- to leave out a node that is not there changes nothing
-pub without_absent : (n : ℕ) (xs : List ℕ) → list_any (λ other. other == n) xs ≡ false → without n xs ≡ xs
+pub without_absent : (n : ℕ) (xs : List ℕ) → list_any (λ other. other == n) xs ≡ false → without_item n xs ≡ xs
 without_absent n [] none = refl
 without_absent n (x ∷ xs) none =
     let parts = or_parts (x == n) (list_any (λ other. other == n) xs) none in

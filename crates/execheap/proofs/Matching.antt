@@ -9,7 +9,7 @@ use Rattle.execlist.specs.Pool.{IsStocked, Pooled, all_free, given, next_number,
 use Rattle.execlist.proofs.Pools.{given_slots, slot_known, slot_other, slot_same, taken_given, taken_released}
 use Rattle.execheap.proofs.{Entries.all_then, Entries.at_found, Entries.some_same, Counting.all_freed, Counting.all_placed, Counting.passing_freed, Counting.passing_put, Counting.tally, Tagging.cases_kind, Tagging.kind_few, Tagging.read_tag, Tagging.same_other, Tagging.same_self, Tagging.tag_same}
 use Rattle.execheap.specs.declared.tag.Tagged.TheVariants.{Plain, Object, Library}
-use Rattle.execheap.specs.{declared.tag.Kind.Kind, declared.tag.Tagged.Tagged, Tags.is_of, Tags.is_plain, Tags.is_same, Tags.kind_code, Tags.number_in, Tags.size_of, Tags.tag_of, Tags.tagged, Table.Tabled, Table.IsMatched, Table.IsSound, Table.IsTagged, Table.number_at, Table.place_of, Table.pool_of, Table.slots_of, Table.tag_at, Table.with_object, Table.without_object}
+use Rattle.execheap.specs.{declared.tag.Kind.Kind, declared.tag.Tagged.Tagged, Tags.is_of, Tags.is_plain, Tags.is_same, Tags.kind_code, Tags.number_in, Tags.size_of, Tags.tag_of, Tags.tagged, Table.Tabled, Table.IsMatched, Table.IsSoundTable, Table.IsTagged, Table.number_at, Table.place_of, Table.pool_of, Table.slots_of, Table.tag_at, Table.with_object, Table.without_object}
 
 -- the tag of a block that was found, or of none
 abbrev pub tag_in : Option (ℕ × ℕ) → Option ℕ
@@ -33,7 +33,7 @@ module _ (a b g : ℕ) (blocks : Blocks) (there : tag_at b blocks ≡ Some g) wh
       ∙ ap (λ c. cond (not c) (block_at b blocks) None) (nat_eq-other b a other))
       ∙ there
 
-module _ {t : Tabled} (sound : IsSound t) where
+module _ {t : Tabled} (sound : IsSoundTable t) where
   -- ---- what is found
 
   pub number_small : (kind : Kind) (number a : ℕ) → slot (slots_of kind t) number ≡ Some a → number < 1024
@@ -84,7 +84,7 @@ module _ {t : Tabled} (sound : IsSound t) where
 
 -- ---- one pool changes
 
-module _ {t : Tabled} (sound : IsSound t) (kind : Kind) (p : Pooled ℕ) (memory : Memory) where
+module _ {t : Tabled} (sound : IsSoundTable t) (kind : Kind) (p : Pooled ℕ) (memory : Memory) where
   abbrev pub changed : Tabled
   changed = record { memory = memory; pools = slice_set t.pools (kind_code kind) p; pool = t.pool; libs = t.libs }
 
@@ -107,7 +107,7 @@ module _ {t : Tabled} (sound : IsSound t) (kind : Kind) (p : Pooled ℕ) (memory
         (ap (λ (q : Pooled ℕ). length q.slots) pool_here ∙ ap length set ∙ length-set (slots_of kind t) number o))
         (λ other. ap (λ (q : Pooled ℕ). length q.slots) (pool_other k other))
 
-    pub sound_changed : IsMatched changed → IsSound changed
+    pub sound_changed : IsMatched changed → IsSoundTable changed
     sound_changed matched = record {
       matched = matched;
       each = λ k. length_kept k ∙ sound.each k;
@@ -136,7 +136,7 @@ tally_other kind k number small ne =
 
 -- ---- an object is made
 
-module _ {t : Tabled} (sound : IsSound t) (formed : IsWellFormed t.memory.regions t.memory.blocks) (kind : Kind) (number a : ℕ)
+module _ {t : Tabled} (sound : IsSoundTable t) (formed : IsWellFormed t.memory.regions t.memory.blocks) (kind : Kind) (number a : ℕ)
     (stocked : IsStocked (pool_of kind t)) (next : next_number (pool_of kind t) ≡ Some number)
     (fits : fit t.memory.regions t.memory.blocks (size_of kind) 1 ≡ Some a) where
   abbrev made : Tabled
@@ -197,7 +197,7 @@ module _ {t : Tabled} (sound : IsSound t) (formed : IsWellFormed t.memory.region
       )))
       (λ ne. omega (arith, ap (λ (q : Pooled ℕ). taken q.slots) (pool_other sound kind (given a (pool_of kind t)) made.memory k ne), tally_other kind k number small ne))
 
-  pub sound_made : IsSound made
+  pub sound_made : IsSoundTable made
   sound_made = sound_changed sound kind (given a (pool_of kind t)) made.memory number (Some a) set (record {
     tagged = all_placed (IsTagged made) a (round (size_of kind), tag_of kind number) t.memory.blocks (
       ap (λ x. place_of x a made) (read_tag kind number small) ∙ made_here,
@@ -211,7 +211,7 @@ module _ {t : Tabled} (sound : IsSound t) (formed : IsWellFormed t.memory.region
 
 -- ---- an object is freed
 
-module _ {t : Tabled} (sound : IsSound t) (formed : IsWellFormed t.memory.regions t.memory.blocks) (kind : Kind) (number a : ℕ)
+module _ {t : Tabled} (sound : IsSoundTable t) (formed : IsWellFormed t.memory.regions t.memory.blocks) (kind : Kind) (number a : ℕ)
     (live : slot (slots_of kind t) number ≡ Some a) where
   abbrev without : Tabled
   without = without_object kind number a t
@@ -265,9 +265,9 @@ module _ {t : Tabled} (sound : IsSound t) (formed : IsWellFormed t.memory.region
         tally_other kind k number (number_small sound kind number a live) ne,
       ))
 
-  pub sound_freed : IsSound without
+  pub sound_freed : IsSoundTable without
   sound_freed = by_block (block_at a t.memory.blocks) refl where
-    by_block : (o : Option (ℕ × ℕ)) → block_at a t.memory.blocks ≡ o → IsSound without
+    by_block : (o : Option (ℕ × ℕ)) → block_at a t.memory.blocks ≡ o → IsSoundTable without
     by_block None none = let bad : false ≡ true = ap is_some (sym (ap tag_in none) ∙ sound.matched.complete kind number a live) in cc
     by_block (Some block) there =
         let tag : block.1 ≡ tag_of kind number = some_same (sym (ap tag_in there) ∙ sound.matched.complete kind number a live) in

@@ -7,7 +7,7 @@ use Rattle.execlist.specs.{Lists.home, Lists.is_at, Order.first, Pool.slot}
 use Rattle.execlist.proofs.Pools.{slot_known}
 use Rattle.msgport.specs.Ports as ports
 use Rattle.msgport.specs.Ports.{messages_of}
-use Rattle.execheap.specs.{declared.tag.Kind.Kind, Table.Tabled, Table.IsSound, Table.slots_of, Numbered.Numbered, Numbered.address_in, Numbered.message_of_request, Numbered.message_places, Numbered.places}
+use Rattle.execheap.specs.{declared.tag.Kind.Kind, Table.Tabled, Table.IsSoundTable, Table.slots_of, Numbered.Numbered, Numbered.address_in, Numbered.message_of_request, Numbered.message_places, Numbered.places}
 use Rattle.execheap.specs.declared.tag.Kind.TheVariants as variant
 use Rattle.execheap.specs.Numbered as numbered
 use Rattle.execheap.proofs.{Beside.addresses_kept, Entries.some_same, Front.message_has, Linked.some_is, Mapped.Alike, Mapped.alike_apart, Mapped.stands_by_times, Made.IsFreed, Made.IsMade, Made.sound_left, Made.sound_new, Made.stays_left, Made.stays_new, Matching.number_same, Tagging.tag_same}
@@ -20,7 +20,7 @@ queue_places t = slots_of variant.Message t ++ slots_of variant.Request t
 pub by_number : {C : Type 0} (m pool : ℕ) → (m < pool → C) → (pool ≤ m → C) → C
 by_number m pool below from = elim (cases_lt m pool) [ inl less ↦ below less | inr past ↦ from past ]
 
-module _ {t : Tabled} (sound : IsSound t) where
+module _ {t : Tabled} (sound : IsSoundTable t) where
   pub place_below : (m : ℕ) → m < t.pool → slot (queue_places t) m ≡ slot (slots_of variant.Message t) m
   place_below m below =
       get_or_append_left (slots_of variant.Message t) (slots_of variant.Request t) None m (omega (arith, sound.each variant.Message))
@@ -57,7 +57,7 @@ module _ {t : Tabled} (sound : IsSound t) where
           (λ code number. absurd (omega (arith, code)))
 
 -- what has an address keeps it if its message or its request does
-pub place_kept : {t u : Tabled} → IsSound t → IsSound u → u.pool ≡ t.pool → (m : ℕ)
+pub place_kept : {t u : Tabled} → IsSoundTable t → IsSoundTable u → u.pool ≡ t.pool → (m : ℕ)
     → (m < t.pool → slot (slots_of variant.Message u) m ≡ slot (slots_of variant.Message t) m)
     → (t.pool ≤ m → slot (slots_of variant.Request u) (m - t.pool) ≡ slot (slots_of variant.Request t) (m - t.pool))
     → slot (queue_places u) m ≡ slot (queue_places t) m
@@ -80,7 +80,7 @@ first_stands (x ∷ xs) m is = or_left (x == m) (list_any (λ other. other == m)
 abbrev pub Standing : ℕ → ℕ → Numbered → Type 0
 Standing p m s = list_any (λ other. other == m) (messages_of p s.ports) ≡ true
 
-module _ {s : Numbered} (sound : numbered.IsSound s) (held : ports.IsSound s.ports) where
+module _ {s : Numbered} (sound : numbered.IsSoundHeap s) (held : ports.IsSoundPorts s.ports) where
   -- it has that place
   pub stands_in_port : (p m : ℕ) → list_any (λ other. other == m) (messages_of p s.ports) ≡ is_at (home s.ports.places m) p
   stands_in_port p m = stands_by_times m (messages_of p s.ports) (is_at (home s.ports.places m) p) (held.stands p m)
@@ -129,7 +129,7 @@ module _ {s : Numbered} (sound : numbered.IsSound s) (held : ports.IsSound s.por
 -- ---- what is in a port keeps its address if an object of any kind is made or freed
 
 module _ {kind : Kind} {s : Numbered} {n a : ℕ} {t : Tabled} where
-  pub standing_new : IsMade kind s n a t → ports.IsSound s.ports → (p : ℕ) → map (address_in (queue_places t)) (messages_of p s.ports) ≡ map (address_in (message_places s)) (messages_of p s.ports)
+  pub standing_new : IsMade kind s n a t → ports.IsSoundPorts s.ports → (p : ℕ) → map (address_in (queue_places t)) (messages_of p s.ports) ≡ map (address_in (message_places s)) (messages_of p s.ports)
   standing_new made held p =
       addresses_kept (message_places s) (queue_places t) (messages_of p s.ports) (λ m stands.
       let b = standing_placed {s = s} (record { table = made.sound; kept = made.kept }) held p m stands in
@@ -138,11 +138,11 @@ module _ {kind : Kind} {s : Numbered} {n a : ℕ} {t : Tabled} where
       (λ from. stays_new made variant.Request (m - s.table.pool) b.0 (sym (place_from made.sound m from) ∙ b.1)))
 
   -- if what is freed is in no port
-  pub standing_left : IsFreed kind s n a t → ports.IsSound s.ports → (k : ℕ) → slot (message_places s) k ≡ Some a → home s.ports.places k ≡ None → (p : ℕ)
+  pub standing_left : IsFreed kind s n a t → ports.IsSoundPorts s.ports → (k : ℕ) → slot (message_places s) k ≡ Some a → home s.ports.places k ≡ None → (p : ℕ)
       → map (address_in (queue_places t)) (messages_of p s.ports) ≡ map (address_in (message_places s)) (messages_of p s.ports)
   standing_left gone held k here loose p =
       addresses_kept (message_places s) (queue_places t) (messages_of p s.ports) (λ m stands.
-      let whole : numbered.IsSound s = record { table = gone.sound; kept = gone.kept } in
+      let whole : numbered.IsSoundHeap s = record { table = gone.sound; kept = gone.kept } in
       let b = standing_placed {s = s} whole held p m stands in
       let other : b.0 ≢ a = λ same. loose_apart {s = s} whole held k a here loose p m stands (b.1 ∙ ap Some same) in
       place_kept gone.sound (sound_left gone) (ap (λ (u : Tabled). u.pool) gone.is) m
@@ -150,5 +150,5 @@ module _ {kind : Kind} {s : Numbered} {n a : ℕ} {t : Tabled} where
       (λ from. stays_left gone variant.Request (m - s.table.pool) b.0 other (sym (place_from gone.sound m from) ∙ b.1)))
 
 -- the message of a request
-pub request_standing : (s : Numbered) → IsSound s.table → (r : ℕ) → slot (message_places s) (message_of_request r s) ≡ slot (places variant.Request s) r
+pub request_standing : (s : Numbered) → IsSoundTable s.table → (r : ℕ) → slot (message_places s) (message_of_request r s) ≡ slot (places variant.Request s) r
 request_standing s sound r = place_request sound r

@@ -39,7 +39,7 @@ module _ {s : Numbered} {n a : ℕ} {t : Tabled} (q : MessagePorts) where
           (subst (λ r. numbered.IsApt r s.sems s.tasks) (sym is) (record { own_signals = made.kept.apt.own_signals; each_task = made.kept.apt.each_task }))
           (along_message n (Some (new_message reply word)) (within made) slots (ap (λ (r : MessagePorts). r.places) is) (ap (λ (r : MessagePorts). r.holding) is) refl refl)
 
-      pub message_made_shown : ports.IsSound s.ports → shown_memory (changed s t q) ≡ placed 24 (Message (new_message reply word)) (Some a) (shown_memory s)
+      pub message_made_shown : ports.IsSoundPorts s.ports → shown_memory (changed s t q) ≡ placed 24 (Message (new_message reply word)) (Some a) (shown_memory s)
       message_made_shown held = shown_new made (changed s t q) (Message (new_message reply word)) refl refl others
           (ap (λ o. Message (unwrap_or o (new_message 0 0)))
           (ap (λ xs. slot xs n) slots ∙ slot_same s.ports.messages.slots n (Some (new_message reply word)) (omega (arith, within made, made.kept.in_time.each_message))))
@@ -64,7 +64,7 @@ module _ {s : Numbered} {n a : ℕ} {t : Tabled} (q : MessagePorts) where
     below = message_small gone.kept gone.sound n (ap is_some gone.live)
 
     -- one that is in no port may be freed
-    pub message_loose : home s.ports.places n ≡ None → ports.loose_fault n s.ports ≡ None
+    pub message_loose : home s.ports.places n ≡ None → ports.linked_fault n s.ports ≡ None
     message_loose loose = unheld_loose gone.kept.in_time n below message_lives loose
 
     module _ (is : q ≡ message_freed n s.ports) where
@@ -76,7 +76,7 @@ module _ {s : Numbered} {n a : ℕ} {t : Tabled} (q : MessagePorts) where
           (along_message n None below (ap (λ (r : MessagePorts). r.messages.slots) is) (ap (λ (r : MessagePorts). r.places) is)
           (ap (λ (r : MessagePorts). r.holding) is) refl refl)
 
-      pub message_freed_shown : ports.IsSound s.ports → home s.ports.places n ≡ None → shown_memory (changed s t q) ≡ freed a (shown_memory s)
+      pub message_freed_shown : ports.IsSoundPorts s.ports → home s.ports.places n ≡ None → shown_memory (changed s t q) ≡ freed a (shown_memory s)
       message_freed_shown held loose = shown_left gone (changed s t q) refl refl others
           (public_kept s (changed s t q) (apart_left gone variant.Port (omega arith)) (ap (λ (r : MessagePorts). r.keys) is) (ap (λ (r : MessagePorts). r.public) is))
           (timer_kept s (changed s t q) (apart_left gone variant.Request (omega arith)) refl)

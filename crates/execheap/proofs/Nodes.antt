@@ -1,11 +1,11 @@
 -- Nodes made and freed.
-use Rattle.std.proofs.Common.{◌≡◌, ◌≢◌, ℕ, ◌<◌, List, true, false, length, map, refl, ap, sym, ◌∙◌, arith, Some, None, Option, is_some, slice_set, ◌++◌, get_or-set_other, get_or-set_same}
+use Rattle.std.proofs.Common.{◌≡◌, ◌≢◌, ℕ, ◌<◌, List, true, false, length, map, refl, ap, sym, ◌∙◌, arith, Some, None, is_some, slice_set, ◌++◌, get_or-set_other, get_or-set_same}
 use Rattle.execlist.specs.{Lists.KeyData, Lists.blank, Lists.home, Pool.slot}
 use Rattle.execmodel.specs.{State.ListHead, State.MsgPort, State.Node, Memory.freed, Memory.placed}
 use Rattle.msgport.specs.Ports.{messages_of, port_at}
 use Rattle.execheap.specs.{declared.tag.Kind.Kind, Table.Tabled, Numbered.Numbered, Numbered.IsKept, Numbered.address_in, Numbered.object_of, Numbered.places, Numbered.shown_memory}
 use Rattle.execheap.specs.declared.tag.Kind.TheVariants as variant
-use Rattle.execheap.proofs.{Beside.nodes_beside, Beside.public_kept, Beside.timer_kept, InTime.along_same, Lists.Stands, Made.IsMade, Made.IsFreed, Made.IsLoose, Made.own_kept, Made.within, Made.not_new, Made.apart, Made.beside, Made.kept_new, Made.shown_new, Made.apart_left, Made.beside_left, Made.kept_left, Made.shown_left}
+use Rattle.execheap.proofs.{Beside.nodes_beside, Beside.public_kept, Beside.timer_kept, InTime.along_same, Lists.Stands, Made.IsMade, Made.IsFreed, Made.IsLoose, Made.own_kept, Made.within, Made.not_new, Made.apart, Made.beside, Made.shown_new, Made.apart_left, Made.beside_left, Made.kept_left, Made.shown_left}
 
 -- a node is in no list
 node_loose : (s : Numbered) (n : ℕ) → home s.homes n ≡ None → IsLoose variant.Node n s
@@ -15,17 +15,6 @@ module _ {s : Numbered} {n a : ℕ} {t : Tabled} where
   module _ (made : IsMade variant.Node s n a t) where
     pub node_known : n < length s.homes
     node_known = omega (arith, within made, made.sound.each variant.Node, made.kept.each_node)
-
-    -- a number that is free has no home
-    pub node_unlinked : home s.homes n ≡ None
-    node_unlinked = by_home (home s.homes n) refl where
-      by_home : (o : Option ℕ) → home s.homes n ≡ o → o ≡ None
-      by_home None is = refl
-      by_home (Some h) is = absurd (not_new made n (made.kept.live_nodes n (ap is_some is)) refl)
-
-    pub node_made_kept : (keys : List KeyData) → IsKept (record s { table = t; keys = keys })
-    node_made_kept keys = kept_new made (record s { table = t; keys = keys }) refl refl refl (λ k other. own_kept s (record s { table = t; keys = keys }) (ap (λ u. u.pool) made.is) refl refl refl k) tt
-        made.kept.apt (along_same refl refl refl)
 
     pub node_made_shown : Stands s → (key : KeyData) → length s.keys ≡ length s.homes
         → shown_memory (record s { table = t; keys = slice_set s.keys n key }) ≡ placed 14 (Node key) (Some a) (shown_memory s)

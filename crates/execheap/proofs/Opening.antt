@@ -1,15 +1,15 @@
--- Libraries are opened by number as they are by address, once others were expunged under low memory.
+-- Libraries are opened by number as they are by address, after others were asked for memory.
 use Rattle.std.proofs.Common.{◌≡◌, ℕ, List, refl, ap, sym, ◌∙◌, Some, None, Option, is_some, if◌then◌else◌, option_map}
 use Rattle.memlist.specs.Memory.{IsWellFormed}
 use Rattle.execlib.specs.{declared.library.Loaded.Loaded, Libraries.Lent, Libraries.lent, Libraries.library_to_open, Libraries.loaded_at, Libraries.opened_base}
 use Rattle.execlib.specs.Libraries as library
-use Rattle.execmodel.specs.GivingWay as asking
+use Rattle.execmodel.specs.LowMemory as asking
 use Rattle.execmodel.specs.Libraries as model
 use Rattle.execmodel.specs.Libraries.{base_opened}
-use Rattle.execheap.specs.{Table.Tabled, Table.IsSound, Table.library_opened, Table.ready_to_open, Numbered.Numbered, Numbered.IsKept, Numbered.shown_heap, Numbered.shown_memory}
+use Rattle.execheap.specs.{Table.Tabled, Table.IsSoundTable, Table.library_opened, Table.ready_to_open, Numbered.Numbered, Numbered.IsKept, Numbered.shown_heap, Numbered.shown_memory}
 use Rattle.execheap.proofs.{Asked.after_shown, Asked.kept_lent, Asked.lending, Asking.IsSettled, Asking.known_for, Asking.settled_for, Asking.settled_now, Libraries.base_shown, LibraryCalls.base_opened_shown, LibraryCalls.library_opened_shown, LibraryCalls.size_shown, LibraryCalls.to_open_shown, Loaded.to_open_known}
 
-module _ {s : Numbered} (kept : IsKept s) (sound : IsSound s.table) (formed : IsWellFormed s.table.memory.regions s.table.memory.blocks) where
+module _ {s : Numbered} (kept : IsKept s) (sound : IsSoundTable s.table) (formed : IsWellFormed s.table.memory.regions s.table.memory.blocks) where
   abbrev before : Lent
   before = lent s.table.libs s.table.memory
 

@@ -9,16 +9,16 @@ use Rattle.execmodel.specs.Memory as model
 use Rattle.execmodel.specs.Memory.{freed, is_named, placed}
 use Rattle.execheap.proofs.{Entries.at_found, Entries.put_shown, Entries.some_same, Entries.where_key_shown, Counting.tally, Beside.objects_kept, Showing.block_shown, Matching.counts, Matching.tag_in, Matching.tag_left, Matching.tag_placed, Placing.sound_left, Placing.sound_put, Tagging.read_plain}
 use Rattle.execheap.specs.declared.tag.Tagged.TheVariants.{Plain, Object, Library}
-use Rattle.execheap.specs.{declared.tag.Kind.Kind, declared.tag.Tagged.Tagged, Tags.is_of, Tags.is_plain, Tags.tagged, Table.Tabled, Table.IsSound, Table.IsTagged, Table.place_of, Table.tag_at, Numbered.Numbered, Numbered.shown_block, Numbered.shown_entry, Numbered.shown_heap, Numbered.shown_memory, Numbered.shown_tagged}
+use Rattle.execheap.specs.{declared.tag.Kind.Kind, declared.tag.Tagged.Tagged, Tags.is_of, Tags.is_plain, Tags.tagged, Table.Tabled, Table.IsSoundTable, Table.IsTagged, Table.place_of, Table.tag_at, Numbered.Numbered, Numbered.shown_block, Numbered.shown_entry, Numbered.shown_heap, Numbered.shown_memory, Numbered.shown_tagged}
 use Rattle.execheap.specs.declared.tag.Kind.TheVariants as variant
 
 -- a plain block counts for no kind
 tally_plain : (kind : Kind) → tally (counts kind) 0 ≡ 0
 tally_plain kind = ap (λ x. cond (is_of kind x) 1 0) read_plain
 
-module _ {t : Tabled} (sound : IsSound t) (formed : IsWellFormed t.memory.regions t.memory.blocks) where
+module _ {t : Tabled} (sound : IsSoundTable t) (formed : IsWellFormed t.memory.regions t.memory.blocks) where
   pub sound_allocated : (size reqs : ℕ) (o : Option ℕ) → o ≡ fit t.memory.regions t.memory.blocks size reqs
-      → IsSound (record t { memory = allocated size 0 o t.memory })
+      → IsSoundTable (record t { memory = allocated size 0 o t.memory })
   sound_allocated size reqs None is = sound
   sound_allocated size reqs (Some a) is = sound_put sound formed a 0 t.libs tally_plain sound.each_library size fresh
       (ap (λ x. place_of x a (record t { memory = allocated size 0 (Some a) t.memory })) read_plain) (ap is_plain read_plain) (λ i b there. there)
@@ -35,17 +35,17 @@ module _ {t : Tabled} (sound : IsSound t) (formed : IsWellFormed t.memory.region
     by_tag true is ok = from_eq block.1 0 is
     by_tag false is ok = let bad : true ≡ false = ok ∙ ap (λ b. b && nat_lt 0 size && nat_eq (round size) block.0) is in cc
 
-  sound_released : (a : ℕ) → tag_at a t.memory.blocks ≡ Some 0 → IsSound (record t { memory = without_block a t.memory })
+  sound_released : (a : ℕ) → tag_at a t.memory.blocks ≡ Some 0 → IsSoundTable (record t { memory = without_block a t.memory })
   sound_released a plain = sound_left sound formed a 0 t.libs tally_plain sound.each_library plain
       (λ k m small same. omega (arith, same)) (λ i b other there. there)
       (λ i b there. tag_left a b (library_tag i) t.memory.blocks (sound.matched.loaded i b there)
       (λ same. (let bad : library_tag i ≡ 0 = some_same (sym (sound.matched.loaded i b there) ∙ ap (λ x. tag_at x t.memory.blocks) same ∙ plain) in omega (arith, bad))))
 
   pub sound_plain_freed : {A E : Type 0} (memory : Memory) (a size : ℕ) (r : Result A E) → is_ok r ≡ can_free a size t.memory.blocks
-      → OnOk r (memory ≡ without_block a t.memory) → OnErr r (memory ≡ t.memory) → IsSound (record t { memory = memory })
+      → OnOk r (memory ≡ without_block a t.memory) → OnErr r (memory ≡ t.memory) → IsSoundTable (record t { memory = memory })
   sound_plain_freed memory a size (Ok x) may ok err =
-      subst (λ m. IsSound (record t { memory = m })) (sym ok) (sound_released a (plain_there a size (block_at a t.memory.blocks) refl may))
-  sound_plain_freed memory a size (Err x) may ok err = subst (λ m. IsSound (record t { memory = m })) (sym err) sound
+      subst (λ m. IsSoundTable (record t { memory = m })) (sym ok) (sound_released a (plain_there a size (block_at a t.memory.blocks) refl may))
+  sound_plain_freed memory a size (Err x) may ok err = subst (λ m. IsSoundTable (record t { memory = m })) (sym err) sound
 
 -- ---- what is shown
 
@@ -93,7 +93,7 @@ plain_shown s (Object variant.Message m) a there = refl
 plain_shown s (Object variant.Semaphore m) a there = refl
 plain_shown s (Object variant.Request m) a there = refl
 
-pub named_shown : (s : Numbered) → IsSound s.table → (size address : ℕ) → is_named size (model.block_at address (shown_heap s)) ≡ can_free address size s.table.memory.blocks
+pub named_shown : (s : Numbered) → IsSoundTable s.table → (size address : ℕ) → is_named size (model.block_at address (shown_heap s)) ≡ can_free address size s.table.memory.blocks
 named_shown s sound size address =
     ap (is_named size) (block_shown s address)
     ∙ by_block (block_at address s.table.memory.blocks) (λ block found. at_found (IsTagged s.table) address s.table.memory.blocks block sound.matched.tagged found)

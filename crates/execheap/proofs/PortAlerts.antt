@@ -1,13 +1,13 @@
 -- The alerts of the calls on ports and messages by address, reported by number.
 use Rattle.std.proofs.Common.{◌≡◌, ℕ, zero, suc, List, Bool, true, false, refl, ap, sym, ◌∙◌, arith, Option, None, Some, codes, is_some, nat_eq, if◌then◌else◌, ◌||◌}
 use Rattle.memlist.proofs.Answered.{nat_eq-other}
-use Rattle.execmodel.specs.{State.Heap, Ports.content_of, Ports.is_message_at, Ports.is_port_at, Ports.loose_alert, Ports.message_alert, Ports.port_alert, Ports.port_of, Ports.put_alert, Ports.reply_alert, Ports.reply_port_alert, Ports.wait_alert}
+use Rattle.execmodel.specs.{State.Heap, Ports.content_of, Ports.is_message_at, Ports.is_port_at, Ports.unqueued_alert, Ports.message_alert, Ports.port_alert, Ports.port_of, Ports.put_alert, Ports.reply_alert, Ports.reply_port_alert, Ports.wait_alert}
 use Rattle.execmodel.specs.Ports as model
 use Rattle.msgport.specs.{Port.wait_bit, Ports.is_linked, Ports.is_queued, Ports.message_at, Ports.port_at}
 use Rattle.msgport.specs.Ports as ports
 use Rattle.execlist.specs.Pool.{slot}
 use Rattle.execheap.specs.declared.tag.Kind.TheVariants as variant
-use Rattle.execheap.specs.{Numbered.Numbered, Numbered.IsSound, Numbered.shown_heap, Numbered.places, Table.number_at}
+use Rattle.execheap.specs.{Numbered.Numbered, Numbered.IsSoundHeap, Numbered.shown_heap, Numbered.places, Table.number_at}
 use Rattle.execheap.proofs.{Alerts.handle_unless, Alerts.is_there, Alerts.link_if, Alerts.refused_first, Front.message_small, MessagePlaces.place_message, Queued.is_queued_shown, Matching.number_live, Shown.content_shown, Shown.message_at_shown, Shown.port_at_shown, Shown.port_shown}
 use Rattle.script.specs.declared.alert.Alert.TheVariants as an_alert
 use Rattle.script.specs.declared.alert.Alert.{Alert}
@@ -44,12 +44,12 @@ reply_port_some (suc reply) heap some = ap (λ b. if b then None else port_alert
 -- ---- the alert of a message that has to be in no port
 
 module _ (message : ℕ) (heap : Heap) where
-  pub loose_by_handle : {why : Alert} → message_alert message heap ≡ Some why → loose_alert message heap ≡ Some why
-  unfolding loose_alert message_alert
+  pub loose_by_handle : {why : Alert} → message_alert message heap ≡ Some why → unqueued_alert message heap ≡ Some why
+  unfolding unqueued_alert message_alert
   loose_by_handle refused = refused_first (is_message_at message heap) (link_if (model.is_queued message heap) None) refused
 
-  past_message : message_alert message heap ≡ None → loose_alert message heap ≡ link_if (model.is_queued message heap) None
-  unfolding loose_alert message_alert
+  past_message : message_alert message heap ≡ None → unqueued_alert message heap ≡ link_if (model.is_queued message heap) None
+  unfolding unqueued_alert message_alert
   past_message there = ap (λ b. handle_unless b (link_if (model.is_queued message heap) None)) (is_there (is_message_at message heap) there)
 
   -- a message that is refused is so by ReplyMsg
@@ -65,37 +65,37 @@ module _ (message : ℕ) (heap : Heap) where
   replied_past true false next e = refl
   replied_past false linked next e = let bad : true ≡ false = ap is_some e in cc
 
-  pub reply_by_loose : {why : Alert} → loose_alert message heap ≡ Some why → reply_alert message heap ≡ Some why
-  unfolding reply_alert loose_alert
+  pub reply_by_loose : {why : Alert} → unqueued_alert message heap ≡ Some why → reply_alert message heap ≡ Some why
+  unfolding reply_alert unqueued_alert
   reply_by_loose refused =
       replied_by_handle (is_message_at message heap) (model.is_queued message heap) (reply_port_alert (content_of message heap).reply heap) refused
 
-  pub reply_by_port : loose_alert message heap ≡ None → reply_alert message heap ≡ reply_port_alert (content_of message heap).reply heap
-  unfolding reply_alert loose_alert
+  pub reply_by_port : unqueued_alert message heap ≡ None → reply_alert message heap ≡ reply_port_alert (content_of message heap).reply heap
+  unfolding reply_alert unqueued_alert
   reply_by_port loose =
       replied_past (is_message_at message heap) (model.is_queued message heap) (reply_port_alert (content_of message heap).reply heap) loose
 
   module _ (port : ℕ) where
     pub put_by_port : {why : Alert} → port_alert port heap ≡ Some why → put_alert port message heap ≡ Some why
     unfolding put_alert port_alert
-    put_by_port refused = refused_first (is_port_at port heap) (loose_alert message heap) refused
+    put_by_port refused = refused_first (is_port_at port heap) (unqueued_alert message heap) refused
 
-    pub put_by_message : port_alert port heap ≡ None → put_alert port message heap ≡ loose_alert message heap
+    pub put_by_message : port_alert port heap ≡ None → put_alert port message heap ≡ unqueued_alert message heap
     unfolding put_alert port_alert
-    put_by_message there = ap (λ b. handle_unless b (loose_alert message heap)) (is_there (is_port_at port heap) there)
+    put_by_message there = ap (λ b. handle_unless b (unqueued_alert message heap)) (is_there (is_port_at port heap) there)
 
 or_false : (b : Bool) → b || false ≡ b
 or_false true = refl
 or_false false = refl
 
-module _ {s : Numbered} (sound : IsSound s) (held : ports.IsSound s.ports) (m message : ℕ) (here : slot (places variant.Message s) m ≡ Some message) where
+module _ {s : Numbered} (sound : IsSoundHeap s) (held : ports.IsSoundPorts s.ports) (m message : ℕ) (here : slot (places variant.Message s) m ≡ Some message) where
   -- a message that is none of a request is linked if a port has it
   pub message_linked : is_linked m s.ports ≡ is_queued m s.ports
   message_linked =
       ap (λ b. is_queued m s.ports || b) (sound.kept.in_time.none_held m (message_small sound.kept sound.table m (ap is_some here))) ∙ or_false (is_queued m s.ports)
 
   pub loose_found : {linked : Bool} → message_alert message (shown_heap s) ≡ None → is_linked m s.ports ≡ linked
-      → loose_alert message (shown_heap s) ≡ link_if linked None
+      → unqueued_alert message (shown_heap s) ≡ link_if linked None
   loose_found there is =
       past_message message (shown_heap s) there
       ∙ ap (λ b. link_if b None)
@@ -103,7 +103,7 @@ module _ {s : Numbered} (sound : IsSound s) (held : ports.IsSound s.ports) (m me
 
 -- ---- what begins at an address that has an alert no more
 
-module _ {s : Numbered} (sound : IsSound s) where
+module _ {s : Numbered} (sound : IsSoundHeap s) where
   pub reply_of : (m message : ℕ) → slot (places variant.Message s) m ≡ Some message → (content_of message (shown_heap s)).reply ≡ (message_at m s.ports).reply
   reply_of m message here = ap (λ content. content.reply) (content_shown s message m (number_live sound.table variant.Message m message here))
 

@@ -32,7 +32,7 @@ no_fault true true public lives empty private = let bad : false ≡ true = empty
 no_fault false has public lives empty private = let bad : false ≡ true = lives in cc
 
 -- a port whose number is free has no messages
-no_messages : (s : Numbered) → ports.IsSound s.ports → (p : ℕ) → slot s.ports.ports.slots p ≡ None → messages_of p s.ports ≡ []
+no_messages : (s : Numbered) → ports.IsSoundPorts s.ports → (p : ℕ) → slot s.ports.ports.slots p ≡ None → messages_of p s.ports ≡ []
 no_messages s held p free = none_there (messages_of p s.ports)
     (λ m. held.stands p m ∙ ap (λ b. if b then 1 else 0) (elsewhere m (home s.ports.places m) refl))
   where
@@ -59,7 +59,7 @@ module _ {s : Numbered} {n a : ℕ} {t : Tabled} (q : MessagePorts) where
     port_next = own_next made s.ports.ports (made.kept.in_step variant.Port)
 
     -- a public port is another
-    public_other : ports.IsSound s.ports → (p : ℕ) → list_any (λ other. other == p) s.ports.public ≡ true → p ≢ n
+    public_other : ports.IsSoundPorts s.ports → (p : ℕ) → list_any (λ other. other == p) s.ports.public ≡ true → p ≢ n
     public_other held p stands = not_new made p
         (shape_lives (pool_of variant.Port s.table) s.ports.ports (made.kept.in_step variant.Port) p
         ∙ public_lives {s = s} (record { table = made.sound; kept = made.kept }) held p stands)
@@ -78,7 +78,7 @@ module _ {s : Numbered} {n a : ℕ} {t : Tabled} (q : MessagePorts) where
           })
           (along_messages (ap (λ (r : MessagePorts). r.messages) is) (ap (λ (r : MessagePorts). r.places) is) (ap (λ (r : MessagePorts). r.holding) is) refl refl)
 
-      pub port_made_shown : ports.IsSound s.ports → shown_memory (changed s t q) ≡ placed 34 (MsgPort (new_port task bit) []) (Some a) (shown_memory s)
+      pub port_made_shown : ports.IsSoundPorts s.ports → shown_memory (changed s t q) ≡ placed 34 (MsgPort (new_port task bit) []) (Some a) (shown_memory s)
       port_made_shown held = shown_new made (changed s t q) (MsgPort (new_port task bit) []) refl refl others here
           (public_beside s (changed s t q) (ap (λ (r : MessagePorts). r.keys) is) (ap (λ (r : MessagePorts). r.public) is)
           (λ p stands. beside made variant.Port p (λ e. public_other held p stands)))
@@ -109,7 +109,7 @@ module _ {s : Numbered} {n a : ℕ} {t : Tabled} (q : MessagePorts) where
     port_unused empty private = no_fault (ports.is_port n s.ports) (ports.has_messages n s.ports) (ports.is_public n s.ports) port_lives empty private
 
     module _ (is : q ≡ port_freed n s.ports) where
-      pub port_freed_kept : ports.IsSound s.ports → IsTrue (not (ports.has_messages n s.ports)) → IsKept (changed s t q)
+      pub port_freed_kept : ports.IsSoundPorts s.ports → IsTrue (not (ports.has_messages n s.ports)) → IsKept (changed s t q)
       port_freed_kept held empty = kept_left gone (changed s t q) refl refl refl (same s t q (ap (λ u. u.pool) gone.is) (ap (λ (r : MessagePorts). r.messages) is))
           (ap (λ (r : MessagePorts). shape r.ports) is ∙ own_released gone s.ports.ports (gone.kept.in_step variant.Port))
           (λ r p there same. nobody_at s.ports.queues (message_of_request r s) n (home s.ports.places (message_of_request r s))
@@ -121,7 +121,7 @@ module _ {s : Numbered} {n a : ℕ} {t : Tabled} (q : MessagePorts) where
           })
           (along_messages (ap (λ (r : MessagePorts). r.messages) is) (ap (λ (r : MessagePorts). r.places) is) (ap (λ (r : MessagePorts). r.holding) is) refl refl)
 
-      pub port_freed_shown : ports.IsSound s.ports → IsTrue (not (ports.is_public n s.ports)) → shown_memory (changed s t q) ≡ freed a (shown_memory s)
+      pub port_freed_shown : ports.IsSoundPorts s.ports → IsTrue (not (ports.is_public n s.ports)) → shown_memory (changed s t q) ≡ freed a (shown_memory s)
       port_freed_shown held private = shown_left gone (changed s t q) refl refl others
           (public_beside s (changed s t q) (ap (λ (r : MessagePorts). r.keys) is) (ap (λ (r : MessagePorts). r.public) is)
           (λ p stands. beside_left gone variant.Port p (λ e. no_public {s = s} (record { table = gone.sound; kept = gone.kept }) held n private p stands)))

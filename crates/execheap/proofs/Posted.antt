@@ -9,7 +9,7 @@ use Rattle.msgport.specs.{declared.message.Message.Message as Content, declared.
 use Rattle.msgport.specs.Ports as ports
 use Rattle.execmodel.specs.{State.Object, State.MsgPort, State.Message, State.Block, State.Heap, State.on_heap, Objects.replaced}
 use Rattle.execmodel.specs.Ports as model
-use Rattle.execheap.specs.Numbered.{IsSound, Numbered, address_in, message_places, object_of, places, shown_heap, shown_memory, shown_public, shown_tagged}
+use Rattle.execheap.specs.Numbered.{IsSoundHeap, Numbered, address_in, message_places, object_of, places, shown_heap, shown_memory, shown_public, shown_tagged}
 use Rattle.execheap.specs.{declared.tag.Kind.Kind, declared.tag.Tagged.Tagged, Tags.is_same, Tags.tagged, Table.number_at, Changes.on_ports}
 use Rattle.execheap.specs.declared.tag.Kind.TheVariants as variant
 use Rattle.execheap.specs.declared.tag.Tagged.TheVariants as tag
@@ -180,7 +180,7 @@ module _ (s : Numbered) (m message : ℕ) (found : number_at variant.Message mes
 
 -- ---- the memory that is shown
 
-module _ {s : Numbered} (sound : IsSound s) (held : ports.IsSound s.ports) (formed : IsWellFormed s.table.memory.regions s.table.memory.blocks) where
+module _ {s : Numbered} (sound : IsSoundHeap s) (held : ports.IsSoundPorts s.ports) (formed : IsWellFormed s.table.memory.regions s.table.memory.blocks) where
   module _ (p port : ℕ) (here : slot (places variant.Port s) p ≡ Some port) (live : IsTrue (ports.is_port p s.ports)) where
     port_begins : number_at variant.Port port s.table ≡ Some p
     port_begins = number_live sound.table variant.Port p port here
@@ -231,7 +231,7 @@ module _ {s : Numbered} (sound : IsSound s) (held : ports.IsSound s.ports) (form
 
 -- ---- what is looked at
 
-module _ {s : Numbered} (sound : IsSound s) where
+module _ {s : Numbered} (sound : IsSoundHeap s) where
   pub first_message_shown : (p port : ℕ) → slot (places variant.Port s) p ≡ Some port
       → first (model.messages_of port (shown_heap s)) ≡ option_map (address_in (message_places s)) (first (messages_of p s.ports))
   first_message_shown p port here =

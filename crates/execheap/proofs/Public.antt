@@ -8,7 +8,7 @@ use Rattle.msgport.specs.Ports.{MessagePorts, keyed, made_private, made_public}
 use Rattle.execmodel.specs.{State.Memory, State.PublicPort, Lists.or_none, Ports.add_port_alert, Ports.delete_alert, Ports.is_called, Ports.is_port_at, Ports.is_public, Ports.port_alert, Ports.port_or_none, Ports.priority_of_public, Ports.rem_port_alert, Ports.under, Tasks.is_priority}
 use Rattle.execmodel.specs.Ports as model
 use Rattle.execheap.specs.declared.tag.Kind.TheVariants as variant
-use Rattle.execheap.specs.Numbered.{Numbered, IsSound, address_in, message_places, shown_heap, shown_memory, shown_public, places}
+use Rattle.execheap.specs.Numbered.{Numbered, IsSoundHeap, address_in, message_places, shown_heap, shown_memory, shown_public, places}
 use Rattle.execheap.specs.{Changes.on_ports, Listing.listed}
 use Rattle.iorequest.specs.Requests.{is_under_way_at}
 use Rattle.execheap.proofs.{AwaitedPorts.awaited_shown, Alerts.handle_unless, Alerts.is_some_map, Alerts.is_there, Alerts.link_if, Alerts.refused_first, Mapped.Alike, Mapped.alike_apart, Mapped.cond-map, Mapped.enqueue-map, Mapped.find-map, Mapped.first-map, Mapped.map_agree, Mapped.members, Mapped.stands_by_times, Posted.heap_beside, Posted.objects_beside, Queued.port_placed, Matching.number_live, Matching.number_same, Shown.messages_shown}
@@ -54,7 +54,7 @@ either_use false false awaited = refl
 abbrev value_unless : Bool → Option Alert → Option Alert
 value_unless fits next = if not fits then Some an_alert.Value else next
 
-module _ {s : Numbered} (sound : IsSound s) (held : ports.IsSound s.ports) where
+module _ {s : Numbered} (sound : IsSoundHeap s) (held : ports.IsSoundPorts s.ports) where
   -- ---- which ports are public
 
   -- a port is among the public ones if it is public

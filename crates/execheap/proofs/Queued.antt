@@ -8,7 +8,7 @@ use Rattle.msgport.specs.Ports as ports
 use Rattle.msgport.specs.Ports.{messages_of}
 use Rattle.execmodel.specs.Ports.{has_message, is_queued, messages_in}
 use Rattle.execheap.specs.declared.tag.Kind.TheVariants as variant
-use Rattle.execheap.specs.Numbered.{Numbered, IsSound, address_in, message_places, shown_entry, shown_heap, shown_tagged, places}
+use Rattle.execheap.specs.Numbered.{Numbered, IsSoundHeap, address_in, message_places, shown_entry, shown_heap, shown_tagged, places}
 use Rattle.execheap.specs.{declared.tag.Tagged.Tagged, Tags.tag_of, Tags.tagged, Table.pool_of}
 use Rattle.execheap.specs.declared.tag.Tagged.TheVariants as tag
 use Rattle.execheap.proofs.{Linked.any_found, Linked.some_is, Stepping.shape_lives, Mapped.stands-map, Matching.number_small, MessagePlaces.messages_apart, MessagePlaces.stands_in_port, Tagging.read_tag}
@@ -31,7 +31,7 @@ in_none test none (e ∷ es) = ap (λ b. b || list_any (λ (f : ℕ × (ℕ × �
 at_self : (p : ℕ) → is_at (Some p) p ≡ true
 at_self p = nat_eq-same p
 
-module _ {s : Numbered} (sound : IsSound s) (held : ports.IsSound s.ports) where
+module _ {s : Numbered} (sound : IsSoundHeap s) (held : ports.IsSoundPorts s.ports) where
   -- a port that lives has an address
   pub port_placed : (p : ℕ) → IsTrue (ports.is_port p s.ports) → (a : ℕ) × (slot (places variant.Port s) p ≡ Some a)
   port_placed p live = some_is (slot (places variant.Port s) p) (shape_lives (pool_of variant.Port s.table) s.ports.ports (sound.kept.in_step variant.Port) p ∙ live)

@@ -13,7 +13,7 @@ use Rattle.execmodel.specs.{Lists.is_list, Lists.is_list_at, Lists.nodes_of, Lis
 use Rattle.execmodel.specs.Ports as model
 use Rattle.execmodel.specs.Semaphores as semaphores
 use Rattle.execheap.specs.declared.tag.Kind.TheVariants as variant
-use Rattle.execheap.specs.Numbered.{Numbered, IsSound, IsSpace, address_in, message_places, places, shown_entry, shown_heap, shown_public, shown_timer, shown_waiting}
+use Rattle.execheap.specs.Numbered.{Numbered, IsSoundHeap, IsSpace, address_in, message_places, places, shown_entry, shown_heap, shown_public, shown_timer, shown_waiting}
 use Rattle.execheap.specs.{declared.tag.Tagged.Tagged, Tags.tagged, Table.number_at, Queues.port_named, Queues.port_with}
 use Rattle.execheap.specs.declared.tag.Tagged.TheVariants as tag
 use Rattle.execheap.proofs.MessagePlaces.{by_number, home_placed, messages_apart, place_below, place_from, standing_placed}
@@ -38,7 +38,7 @@ after_number : (f : ℕ → ℕ) (n a : ℕ) (xs : List ℕ) → f n ≡ a → A
 after_number f n a xs is alike =
     ap (λ b. first (part_after b (map f xs))) (sym is) ∙ ap first (part_after-map f n xs alike) ∙ first-map f (part_after n xs)
 
--- ---- nothing is read of what is no queue
+-- ---- nothing is read of what is not a queue
 
 no_nodes : (o : Option Object) → is_kind is_list o ≡ false → nodes_of_object o ≡ []
 no_nodes None other = refl
@@ -83,7 +83,7 @@ module _ (s : Numbered) (a : ℕ) (after : Option ℕ) where
 
 -- ---- the nodes of a list
 
-module _ {s : Numbered} (sound : IsSound s) (space : IsSpace s) (h : ℕ) where
+module _ {s : Numbered} (sound : IsSoundHeap s) (space : IsSpace s) (h : ℕ) where
   abbrev nodes : List ℕ
   nodes = map (address_in (places variant.Node s)) (sequence s.sequences h)
 
@@ -103,7 +103,7 @@ module _ {s : Numbered} (sound : IsSound s) (space : IsSpace s) (h : ℕ) where
 -- ---- the messages of a port
 
 -- if neither a message nor a request begins at an address, nothing that may be in a port does
-pub none_placed : {s : Numbered} → IsSound s → (a : ℕ) → number_at variant.Message a s.table ≡ None → number_at variant.Request a s.table ≡ None
+pub none_placed : {s : Numbered} → IsSoundHeap s → (a : ℕ) → number_at variant.Message a s.table ≡ None → number_at variant.Request a s.table ≡ None
     → (m : ℕ) → slot (message_places s) m ≢ Some a
 none_placed {s} sound a message request m at = by_number m s.table.pool
     (λ below. let bad : false ≡ true = ap is_some (sym message
@@ -112,12 +112,12 @@ none_placed {s} sound a message request m at = by_number m s.table.pool
     ∙ number_live sound.table variant.Request (m - s.table.pool) a (sym (place_from sound.table m from) ∙ at)) in cc)
 
 -- what is in a port has an address
-pub placed_if : {s : Numbered} → IsSound s → ports.IsSound s.ports → (p : ℕ) (o : Option ℕ) → IfSome o (λ m. home s.ports.places m ≡ Some p)
+pub placed_if : {s : Numbered} → IsSoundHeap s → ports.IsSoundPorts s.ports → (p : ℕ) (o : Option ℕ) → IfSome o (λ m. home s.ports.places m ≡ Some p)
     → IfSome o (λ m. IsSome (slot (message_places s) m))
 placed_if sound held p None there = tt
 placed_if sound held p (Some m) there = home_placed sound held p m there
 
-module _ {s : Numbered} (sound : IsSound s) (held : ports.IsSound s.ports) where
+module _ {s : Numbered} (sound : IsSoundHeap s) (held : ports.IsSoundPorts s.ports) where
   abbrev messages : ℕ → List ℕ
   messages p = map (address_in (message_places s)) (messages_of p s.ports)
 
@@ -235,7 +235,7 @@ public_shown s name =
 
 -- ---- the tasks that wait for a semaphore
 
-pub no_waiter : (q : Semaphores) → sems.IsSound q → (n t : ℕ) → length q.places ≤ t → first (part_from (Some t) (waiters_of n q)) ≡ None
+pub no_waiter : (q : Semaphores) → sems.IsSoundSemaphores q → (n t : ℕ) → length q.places ≤ t → first (part_from (Some t) (waiters_of n q)) ≡ None
 no_waiter q sound n t far = ap first (after_absent t (waiters_of n q)
     (sound.stands n t ∙ ap (λ o. if is_at o n then 1 else 0) (beyond q.places t None far)))
 
@@ -245,7 +245,7 @@ none_found : {A B : Type 0} (f : A → B) (test : B → Bool) (xs : List A) → 
 none_found f test [] all = refl
 none_found f test (x ∷ xs) all = ap (λ b. if b then Some (f x) else find test (map f xs)) all.0 ∙ none_found f test xs all.1
 
-module _ {s : Numbered} (sound : IsSound s) (request : ℕ) where
+module _ {s : Numbered} (sound : IsSoundHeap s) (request : ℕ) where
   pub due_shown : (r : ℕ) → slot (places variant.Request s) r ≡ Some request → due_of request (shown_timer s) ≡ due_of r s.timing.timer
   unfolding due_of
   due_shown r here =

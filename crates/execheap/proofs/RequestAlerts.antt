@@ -1,12 +1,12 @@
 -- The alerts of the calls on requests by address, reported by number.
 use Rattle.std.proofs.Common.{◌≡◌, ℕ, List, Bool, true, false, refl, ap, sym, ◌∙◌, Option, None, Some, codes, is_some, not, ◌&&◌, if◌then◌else◌}
 use Rattle.execlist.specs.Pool.{slot}
-use Rattle.iorequest.specs.{declared.request.ReqState.ReqState, declared.request.Request.Request as TimerRequest, Request.is_open, Request.is_under_way, Requests.request_at}
+use Rattle.iorequest.specs.{declared.request.ReqState.ReqState, declared.request.Request.Request as TimerRequest, Request.is_opened, Request.is_under_way, Requests.request_at}
 use Rattle.msgport.specs.Ports as ports
 use Rattle.execmodel.specs.Requests.{begin_alert, can_begin, delete_request_alert, do_alert, is_request_at, request_alert, request_of, request_of_object, resting_alert, send_alert, state_alert, wait_io_alert}
 use Rattle.execmodel.specs.{State.Heap, Ports.is_queued, Ports.port_alert, Ports.wait_alert}
 use Rattle.execheap.specs.declared.tag.Kind.TheVariants as variant
-use Rattle.execheap.specs.{Numbered.IsSound, Numbered.Numbered, Numbered.message_of_request, Numbered.places, Numbered.shown_heap, Table.number_at}
+use Rattle.execheap.specs.{Numbered.IsSoundHeap, Numbered.Numbered, Numbered.message_of_request, Numbered.places, Numbered.shown_heap, Table.number_at}
 use Rattle.execheap.proofs.{Alerts.handle_unless, Alerts.is_there, Alerts.link_if, Alerts.refused_first, MessagePlaces.request_standing, Queued.is_queued_shown, Showing.kind_shown, Showing.object_numbered}
 use Rattle.script.specs.declared.alert.Alert.TheVariants as an_alert
 use Rattle.script.specs.declared.alert.Alert.{Alert}
@@ -87,12 +87,12 @@ module _ (request : ℕ) (heap : Heap) where
   pub begin_refused : {why : Alert} → resting_alert request heap ≡ Some why → begin_alert None request heap ≡ Some why
   unfolding resting_alert
   begin_refused refused =
-      first_begins (is_request_at request heap) (is_under_way (request_of request heap)) (is_open (request_of request heap)) (link_if (is_queued request heap) None) refused
+      first_begins (is_request_at request heap) (is_under_way (request_of request heap)) (is_opened (request_of request heap)) (link_if (is_queued request heap) None) refused
 
-  begin_past : resting_alert request heap ≡ None → begin_alert None request heap ≡ io_if (not (is_open (request_of request heap))) (link_if (is_queued request heap) None)
+  begin_past : resting_alert request heap ≡ None → begin_alert None request heap ≡ io_if (not (is_opened (request_of request heap))) (link_if (is_queued request heap) None)
   unfolding resting_alert
   begin_past rests =
-      past_begins (is_request_at request heap) (is_under_way (request_of request heap)) (is_open (request_of request heap)) (link_if (is_queued request heap) None) rests
+      past_begins (is_request_at request heap) (is_under_way (request_of request heap)) (is_opened (request_of request heap)) (link_if (is_queued request heap) None) rests
 
   pub send_refused : {why : Alert} → begin_alert None request heap ≡ Some why → send_alert request heap ≡ Some why
   unfolding send_alert
@@ -135,14 +135,14 @@ module _ (request : ℕ) (heap : Heap) (q : TimerRequest) (is : q ≡ request_of
       ap (λ b. handle_unless b (io_if (is_under_way (request_of request heap)) None)) (is_there (is_request_at request heap) there)
       ∙ ap (λ b. io_if b None) (ap is_under_way (sym is) ∙ way)
 
-  pub begin_shut : resting_alert request heap ≡ None → is_open q ≡ false → begin_alert None request heap ≡ Some an_alert.Io
+  pub begin_shut : resting_alert request heap ≡ None → is_opened q ≡ false → begin_alert None request heap ≡ Some an_alert.Io
   begin_shut rests shut =
-      begin_past request heap rests ∙ ap (λ b. io_if (not b) (link_if (is_queued request heap) None)) (ap is_open (sym is) ∙ shut)
+      begin_past request heap rests ∙ ap (λ b. io_if (not b) (link_if (is_queued request heap) None)) (ap is_opened (sym is) ∙ shut)
 
-  pub begin_found : {queued : Bool} → resting_alert request heap ≡ None → is_open q ≡ true → is_queued request heap ≡ queued
+  pub begin_found : {queued : Bool} → resting_alert request heap ≡ None → is_opened q ≡ true → is_queued request heap ≡ queued
       → begin_alert None request heap ≡ link_if queued None
   begin_found rests shut there =
-      begin_past request heap rests ∙ ap (λ b. io_if (not b) (link_if (is_queued request heap) None)) (ap is_open (sym is) ∙ shut) ∙ ap (λ b. link_if b None) there
+      begin_past request heap rests ∙ ap (λ b. io_if (not b) (link_if (is_queued request heap) None)) (ap is_opened (sym is) ∙ shut) ∙ ap (λ b. link_if b None) there
 
 pub delete_found : (request : ℕ) (heap : Heap) {queued : Bool} → resting_alert request heap ≡ None → is_queued request heap ≡ queued
     → delete_request_alert request heap ≡ link_if queued None
@@ -153,6 +153,6 @@ delete_found request heap rests is =
 -- ---- its reply
 
 -- the reply of a request is in a port by address if it is by number
-pub reply_shown : {s : Numbered} → IsSound s → ports.IsSound s.ports → (r request : ℕ) → slot (places variant.Request s) r ≡ Some request
+pub reply_shown : {s : Numbered} → IsSoundHeap s → ports.IsSoundPorts s.ports → (r request : ℕ) → slot (places variant.Request s) r ≡ Some request
     → is_queued request (shown_heap s) ≡ ports.is_queued (message_of_request r s) s.ports
 reply_shown {s} sound held r request here = is_queued_shown sound held (message_of_request r s) request (request_standing s sound.table r ∙ here)

@@ -12,7 +12,7 @@ use Rattle.execmodel.specs.{State.Heap, State.on_heap, Ports.port_in, Ports.port
 use Rattle.execmodel.specs.Requests as model
 use Rattle.execheap.specs.declared.awaited.Awaited.TheVariants as awaited
 use Rattle.execheap.specs.declared.tag.Kind.TheVariants as variant
-use Rattle.execheap.specs.Numbered.{Numbered, IsSound, address_in, message_of_request, places, shown_heap, shown_memory, shown_tagged, shown_timer}
+use Rattle.execheap.specs.Numbered.{Numbered, IsSoundHeap, address_in, message_of_request, places, shown_heap, shown_memory, shown_tagged, shown_timer}
 use Rattle.execheap.specs.Requesting.{begun_as, begun_now, begun_so, begun_until, done_with, goes_on, reply_out}
 use Rattle.execheap.specs.{declared.tag.Tagged.Tagged, Tags.tagged, Table.Tabled, Table.number_at, Listing.aborted, Listing.aborting, Listing.acting_finished, Listing.awaited_for, Listing.ended_if, Listing.finishing, Listing.taken_by_state, Listing.taken_if_replied}
 use Rattle.execheap.specs.declared.tag.Tagged.TheVariants as tag
@@ -67,7 +67,7 @@ begun_lives s r quick lives = by_outcome (goes_on r s) where
   by_outcome (Finish error) = ap is_some (written_here r (finished error (begun_as quick r s)) s.requests lives)
   by_outcome (NewTime time) = ap is_some (written_here r (finished (pos 0) (begun_as quick r s)) s.requests lives)
 
-module _ {s : Numbered} (sound : IsSound s) (held : ports.IsSound s.ports) (formed : IsWellFormed s.table.memory.regions s.table.memory.blocks) (r request : ℕ)
+module _ {s : Numbered} (sound : IsSoundHeap s) (held : ports.IsSoundPorts s.ports) (formed : IsWellFormed s.table.memory.regions s.table.memory.blocks) (r request : ℕ)
     (here : slot (places variant.Request s) r ≡ Some request) where
   begins : number_at variant.Request request s.table ≡ Some r
   begins = number_live sound.table variant.Request r request here
@@ -168,7 +168,7 @@ due_is_next s = record { waits = due_waits s.timing.timer; shown = due_shown s }
 pub until_is_next : (s : Numbered) → IsNext s until_next
 until_is_next s = record { waits = until_waits s.timing.timer; shown = until_shown s }
 
-module _ {s : Numbered} (sound : IsSound s) (held : ports.IsSound s.ports) (formed : IsWellFormed s.table.memory.regions s.table.memory.blocks)
+module _ {s : Numbered} (sound : IsSoundHeap s) (held : ports.IsSoundPorts s.ports) (formed : IsWellFormed s.table.memory.regions s.table.memory.blocks)
     (next : Timer → Option ℕ) (is_next : IsNext s next) where
   next_placed : (r : ℕ) → next s.timing.timer ≡ Some r → (a : ℕ) × (slot (places variant.Request s) r ≡ Some a)
   next_placed r is = some_is (slot (places variant.Request s) r) (request_live sound.kept r (waiting_under_way sound.kept r (is_next.waits r is)).0)

@@ -4,12 +4,12 @@ use Rattle.std.specs.List.{list_any}
 use Rattle.std.proofs.lemmas.Bool.{or_left, or_right}
 use Rattle.execlist.specs.{Order.chosen, Order.chosen_or, Order.is_lower, Pool.Pooled, Answers.fault_or, Answers.kept_or}
 use Rattle.iorequest.specs.declared.request.Begun.TheVariants.{Finish, NewTime, Queue, Until}
-use Rattle.iorequest.specs.Request.{adds, asks_time, begun, due_of, finished, is_to_wait, is_under_way, is_until, outcome, reply_port, sets_time, time_of}
+use Rattle.iorequest.specs.Request.{adds, asks_time, in_progress, due_of, finished, is_to_wait, is_under_way, is_until, outcome, reply_port, sets_time, time_of}
 use Rattle.iorequest.specs.{declared.fault.ReqFault.ReqFault, declared.request.Begun.Begun, declared.request.Request.Request as TimerRequest, Requests.is_request, Requests.request_at, Requests.with_request}
 use Rattle.msgport.specs.Ports.{MessagePorts}
-use Rattle.timerdev.specs.{Held.Held, Held.on_timer, Timing.Timer, Timing.Waiting, Timing.due_next, Timing.has_come, Timing.is_system, Timing.is_waiting, Timing.next_of, Timing.sooner, Timing.system_set, Timing.until_next}
+use Rattle.timerdev.specs.{Held.Held, Held.on_timer, Timing.Timer, Timing.Waiting, Timing.due_next, Timing.is_due, Timing.is_system, Timing.is_waiting, Timing.next_of, Timing.sooner, Timing.system_set, Timing.until_next}
 use Rattle.execheap.specs.Requesting.{acting_at, acting_so, answering, begun_as, begun_now, begun_so, done_with, goes_on, on_timing, port_number, put_at}
-use Rattle.execheap.specs.Numbered.{IsKept, IsSound, Numbered, message_of_request}
+use Rattle.execheap.specs.Numbered.{IsKept, IsSoundHeap, Numbered, message_of_request}
 use Rattle.execheap.proofs.{Entries.some_same, KeptRequests.begun_here, KeptRequests.begun_port, KeptRequests.kept_done, Waits.IsTimed}
 
 -- ---- what an answer reports
@@ -77,14 +77,14 @@ set_twice [] n x y = refl
 set_twice (z ∷ xs) zero x y = refl
 set_twice (z ∷ xs) (suc n) x y = ap (λ rest. z ∷ rest) (set_twice xs n x y)
 
-module _ {s : Numbered} (sound : IsSound s) (r : ℕ) (lives : IsTrue (is_request r s.requests)) (quick : Bool) (system : ℕ)
+module _ {s : Numbered} (sound : IsSoundHeap s) (r : ℕ) (lives : IsTrue (is_request r s.requests)) (quick : Bool) (system : ℕ)
     (told : system ≡ s.timing.timer.system) (start : Pooled TimerRequest)
-    (is_begun : start ≡ with_request r (begun quick system (request_at r s.requests)) s.requests) where
+    (is_begun : start ≡ with_request r (in_progress quick system (request_at r s.requests)) s.requests) where
   holds_now : request_at r start ≡ begun_as quick r s
   holds_now =
       ap (request_at r) is_begun
-      ∙ begun_here sound r lives (begun quick system (request_at r s.requests)) (begun_port quick system (request_at r s.requests))
-      ∙ ap (λ n. begun quick n (request_at r s.requests)) told
+      ∙ begun_here sound r lives (in_progress quick system (request_at r s.requests)) (begun_port quick system (request_at r s.requests))
+      ∙ ap (λ n. in_progress quick n (request_at r s.requests)) told
 
   -- the port where its reply is put
   answers : port_number (reply_port (request_at r start)) s.table ≡ answering (begun_as quick r s) s
@@ -104,7 +104,7 @@ module _ {s : Numbered} (sound : IsSound s) (r : ℕ) (lives : IsTrue (is_reques
       (is_p : p ≡ put_at (port_number (reply_port (request_at r start)) s.table) m s.ports) where
     pub begun_kept : (t : Held) → IsTimed false r s.timing t → IsKept (record s { requests = q; ports = p; timing = t })
     begun_kept t timed =
-        kept_done sound r lives (begun quick system (request_at r s.requests)) (begun_port quick system (request_at r s.requests))
+        kept_done sound r lives (in_progress quick system (request_at r s.requests)) (begun_port quick system (request_at r s.requests))
         m is error q p t
         (is_q ∙ ap (λ x. with_request r (finished error (request_at r x)) x) is_begun)
         (is_p ∙ ap (λ x. put_at (port_number (reply_port (request_at r x)) s.table) m s.ports) is_begun) timed
@@ -115,7 +115,7 @@ module _ {s : Numbered} (sound : IsSound s) (r : ℕ) (lives : IsTrue (is_reques
       requests =
           is_q ∙ (λ i. with_request r (finished error (holds_now i)) (is_begun i))
           ∙ ap (λ slots. record { slots = slots; free = s.requests.free })
-          (set_twice s.requests.slots r (Some (begun quick system (request_at r s.requests))) (Some (finished error (begun_as quick r s))))
+          (set_twice s.requests.slots r (Some (in_progress quick system (request_at r s.requests))) (Some (finished error (begun_as quick r s))))
 
     pub begun_once : goes_on r s ≡ Finish error → record s { requests = q; ports = p } ≡ begun_now quick r s
     begun_once goes = begun_done ∙ ap (λ b. begun_so b quick r s) (sym goes)
@@ -179,19 +179,19 @@ next_waits passes timer r is = by_chosen (chosen (sooner timer) (filter passes t
 
 pub due_waits : (timer : Timer) (r : ℕ) → due_next timer ≡ Some r → is_waiting r timer ≡ true
 unfolding due_next
-due_waits timer r is = next_waits (λ (w : Waiting). has_come timer w.due) timer r is
+due_waits timer r is = next_waits (λ (w : Waiting). is_due timer w.due) timer r is
 
 pub until_waits : (timer : Timer) (r : ℕ) → until_next timer ≡ Some r → is_waiting r timer ≡ true
 unfolding until_next
-until_waits timer r is = next_waits (λ (w : Waiting). is_system w.due && has_come timer w.due) timer r is
+until_waits timer r is = next_waits (λ (w : Waiting). is_system w.due && is_due timer w.due) timer r is
 
-pub both_true : (a b : Bool) → (a && b) ≡ true → (a ≡ true) × (b ≡ true)
-both_true true true e = (refl, refl)
-both_true true false e = let bad : false ≡ true = e in cc
-both_true false b e = let bad : false ≡ true = e in cc
+pub both_hold : (a b : Bool) → (a && b) ≡ true → (a ≡ true) × (b ≡ true)
+both_hold true true e = (refl, refl)
+both_hold true false e = let bad : false ≡ true = e in cc
+both_hold false b e = let bad : false ≡ true = e in cc
 
 -- one that waits lives and is in progress
 pub waiting_under_way : {s : Numbered} → IsKept s → (r : ℕ) → is_waiting r s.timing.timer ≡ true
     → IsTrue (is_request r s.requests) × IsTrue (is_under_way (request_at r s.requests))
 waiting_under_way {s} kept r waits =
-    both_true (is_request r s.requests) (is_under_way (request_at r s.requests)) (sym (kept.in_time.waits r) ∙ waits)
+    both_hold (is_request r s.requests) (is_under_way (request_at r s.requests)) (sym (kept.in_time.waits r) ∙ waits)

@@ -12,7 +12,7 @@ use Rattle.execheap.specs.Numbered.{Numbered, IsKept, address_in, is_way_at, mes
 use Rattle.execheap.specs.{declared.tag.Kind.Kind, Tags.kind_code, Table.Tabled}
 use Rattle.execheap.specs.declared.tag.Kind.TheVariants as variant
 use Rattle.execheap.proofs.Made.{IsMade, IsFreed, not_new, apart, beside, kept_new, shown_new, own_next, own_known, own_vacant, own_slots, own_given, apart_left, beside_left, kept_left, shown_left, own_there, own_released}
-use Rattle.execheap.proofs.{Beside.public_kept, Beside.timer_beside, Front.front, InTime.IsAlong, KeptRequests.not_way, KeptRequests.request_live, KeptRequests.way_of, MessagePlaces.request_standing, MessagePlaces.standing_new, MessagePlaces.standing_left, RequestCalls.both_true}
+use Rattle.execheap.proofs.{Beside.public_kept, Beside.timer_beside, Front.front, InTime.IsAlong, KeptRequests.not_way, KeptRequests.request_live, KeptRequests.way_of, MessagePlaces.request_standing, MessagePlaces.standing_new, MessagePlaces.standing_left, RequestCalls.both_hold}
 
 module _ {s : Numbered} (kept : IsKept s) where
   -- one that waits lives, and is in progress
@@ -20,7 +20,7 @@ module _ {s : Numbered} (kept : IsKept s) where
   waiting_way r there = sym (kept.in_time.waits r) ∙ there
 
   waiting_lives : (r : ℕ) → is_waiting r s.timing.timer ≡ true → IsSome (slot (places variant.Request s) r)
-  waiting_lives r there = request_live kept r (both_true (is_request r s.requests) (is_under_way (request_at r s.requests)) (waiting_way r there)).0
+  waiting_lives r there = request_live kept r (both_hold (is_request r s.requests) (is_under_way (request_at r s.requests)) (waiting_way r there)).0
 
 abbrev changed : Numbered → Tabled → Pooled TimerRequest → Numbered
 changed s t q = record s { table = t; requests = q }
@@ -70,7 +70,7 @@ module _ {s : Numbered} {n a : ℕ} {t : Tabled} (q : Pooled TimerRequest) where
           (along s n t q (Some (idle_request port)) here refl (ap way_of (own_vacant made s.requests (made.kept.in_step variant.Request))) others
           (λ r p there. not_new made r (made.kept.in_time.live r p there)))
 
-      pub request_made_shown : ports.IsSound s.ports → shown_memory (changed s t q) ≡ placed 40 (Request (idle_request port)) (Some a) (shown_memory s)
+      pub request_made_shown : ports.IsSoundPorts s.ports → shown_memory (changed s t q) ≡ placed 40 (Request (idle_request port)) (Some a) (shown_memory s)
       request_made_shown held = shown_new made (changed s t q) (Request (idle_request port)) refl refl objects
           (ap (λ o. Request (unwrap_or o (idle_request 0))) here)
           (public_kept s (changed s t q) (apart made variant.Port (omega arith)) refl refl)
@@ -102,7 +102,7 @@ module _ {s : Numbered} {n a : ℕ} {t : Tabled} (q : Pooled TimerRequest) where
         (along s n t q None (ap (λ (r : Pooled TimerRequest). slot r.slots n) is
         ∙ slot_same s.requests.slots n None (own_there gone s.requests (gone.kept.in_step variant.Request))) refl (not_way n s.requests rests) stays not_queued)
 
-    pub request_freed_shown : ports.IsSound s.ports → shown_memory (changed s t q) ≡ freed a (shown_memory s)
+    pub request_freed_shown : ports.IsSoundPorts s.ports → shown_memory (changed s t q) ≡ freed a (shown_memory s)
     request_freed_shown held = shown_left gone (changed s t q) refl refl objects
         (public_kept s (changed s t q) (apart_left gone variant.Port (omega arith)) refl refl)
         (timer_beside s (changed s t q) refl (λ r there. beside_left gone variant.Request r (λ e. not_waiting r there)))

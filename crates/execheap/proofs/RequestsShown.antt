@@ -2,21 +2,21 @@
 use Rattle.std.proofs.Common.{◌≡◌, ◌≢◌, ℕ, ◌<◌, ◌≤◌, List, [], ◌∷◌, ◌++◌, Bool, true, false, not, inl, inr, ◌⊎◌, map, length, refl, ap, sym, ◌∙◌, arith, ℤ, pos, neg_ℤ, Option, Some, None, is_some, nat_eq, if◌then◌else◌, filter, unwrap_or, option_map, IsSome, IsTrue, ◌&&◌, ◌==◌, eq-eqb, ne_eqb}
 use Rattle.std.specs.List.{AllByRecursion}
 use Rattle.std.proofs.lemmas.{Bool.cases_eq, List.map-append}
-use Rattle.execlist.specs.{Order.chosen, Order.without, Lists.home, Lists.sequence, Pool.Pooled, Pool.slot}
+use Rattle.execlist.specs.{Order.chosen, Order.without_item, Lists.home, Lists.sequence, Pool.Pooled, Pool.slot}
 use Rattle.execlist.proofs.Pools.{slot_known, slot_other}
 use Rattle.memlist.specs.Memory.{IsWellFormed}
 use Rattle.iorequest.specs.declared.request.Begun.TheVariants.{Finish, NewTime, Queue, Until}
 use Rattle.iorequest.specs.Requests.{closed, is_request, is_unit, opened, request_at, unit_error, with_request, written_with}
 use Rattle.iorequest.specs.declared.request.ReqState.TheVariants.{Idle, UnderWay, Quick, Replied}
-use Rattle.iorequest.specs.{declared.request.Request.Request as TimerRequest, declared.request.Begun.Begun, Request.begun, Request.finished, Request.idle_request, Request.outcome, Request.reply_port, declared.request.ReqState.ReqState}
+use Rattle.iorequest.specs.{declared.request.Request.Request as TimerRequest, declared.request.Begun.Begun, Request.in_progress, Request.finished, Request.idle_request, Request.outcome, Request.reply_port, declared.request.ReqState.ReqState}
 use Rattle.msgport.specs.{Port.arrival_action, Port.new_port, Ports.MessagePorts, Ports.appended, Ports.left_port, Ports.let_go, Ports.message_at, Ports.messages_of, Ports.new_message, Ports.nt_replymsg, Ports.port_at, Ports.taken_out, Ports.typed}
 use Rattle.msgport.specs.Ports as ports
-use Rattle.timerdev.specs.Timing.{AtClock, AtSystem, Due, Timer, Waiting, begins_to_wait, due_next, has_come, is_system, is_waiting, moment, next_of, sooner, system_set, until_next, waits_no_more}
+use Rattle.timerdev.specs.Timing.{AtClock, AtSystem, Due, Timer, Waiting, begins_to_wait, due_next, is_due, is_system, is_waiting, moment, next_of, sooner, system_set, until_next, waits_no_more}
 use Rattle.timerdev.specs.Held.{on_timer}
 use Rattle.execmodel.specs.{State.Message, State.MsgPort, State.Request, State.Heap, State.PublicPort, State.on_heap, Objects.replaced}
 use Rattle.execmodel.specs.Ports as port_model
 use Rattle.execmodel.specs.Requests as model
-use Rattle.execheap.specs.Numbered.{Numbered, IsSound, address_in, message_of_request, message_places, object_of, places, shown_entry, shown_heap, shown_library, shown_memory, shown_public, shown_tagged, shown_timer, shown_waiting}
+use Rattle.execheap.specs.Numbered.{Numbered, IsSoundHeap, address_in, message_of_request, message_places, object_of, places, shown_entry, shown_heap, shown_library, shown_memory, shown_public, shown_tagged, shown_timer, shown_waiting}
 use Rattle.execheap.specs.Requesting.{acting_so, begun_as, begun_now, begun_so, begun_until, done_with, goes_on, on_requests, on_timing, port_number, put_at, reply_out}
 use Rattle.execheap.specs.{declared.tag.Kind.Kind, declared.tag.Tagged.Tagged, Tags.is_same, Tags.tagged, Table.number_at, Table.place_of, Changes.on_ports, Listing.acting_begun, Listing.taken_by_state}
 use Rattle.execheap.specs.declared.tag.Kind.TheVariants as variant
@@ -63,7 +63,7 @@ module _ (s : Numbered) (r request : ℕ) (found : number_at variant.Request req
 
 -- ---- the message of a request is shown by nothing
 
-module _ (s : Numbered) (sound : table.IsSound s.table) (m : ℕ) (past : s.table.pool ≤ m) (q : MessagePorts) (ports : q.ports ≡ s.ports.ports)
+module _ (s : Numbered) (sound : table.IsSoundTable s.table) (m : ℕ) (past : s.table.pool ≤ m) (q : MessagePorts) (ports : q.ports ≡ s.ports.ports)
     (queues : q.queues ≡ s.ports.queues) (messages : (n : ℕ) → n ≢ m → message_at n q ≡ message_at n s.ports) where
   unseen : (x : Tagged) (b : ℕ) → place_of x b s.table ≡ Some b → shown_tagged (record s { ports = q }) x ≡ shown_tagged s x
   unseen (tag.Object variant.Port n) b there =
@@ -80,7 +80,7 @@ module _ (s : Numbered) (sound : table.IsSound s.table) (m : ℕ) (past : s.tabl
 
 -- ---- a reply is put, or taken
 
-module _ {s : Numbered} (sound : IsSound s) (held : ports.IsSound s.ports) (formed : IsWellFormed s.table.memory.regions s.table.memory.blocks) (r request : ℕ)
+module _ {s : Numbered} (sound : IsSoundHeap s) (held : ports.IsSoundPorts s.ports) (formed : IsWellFormed s.table.memory.regions s.table.memory.blocks) (r request : ℕ)
     (here : slot (places variant.Request s) r ≡ Some request) where
   begins : number_at variant.Request request s.table ≡ Some r
   begins = number_live sound.table variant.Request r request here
@@ -205,22 +205,22 @@ module _ {s : Numbered} (sound : IsSound s) (held : ports.IsSound s.ports) (form
   unfolding model.reply_taken
   out_at p port there at is =
       ap (λ o. shown_heap (on_ports (left_port message o) s)) there
-      ∙ with_port_shown s (left_port message (Some p) s.ports) p port (port_at p s.ports) (without message (messages_of p s.ports)) refl
-      (same_at (λ k. port_at k s.ports) p) (λ k. item_set s.ports.queues p (without message (messages_of p s.ports)) [] k (has_queue p port at))
+      ∙ with_port_shown s (left_port message (Some p) s.ports) p port (port_at p s.ports) (without_item message (messages_of p s.ports)) refl
+      (same_at (λ k. port_at k s.ports) p) (λ k. item_set s.ports.queues p (without_item message (messages_of p s.ports)) [] k (has_queue p port at))
       (tells sound.table formed variant.Port p port at)
       ∙ ap (λ queue. port_model.with_port port (port_at p s.ports) queue (shown_heap s)) left
-      ∙ (λ i. port_model.with_port port (sym (port_shown s port p number) i) (without request (sym (messages_shown s port p number) i)) (shown_heap s))
-      ∙ ap (λ a. port_model.with_port a (port_model.port_of a (shown_heap s)) (without request (port_model.messages_of a (shown_heap s))) (shown_heap s))
+      ∙ (λ i. port_model.with_port port (sym (port_shown s port p number) i) (without_item request (sym (messages_shown s port p number) i)) (shown_heap s))
+      ∙ ap (λ a. port_model.with_port a (port_model.port_of a (shown_heap s)) (without_item request (port_model.messages_of a (shown_heap s))) (shown_heap s))
       (is ∙ ap (λ (q : TimerRequest). q.port) holds)
     where
       number : number_at variant.Port port s.table ≡ Some p
       number = number_live sound.table variant.Port p port at
 
-      left : map (address_in (message_places s)) (without message (messages_of p s.ports)) ≡ without request (map (address_in (message_places s)) (messages_of p s.ports))
+      left : map (address_in (message_places s)) (without_item message (messages_of p s.ports)) ≡ without_item request (map (address_in (message_places s)) (messages_of p s.ports))
       left =
           sym (without-map (address_in (message_places s)) message (messages_of p s.ports)
           (messages_apart sound held p message request (request_standing s sound.table r ∙ here)))
-          ∙ ap (λ a. without a (map (address_in (message_places s)) (messages_of p s.ports))) stands_at
+          ∙ ap (λ a. without_item a (map (address_in (message_places s)) (messages_of p s.ports))) stands_at
 
   pub out_heap : IsSome (home s.ports.places message) → shown_heap (on_ports (taken_out message) s) ≡ model.reply_taken request (shown_heap s)
   out_heap queued =
@@ -230,10 +230,10 @@ module _ {s : Numbered} (sound : IsSound s) (held : ports.IsSound s.ports) (form
 -- ---- the timer
 
 -- what waits lives
-pub waiting_placed : {s : Numbered} → IsSound s → (k : ℕ) → is_waiting k s.timing.timer ≡ true → (a : ℕ) × (slot (places variant.Request s) k ≡ Some a)
+pub waiting_placed : {s : Numbered} → IsSoundHeap s → (k : ℕ) → is_waiting k s.timing.timer ≡ true → (a : ℕ) × (slot (places variant.Request s) k ≡ Some a)
 waiting_placed {s} sound k stands = some_is (slot (places variant.Request s) k) (request_live sound.kept k (waiting_under_way sound.kept k stands).0)
 
-module _ {s : Numbered} (sound : IsSound s) (r request : ℕ) (here : slot (places variant.Request s) r ≡ Some request) where
+module _ {s : Numbered} (sound : IsSoundHeap s) (r request : ℕ) (here : slot (places variant.Request s) r ≡ Some request) where
   address_is : address_in (places variant.Request s) r ≡ request
   address_is = ap (λ o. unwrap_or o 0) here
 
@@ -272,7 +272,7 @@ module _ (s : Numbered) where
   moment_same (AtClock time) = refl
   moment_same (AtSystem time) = refl
 
-  come_same : (due : Due) → has_come (shown_timer s) due ≡ has_come s.timing.timer due
+  come_same : (due : Due) → is_due (shown_timer s) due ≡ is_due s.timing.timer due
   come_same (AtClock time) = refl
   come_same (AtSystem time) = refl
 
@@ -296,12 +296,12 @@ module _ (s : Numbered) where
   pub due_shown : due_next (shown_timer s) ≡ option_map (address_in (places variant.Request s)) (due_next s.timing.timer)
   unfolding due_next
   due_shown =
-      next_shown (λ (w : Waiting). has_come (shown_timer s) w.due) (λ (w : Waiting). has_come s.timing.timer w.due) (λ w. come_same w.due)
+      next_shown (λ (w : Waiting). is_due (shown_timer s) w.due) (λ (w : Waiting). is_due s.timing.timer w.due) (λ w. come_same w.due)
 
   pub until_shown : until_next (shown_timer s) ≡ option_map (address_in (places variant.Request s)) (until_next s.timing.timer)
   unfolding until_next
-  until_shown = next_shown (λ (w : Waiting). is_system w.due && has_come (shown_timer s) w.due)
-      (λ (w : Waiting). is_system w.due && has_come s.timing.timer w.due) (λ w. ap (λ b. is_system w.due && b) (come_same w.due))
+  until_shown = next_shown (λ (w : Waiting). is_system w.due && is_due (shown_timer s) w.due)
+      (λ (w : Waiting). is_system w.due && is_due s.timing.timer w.due) (λ w. ap (λ b. is_system w.due && b) (come_same w.due))
 
 -- ---- the memory that is shown
 
@@ -314,7 +314,7 @@ public_put : (o : Option ℕ) (m : ℕ) (q : MessagePorts) → (put_at o m q).pu
 public_put None m q = refl
 public_put (Some p) m q = refl
 
-module _ {s : Numbered} (sound : IsSound s) (held : ports.IsSound s.ports) (formed : IsWellFormed s.table.memory.regions s.table.memory.blocks) (r request : ℕ)
+module _ {s : Numbered} (sound : IsSoundHeap s) (held : ports.IsSoundPorts s.ports) (formed : IsWellFormed s.table.memory.regions s.table.memory.blocks) (r request : ℕ)
     (here : slot (places variant.Request s) r ≡ Some request) where
   holds_here : request_at r s.requests ≡ model.request_of request (shown_heap s)
   holds_here = holds sound held formed r request here
@@ -386,7 +386,7 @@ module _ {s : Numbered} (sound : IsSound s) (held : ports.IsSound s.ports) (form
         (on_timer (begins_to_wait r due) s.timing)
         ∙ objects_beside (on_requests (with_request r (begun_as quick r s)) s) (ports.held (message_of_request r s) s.ports) refl refl refl
         ∙ after_heap sound held formed r request here (begun_as quick r s)
-        ∙ ap (λ x. model.with_request request (begun quick s.timing.timer.system x) (shown_heap s)) holds_here) refl
+        ∙ ap (λ x. model.with_request request (in_progress quick s.timing.timer.system x) (shown_heap s)) holds_here) refl
         (begins_shown sound r request here due)
 
     -- it is done at once
@@ -394,7 +394,7 @@ module _ {s : Numbered} (sound : IsSound s) (held : ports.IsSound s.ports) (form
         ≡ model.finished_at error request (model.under_way quick s.timing.timer.system request (shown_heap s))
     done_begun error =
         done_after sound held formed r request here (begun_as quick r s) error
-        ∙ ap (λ x. model.finished_at error request (model.with_request request (begun quick s.timing.timer.system x) (shown_heap s))) holds_here
+        ∙ ap (λ x. model.finished_at error request (model.with_request request (in_progress quick s.timing.timer.system x) (shown_heap s))) holds_here
 
     by_outcome : (b : Begun) → shown_memory (begun_so b quick r s) ≡ record (shown_memory s) {
       heap = model.heap_begun b quick s.timing.timer.system request (shown_heap s);
@@ -425,7 +425,7 @@ module _ {s : Numbered} (sound : IsSound s) (held : ports.IsSound s.ports) (form
         acting_where sound held formed r request here (reply_port (begun_as quick r s))
         ∙ ap (λ o. model.acting_at o (shown_heap s)) (answers_after sound held formed r request here (begun_as quick r s))
         ∙ ap (λ x. model.acting_at
-        (model.answering_port request (model.with_request request (begun quick s.timing.timer.system x) (shown_heap s))) (shown_heap s)) holds_here
+        (model.answering_port request (model.with_request request (in_progress quick s.timing.timer.system x) (shown_heap s))) (shown_heap s)) holds_here
 
     acting_outcome : (b : Begun)
         → acting_so b quick r s ≡ model.acting_at (model.answering_begun b quick s.timing.timer.system request (shown_heap s)) (shown_heap s)

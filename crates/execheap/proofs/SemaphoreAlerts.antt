@@ -7,7 +7,7 @@ use Rattle.sigsem.specs.Semaphores as sems
 use Rattle.execmodel.specs.Semaphores.{free_sem_alert, heir, is_semaphore_at, obtain_alert, release_alert, sem_of, semaphore_alert}
 use Rattle.execmodel.specs.State.{Heap}
 use Rattle.execheap.specs.declared.tag.Kind.TheVariants as variant
-use Rattle.execheap.specs.{Refusals.alert_of, Refusals.told, Numbered.Numbered, Numbered.IsSound, Numbered.shown_heap, Numbered.places, Table.number_at}
+use Rattle.execheap.specs.{Refusals.alert_of, Refusals.as_refusal, Numbered.Numbered, Numbered.IsSoundHeap, Numbered.shown_heap, Numbered.places, Table.number_at}
 use Rattle.execheap.proofs.{Alerts.handle_unless, Alerts.refused_first, Matching.number_live, Shown.semaphore_at_shown, Shown.sem_shown, Shown.waiters_shown}
 use Rattle.script.specs.declared.alert.Alert.TheVariants as an_alert
 use Rattle.script.specs.declared.alert.Alert.{Alert}
@@ -46,7 +46,7 @@ module _ (semaphore : ℕ) (heap : Heap) {why : Alert} (refused : semaphore_aler
   unfolding release_alert semaphore_alert
   release_refused t = refused_first (is_semaphore_at semaphore heap) (sem_unless (is_owner t (sem_of semaphore heap))) refused
 
-module _ {s : Numbered} (sound : IsSound s) (n semaphore : ℕ) (here : slot (places variant.Semaphore s) n ≡ Some semaphore) where
+module _ {s : Numbered} (sound : IsSoundHeap s) (n semaphore : ℕ) (here : slot (places variant.Semaphore s) n ≡ Some semaphore) where
   begins : number_at variant.Semaphore semaphore s.table ≡ Some n
   begins = number_live sound.table variant.Semaphore n semaphore here
 
@@ -81,28 +81,28 @@ module _ {s : Numbered} (sound : IsSound s) (n semaphore : ℕ) (here : slot (pl
 -- ---- a call by number that may be refused
 
 module _ {A : Type 0} where
-  told_if : (b : Bool) (fault : SemFault) (answer : A) → alert_of (told (fault_or (if b then Some fault else None) answer)) ≡ sem_if b
+  told_if : (b : Bool) (fault : SemFault) (answer : A) → alert_of (as_refusal (fault_or (if b then Some fault else None) answer)) ≡ sem_if b
   told_if true fault answer = refl
   told_if false fault answer = refl
 
-  told_unless : (b : Bool) (fault : SemFault) (answer : A) → alert_of (told (fault_or (if b then None else Some fault) answer)) ≡ sem_unless b
+  told_unless : (b : Bool) (fault : SemFault) (answer : A) → alert_of (as_refusal (fault_or (if b then None else Some fault) answer)) ≡ sem_unless b
   told_unless true fault answer = refl
   told_unless false fault answer = refl
 
   -- the answer of a call that was not refused
-  pub told_answer : (fault : Option SemFault) (answer other : A) → answer ≡ other → IfOk (told (fault_or fault answer)) (λ a. a ≡ other)
+  pub told_answer : (fault : Option SemFault) (answer other : A) → answer ≡ other → IfOk (as_refusal (fault_or fault answer)) (λ a. a ≡ other)
   told_answer None answer other same = same
   told_answer (Some fault) answer other same = tt
 
   -- what such a call makes of things
   pub told_next : {B : Type 0} {P : Type 0} (fault : Option SemFault) (answer : A) (old new : B) → (kept_or fault old new ≡ new → P)
-      → OnOk (told (fault_or fault answer)) P
+      → OnOk (as_refusal (fault_or fault answer)) P
   told_next None answer old new next = next refl
   told_next (Some fault) answer old new next = tt
 
-  module _ {s : Numbered} (sound : IsSound s) (n semaphore : ℕ) (here : slot (places variant.Semaphore s) n ≡ Some semaphore) (t : ℕ) (answer : A) where
-    pub obtain_told : alert_of (told (fault_or (deep_fault n t s.sems) answer)) ≡ obtain_alert t semaphore (shown_heap s)
+  module _ {s : Numbered} (sound : IsSoundHeap s) (n semaphore : ℕ) (here : slot (places variant.Semaphore s) n ≡ Some semaphore) (t : ℕ) (answer : A) where
+    pub obtain_told : alert_of (as_refusal (fault_or (deep_fault n t s.sems) answer)) ≡ obtain_alert t semaphore (shown_heap s)
     obtain_told = told_if (is_too_deep t (sems.sem_at n s.sems)) TooDeep answer ∙ sym (obtain_found sound n semaphore here t)
 
-    pub release_told : alert_of (told (fault_or (release_fault n t s.sems) answer)) ≡ release_alert t semaphore (shown_heap s)
+    pub release_told : alert_of (as_refusal (fault_or (release_fault n t s.sems) answer)) ≡ release_alert t semaphore (shown_heap s)
     release_told = told_unless (is_owner t (sems.sem_at n s.sems)) NotOwner answer ∙ sym (release_found sound n semaphore here t)

@@ -35,7 +35,7 @@ module _ {s : Numbered} {n a : ℕ} {t : Tabled} (q : sems.Semaphores) where
       slots : q.sems.slots ≡ slice_set s.sems.sems.slots n (Some free_sem)
       slots = ap (λ (r : sems.Semaphores). r.sems.slots) is ∙ own_slots made s.sems.sems (made.kept.in_step variant.Semaphore) free_sem
 
-      pub sem_made_shown : sems.IsSound s.sems → shown_memory (changed s t q) ≡ placed 46 (Semaphore free_sem []) (Some a) (shown_memory s)
+      pub sem_made_shown : sems.IsSoundSemaphores s.sems → shown_memory (changed s t q) ≡ placed 46 (Semaphore free_sem []) (Some a) (shown_memory s)
       sem_made_shown held = shown_new made (changed s t q) (Semaphore free_sem []) refl refl others here
           (public_kept s (changed s t q) (apart made variant.Port (omega arith)) refl refl) (timer_kept s (changed s t q) (apart made variant.Request (omega arith)) refl)
         where

@@ -9,7 +9,7 @@ use Rattle.execmodel.specs.{State.Object, State.Plain, State.Library, State.Bloc
 use Rattle.execmodel.specs.Memory as model
 use Rattle.execheap.proofs.{Entries.all_then, Entries.find_shown, Entries.map_same, Entries.put_shown, Entries.some_same, Entries.where_key_shown, Counting.all_freed, Matching.other_object, Tagging.cases_kind, Tagging.read_tag, Tagging.same_other, Tagging.same_self, Blocks.fit_shown}
 use Rattle.execheap.specs.Numbered.{Numbered, object_of, shown_block, shown_entry, shown_heap, shown_library, shown_memory, shown_public, shown_tagged, shown_timer, test_of}
-use Rattle.execheap.specs.{declared.tag.Kind.Kind, declared.tag.Tagged.Tagged, Tags.is_of, Tags.is_same, Tags.number_in, Tags.size_of, Tags.tag_of, Tags.tagged, Table.Tabled, Table.IsSound, Table.IsTagged, Table.counted, Table.next_object, Table.number_at, Table.object_at_next, Table.place_of, Table.pool_of, Table.slots_of, Table.with_object, Table.without_object}
+use Rattle.execheap.specs.{declared.tag.Kind.Kind, declared.tag.Tagged.Tagged, Tags.is_of, Tags.is_same, Tags.number_in, Tags.size_of, Tags.tag_of, Tags.tagged, Table.Tabled, Table.IsSoundTable, Table.IsTagged, Table.counted, Table.next_object, Table.number_at, Table.object_at_next, Table.place_of, Table.pool_of, Table.slots_of, Table.with_object, Table.without_object}
 use Rattle.execheap.specs.declared.tag.Kind.TheVariants as kind
 use Rattle.execheap.specs.declared.tag.Tagged.TheVariants as tag
 
@@ -112,7 +112,7 @@ abbrev pub address_of : Option (ℕ × ℕ) → Option ℕ
 address_of made = option_map (λ (m : ℕ × ℕ). m.1) made
 
 -- the model allows one more object of a kind if a number of that kind is left
-pub allowed_shown : (s : Numbered) → IsSound s.table → (kind : Kind) → IsStocked (pool_of kind s.table)
+pub allowed_shown : (s : Numbered) → IsSoundTable s.table → (kind : Kind) → IsStocked (pool_of kind s.table)
     → is_allowed (test_of kind) (shown_memory s) ≡ is_some (next_number (pool_of kind s.table))
 allowed_shown s sound kind stocked = by_next (next_number (pool_of kind s.table)) refl where
   vacant : (n : ℕ) → next_number (pool_of kind s.table) ≡ Some n → slot (slots_of kind s.table) n ≡ None
@@ -133,7 +133,7 @@ allowed_shown s sound kind stocked = by_next (next_number (pool_of kind s.table)
   ))
 
 -- a new object is placed where the model places it
-pub place_shown : (s : Numbered) → IsSound s.table → (kind : Kind) → IsStocked (pool_of kind s.table)
+pub place_shown : (s : Numbered) → IsSoundTable s.table → (kind : Kind) → IsStocked (pool_of kind s.table)
     → place_for_object (test_of kind) (size_of kind) (shown_memory s) ≡ address_of (next_object kind s.table)
 unfolding place_for_object
 place_shown s sound kind stocked =
@@ -150,7 +150,7 @@ place_shown s sound kind stocked =
 
 -- ---- an object of any kind made or freed, if the others keep what they hold
 
-module _ {s u : Numbered} (sound : IsSound s.table) (kind : Kind) (number a : ℕ) where
+module _ {s u : Numbered} (sound : IsSoundTable s.table) (kind : Kind) (number a : ℕ) where
   pub made_shown : (object : Object) → u.table ≡ with_object kind (Some (number, a)) s.table → u.tasks ≡ s.tasks
       → ((k : Kind) (m b : ℕ) → slot (slots_of k s.table) m ≡ Some b → object_of k m u ≡ object_of k m s)
       → number < 1024 → object_of kind number u ≡ object → map (shown_public u) u.ports.public ≡ map (shown_public s) s.ports.public

@@ -8,7 +8,7 @@ use Rattle.msgport.specs.Ports as queue
 use Rattle.msgport.specs.Ports.{message_at, port_at}
 use Rattle.sigsem.specs.Semaphores as waiting
 use Rattle.sigsem.specs.Semaphores.{sem_at}
-use Rattle.execheap.specs.{declared.tag.Kind.Kind, declared.tag.Tagged.Tagged, Tags.tag_of, Tags.tagged, Table.Tabled, Table.IsSound, Table.IsTagged, Table.number_at, Table.place_of, Table.slots_of, Numbered.Numbered, Numbered.address_in, Numbered.message_places, Numbered.places, Numbered.shown_heap}
+use Rattle.execheap.specs.{declared.tag.Kind.Kind, declared.tag.Tagged.Tagged, Tags.tag_of, Tags.tagged, Table.Tabled, Table.IsSoundTable, Table.IsTagged, Table.number_at, Table.place_of, Table.slots_of, Numbered.Numbered, Numbered.address_in, Numbered.message_places, Numbered.places, Numbered.shown_heap}
 use Rattle.execheap.specs.declared.tag.Kind.TheVariants as variant
 use Rattle.execheap.specs.declared.tag.Tagged.TheVariants as tag
 use Rattle.execheap.proofs.{Entries.IsFound, Entries.all_found, Entries.all_with, Entries.some_same, Matching.number_small, Showing.kind_shown, Showing.object_numbered, Tagging.either_number, Tagging.is_object, Tagging.object_other, Tagging.object_self, Tagging.read_tag}
@@ -70,7 +70,7 @@ module _ (s : Numbered) (a : ℕ) where
 
 -- ---- exactly one block is an object
 
-module _ {t : Tabled} (sound : IsSound t) (formed : IsWellFormed t.memory.regions t.memory.blocks) (kind : Kind) (number a : ℕ)
+module _ {t : Tabled} (sound : IsSoundTable t) (formed : IsWellFormed t.memory.regions t.memory.blocks) (kind : Kind) (number a : ℕ)
     (live : slot (slots_of kind t) number ≡ Some a) where
   -- what is at another address is another object
   elsewhere : (x : Tagged) (b : ℕ) → b ≢ a → place_of x b t ≡ Some b → false ≡ is_object kind number x

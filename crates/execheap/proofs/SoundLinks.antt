@@ -12,7 +12,7 @@ relinked s sequences homes keys = record s { sequences = sequences; homes = home
 
 -- ---- a home that is set
 
--- a node that leaves its list has no home, and so has a number that is no node's
+-- a node that leaves its list has no home, and so has a number that is not a node's
 home_cleared : (homes : List (Option ℕ)) (n : ℕ) → home (slice_set homes n None) n ≡ None
 home_cleared [] n = refl
 home_cleared (o ∷ homes) zero = refl

@@ -5,7 +5,7 @@ use Rattle.execlib.specs.{declared.library.Loaded.Loaded, Libraries.Description}
 use Rattle.memlist.specs.declared.region.Region.{Region}
 use Rattle.execlist.specs.Pool.{Pooled, all_free, slot, taken}
 use Rattle.execlist.proofs.Pools.{slot_new, taken_new}
-use Rattle.execheap.specs.{declared.tag.Kind.Kind, Tags.kind_code, Table.IsSound, Table.emptied, Table.free_pools, Table.pool_of, Table.unused}
+use Rattle.execheap.specs.{declared.tag.Kind.Kind, Tags.kind_code, Table.IsSoundTable, Table.emptied, Table.free_pools, Table.pool_of, Table.unused}
 use Rattle.execheap.specs.declared.tag.Kind.TheVariants as kind
 
 pub pool_unused : (kind : Kind) (regions : List Region) (pool : ℕ) (known : List Description) (asks : Bool) → pool_of kind (unused regions pool known asks) ≡ all_free pool
@@ -16,7 +16,7 @@ pool_unused kind.Message regions pool known asks = refl
 pool_unused kind.Semaphore regions pool known asks = refl
 pool_unused kind.Request regions pool known asks = refl
 
-pub sound_unused : (regions : List Region) (pool : ℕ) (known : List Description) (asks : Bool) → pool ≤ 1024 → IsSound (unused regions pool known asks)
+pub sound_unused : (regions : List Region) (pool : ℕ) (known : List Description) (asks : Bool) → pool ≤ 1024 → IsSoundTable (unused regions pool known asks)
 sound_unused regions pool known asks small = record {
   matched = record {
     tagged = tt;

@@ -3,7 +3,7 @@ use Rattle.std.proofs.Common.{◌≡◌, ◌≢◌, ℕ, suc, ◌+◌, ◌<◌, 
 use Rattle.std.specs.List.{AllByRecursion, list_any}
 use Rattle.std.proofs.lemmas.{Bool.cases_eq, Bool.or_left, Bool.or_right, List.Folds.list_any-append}
 use Rattle.std.proofs.Math.Bool.{or-false, or-true}
-use Rattle.execlist.specs.{Order.without, Lists.home, Lists.times}
+use Rattle.execlist.specs.{Order.without_item, Lists.home, Lists.times}
 use Rattle.execlist.proofs.Pools.{slot_known, slot_other, slot_same}
 use Rattle.msgport.specs.Ports as ports
 use Rattle.msgport.specs.Ports.{MessagePorts, is_held, is_message, is_port, let_go, left_port, posted, taken_out}
@@ -31,24 +31,24 @@ times_end_self n (x ∷ xs) = ap (λ t. cond (x == n) (suc t) t) (times_end_self
   over true t = refl
   over false t = refl
 
-times_without_self : (n : ℕ) (xs : List ℕ) → times n (without n xs) ≡ 0
+times_without_self : (n : ℕ) (xs : List ℕ) → times n (without_item n xs) ≡ 0
 times_without_self n [] = refl
 times_without_self n (x ∷ xs) = by_case (cases_eq x n) (times_without_self n xs) where
-  by_case : (x ≡ n) ⊎ (x ≡ n → ⊥) → times n (without n xs) ≡ 0 → times n (without n (x ∷ xs)) ≡ 0
-  by_case (inl same) rest = ap (λ b. times n (cond (not b) (x ∷ without n xs) (without n xs))) (eq-eqb x n same) ∙ rest
+  by_case : (x ≡ n) ⊎ (x ≡ n → ⊥) → times n (without_item n xs) ≡ 0 → times n (without_item n (x ∷ xs)) ≡ 0
+  by_case (inl same) rest = ap (λ b. times n (cond (not b) (x ∷ without_item n xs) (without_item n xs))) (eq-eqb x n same) ∙ rest
   by_case (inr other) rest =
-      ap (λ b. times n (cond (not b) (x ∷ without n xs) (without n xs))) (ne_eqb x n other)
-      ∙ times_front x n (without n xs) (λ e. other (sym e)) ∙ rest
+      ap (λ b. times n (cond (not b) (x ∷ without_item n xs) (without_item n xs))) (ne_eqb x n other)
+      ∙ times_front x n (without_item n xs) (λ e. other (sym e)) ∙ rest
 
-times_without_other : (n m : ℕ) (xs : List ℕ) → m ≢ n → times m (without n xs) ≡ times m xs
+times_without_other : (n m : ℕ) (xs : List ℕ) → m ≢ n → times m (without_item n xs) ≡ times m xs
 times_without_other n m [] other = refl
 times_without_other n m (x ∷ xs) other = by_case (cases_eq x n) (times_without_other n m xs other) where
-  by_case : (x ≡ n) ⊎ (x ≡ n → ⊥) → times m (without n xs) ≡ times m xs → times m (without n (x ∷ xs)) ≡ times m (x ∷ xs)
+  by_case : (x ≡ n) ⊎ (x ≡ n → ⊥) → times m (without_item n xs) ≡ times m xs → times m (without_item n (x ∷ xs)) ≡ times m (x ∷ xs)
   by_case (inl same) rest =
-      ap (λ b. times m (cond (not b) (x ∷ without n xs) (without n xs))) (eq-eqb x n same) ∙ rest
+      ap (λ b. times m (cond (not b) (x ∷ without_item n xs) (without_item n xs))) (eq-eqb x n same) ∙ rest
       ∙ sym (times_front x m xs (λ e. other (e ∙ same)))
   by_case (inr apart) rest =
-      ap (λ b. times m (cond (not b) (x ∷ without n xs) (without n xs))) (ne_eqb x n apart)
+      ap (λ b. times m (cond (not b) (x ∷ without_item n xs) (without_item n xs))) (ne_eqb x n apart)
       ∙ ap (λ t. cond (x == m) (suc t) t) rest
 
 -- ---- what is held, and in a port

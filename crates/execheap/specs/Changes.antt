@@ -1,6 +1,6 @@
 -- What the calls on objects by number make of them.
 use Rattle.std.specs.Prelude.{Bool, ℕ, zero, suc, ℤ, ◌+◌, ◌-◌, List, [], ◌∷◌, ◌++◌, drop, length, replicate, slice_set, take, Option, None, Some}
-use Rattle.execlist.specs.{Order.enqueue, Order.first, Order.without, Lists.KeyData, Lists.blank, Lists.home, Lists.last, Lists.pri_of, Lists.put_after, Lists.sequence, Pool.all_free}
+use Rattle.execlist.specs.{Order.enqueue, Order.first, Order.without_item, Lists.KeyData, Lists.blank, Lists.home, Lists.last, Lists.pri_of, Lists.put_after, Lists.sequence, Pool.all_free}
 use Rattle.execlib.specs.Libraries.{Description}
 use Rattle.memlist.specs.declared.region.Region.{Region}
 use Rattle.msgport.specs.Ports.{MessagePorts, message_made, no_ports}
@@ -69,7 +69,7 @@ unlinked h (Some n) nodes s = record s { sequences = slice_set s.sequences h nod
 -- node n leaves the list that has it
 abbrev pub left_out : ℕ → Option ℕ → Numbered → Numbered
 left_out n None s = s
-left_out n (Some h) s = unlinked h (Some n) (without n (sequence s.sequences h)) s
+left_out n (Some h) s = unlinked h (Some n) (without_item n (sequence s.sequences h)) s
 
 abbrev pub taken_out : ℕ → Numbered → Numbered
 taken_out n s = left_out n (home s.homes n) s

@@ -140,9 +140,9 @@ pub record IsApt (ports : MessagePorts) (sems : Semaphores) (tasks : ℕ) : Type
   pub own_signals : (p : ℕ) → IsTrue (is_port p ports) → 16 ≤ (port_at p ports).bit
   pub each_task : length sems.places ≡ tasks
 
--- Each request has its message from the beginning on. Just a request that is in progress is held as a message and waits for the timer; one whose
--- reply is queued lives, and the port that has it is its reply port. The clock has room for the longest time of a request, and system time
--- is ahead of it by no more than such a time.
+-- Each request has its message from the beginning on. Exactly a request that is in progress is held as a message and
+-- waits for the timer; one whose reply is queued lives, and the port that has it is its reply port. The clock has room
+-- for the longest time of a request, and system time is ahead of it by no more than such a time.
 pub record IsInTime (s : Numbered) : Type 0 where
   pub each_message : length s.ports.messages.slots ≡ s.table.pool + s.table.pool
   pub each_time : s.timing.room ≡ s.table.pool
@@ -167,8 +167,8 @@ pub record IsKept (s : Numbered) : Type 0 where
   pub in_time : IsInTime s
 
 -- that, and that a number represents one object and an object for one block
-pub record IsSound (s : Numbered) : Type 0 where
-  pub table : table.IsSound s.table
+pub record IsSoundHeap (s : Numbered) : Type 0 where
+  pub table : table.IsSoundTable s.table
   pub kept : IsKept s
 
 -- what every list space reports of sequences, homes and keys
@@ -178,8 +178,8 @@ pub record IsSpace (s : Numbered) : Type 0 where
 
 -- what always holds of objects by number, with what each of their parts reports of itself
 pub record IsKnown (s : Numbered) : Type 0 where
-  pub sound : IsSound s
+  pub sound : IsSoundHeap s
   pub space : IsSpace s
   pub memory : IsWellFormed s.table.memory.regions s.table.memory.blocks
-  pub ports : ports.IsSound s.ports
-  pub sems : sems.IsSound s.sems
+  pub ports : ports.IsSoundPorts s.ports
+  pub sems : sems.IsSoundSemaphores s.sems

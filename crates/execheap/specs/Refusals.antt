@@ -26,6 +26,6 @@ is_none_or_in None h homes = true
 is_none_or_in (Some pred) h homes = is_at (home homes pred) h
 
 -- the answer of a call on a semaphore, if any fault is reported as one refusal
-abbrev pub told : {A : Type 0} → Result A SemFault → Result A Refusal
-told (Ok answer) = Ok answer
-told (Err fault) = Err Sem
+abbrev pub as_refusal : {A : Type 0} → Result A SemFault → Result A Refusal
+as_refusal (Ok answer) = Ok answer
+as_refusal (Err fault) = Err Sem

@@ -3,7 +3,7 @@ use Rattle.std.specs.Prelude.{ℕ, ℤ, pos, Bool, if◌then◌else◌, Option, 
 use Rattle.execlist.specs.Pool.{Pooled}
 use Rattle.iorequest.specs.declared.request.Begun.TheVariants.{Finish, NewTime, Queue, Until}
 use Rattle.iorequest.specs.declared.request.ReqState.TheVariants.{Idle, UnderWay, Quick, Replied}
-use Rattle.iorequest.specs.{declared.request.Begun.Begun, declared.request.Request.Request, declared.request.ReqState.ReqState, Request.begun, Request.finished, Request.is_under_way, Request.outcome, Request.reply_port, Requests.request_at, Requests.with_request}
+use Rattle.iorequest.specs.{declared.request.Begun.Begun, declared.request.Request.Request, declared.request.ReqState.ReqState, Request.in_progress, Request.finished, Request.is_under_way, Request.outcome, Request.reply_port, Requests.request_at, Requests.with_request}
 use Rattle.msgport.specs.{declared.action.Action.Action, Port.arrival_action, Ports.MessagePorts, Ports.held, Ports.let_go, Ports.nt_replymsg, Ports.port_at, Ports.posted, Ports.taken_out}
 use Rattle.msgport.specs.declared.action.Action.TheVariants as action
 use Rattle.timerdev.specs.{Held.on_timer, Timing.AtClock, Timing.AtSystem, Timing.Due, Timing.Timer, Timing.begins_to_wait, Timing.system_set, Timing.waits_no_more}
@@ -51,7 +51,7 @@ done_with error q r s = record s {
 
 -- request r as it is begun
 abbrev pub begun_as : Bool → ℕ → Numbered → Request
-begun_as quick r s = begun quick s.timing.timer.system (request_at r s.requests)
+begun_as quick r s = in_progress quick s.timing.timer.system (request_at r s.requests)
 
 -- how request r goes on that is begun now
 abbrev pub goes_on : ℕ → Numbered → Begun

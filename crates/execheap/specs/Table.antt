@@ -49,7 +49,8 @@ free_pools pool =
 abbrev pub emptied : Pooled ℕ → Pooled ℕ
 emptied p = all_free (length p.slots)
 
--- nothing is allocated, of each kind that many objects may live, and none of these libraries is loaded, which are expunged under low memory or not
+-- nothing is allocated, of each kind that many objects may live, and none of these libraries is loaded, which are asked
+-- for memory or not
 abbrev pub unused : List Region → ℕ → List Description → Bool → Tabled
 unused regions pool known asks = record {
   memory = untouched regions;
@@ -62,7 +63,7 @@ unused regions pool known asks = record {
 abbrev pub with_lent : Lent → Tabled → Tabled
 with_lent l t = record t { memory = l.memory; libs = l.libraries }
 
--- libraries were expunged under low memory for a block of that many bytes
+-- libraries were asked for memory for a block of that many bytes
 abbrev pub after_asking : (size reqs : ℕ) → Tabled → Tabled
 after_asking size reqs t = with_lent (library.after_asking size reqs (lent t.libs t.memory)) t
 
@@ -101,7 +102,7 @@ without_object kind number address t = record t {
 
 -- ---- libraries
 
--- other libraries were expunged under low memory for the one that is opened, if it is to be loaded
+-- the other libraries were asked for memory for the one that is opened, if it is to be loaded
 abbrev pub ready_to_open : Option ℕ → Tabled → Tabled
 ready_to_open found t = with_lent (library.ready_to_open found (lent t.libs t.memory)) t
 
@@ -145,7 +146,7 @@ pub record IsMatched (t : Tabled) : Type 0 where
   pub count : (kind : Kind) → counted kind t.memory.blocks ≡ taken (slots_of kind t)
 
 -- and there is one pool for each kind, all of one length, and one place for each library
-pub record IsSound (t : Tabled) : Type 0 where
+pub record IsSoundTable (t : Tabled) : Type 0 where
   pub matched : IsMatched t
   pub each : (kind : Kind) → length (slots_of kind t) ≡ t.pool
   pub kinds : length t.pools ≡ length kinds

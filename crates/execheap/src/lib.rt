@@ -1,7 +1,6 @@
-//! The memory of a machine and the objects that live in it, by address.
-//! `Heap` is what callers use. `objects` keeps the objects by number, and a file for each kind has the kind's calls, by number and by
-//! address; `table` says which block is an object of which kind and number, and which a loaded library; `view`
-//! is what is seen of a block.
+//! The memory of a machine and the objects that live in it, by address. `Heap` is what callers use. `objects` keeps the
+//! objects by number, and a file for each kind has the kind's calls, by number and by address; `table` says which block
+//! is an object of which kind and number, and which a loaded library; `view` is what is seen of a block.
 #![tactic(auto)]
 
 mod awaited;

@@ -1,9 +1,10 @@
-//! Objects by number, and the blocks in which they live. What a call by address means is in the file of its kind, below this one.
+//! Objects by number, and the blocks in which they live. What a call by address means is in the file of its kind, below
+//! this one.
 ghost use Rattle.std.specs.Prelude.{◌≡◌, ◌≤◌, not, ◌&&◌, true, false, Some, length, map, IfOk, IfSome, IsSome, IsTrue};
 ghost use Rattle.execlib.specs.Libraries.{description_of};
 ghost use Rattle.memlist.specs.{Fit.asks, Fit.avail, Memory.can_free, Memory.without_block};
 ghost use Rattle.execlist.specs.Pool.{slot};
-ghost use Rattle.execmodel.specs.{State.Plain, Memory.freed, Memory.place_for, Memory.placed, GivingWay.after_asking};
+ghost use Rattle.execmodel.specs.{State.Plain, Memory.freed, Memory.place_for, Memory.placed, LowMemory.after_asking};
 ghost use Rattle.execheap.specs.declared.tag.Kind.TheVariants as variant;
 ghost use Rattle.execheap.specs.{Table.number_at, Numbered.IsKnown, Numbered.places, Numbered.shown_memory, Changes.unused};
 
@@ -29,9 +30,10 @@ use std::alloc::{AllocError, Global};
 use std::marker::Model;
 use timerdev::timer::Timer;
 
-/// The blocks of a memory, and the objects that live in them by number. The table says where each object is; the list space, the ports,
-/// the semaphores and the requests keep what they hold, and give the numbers that the table gives; the timer knows which requests wait.
-/// Each request is a message of the ports too, from the beginning on: their numbers are after those of the messages.
+/// The blocks of a memory, and the objects that live in them by number. The table says where each object is; the list
+/// space, the ports, the semaphores and the requests keep what they hold, and give the numbers that the table gives;
+/// the timer knows which requests wait. Each request is a message of the ports too, from the beginning on: their
+/// numbers are after those of the messages.
 #[derive(Drop)]
 pub struct Objects<S: ListSpace> {
     table: Table<S>,
@@ -75,9 +77,9 @@ impl<S: ListSpace> Model for Objects<S> {
 }
 
 impl<S: ListSpace> Objects<S> {
-    /// Memory of these regions in which nothing is allocated, room for that many objects of each kind and for that many tasks to wait at
-    /// semaphores, these libraries, none of them loaded, which are expunged under low memory or not, and a clock at 0 that gains that many microseconds
-    /// at each tick.
+    /// Memory of these regions in which nothing is allocated, room for that many objects of each kind and for that many
+    /// tasks to wait at semaphores, these libraries, none of them loaded, which are asked for memory or not, and a
+    /// clock at 0 that gains that many microseconds at each tick.
     pub fn new(
         alloc: Global,
         regions: &[Region],
@@ -121,7 +123,7 @@ impl<S: ListSpace> Objects<S> {
 
     // ---- plain blocks
 
-    /// A plain block of that many bytes, if one fits once libraries were expunged under low memory: its address.
+    /// A plain block of that many bytes, if one fits, at once or after libraries were asked for memory: its address.
     ///
     /// Source: autodoc exec.library/AllocMem; when libraries are asked: project rule.
     pub fn allocate(&mut self, size: u32, reqs: u32) -> Option<u32>
@@ -154,8 +156,8 @@ impl<S: ListSpace> Objects<S> {
 
     // ---- numbers and addresses
 
-    /// The number of the object of a kind that begins at an address, if one does. A call on objects begins here, and learns here what
-    /// always holds of them.
+    /// The number of the object of a kind that begins at an address, if one does. A call on objects begins here, and
+    /// learns here what always holds of them.
     pub fn number_at(&self, kind: Kind, address: u32) -> Option<usize>
         ensures value { result ≡ number_at kind address self.now.table }
         ensures live { IfSome result (λ n. slot (places kind self.now) n ≡ Some address) }

@@ -1,6 +1,6 @@
 //! Why a call on an object is refused.
 ghost use Rattle.std.specs.Prelude.{◌≡◌};
-ghost use Rattle.execheap.specs.Refusals.{code_of, told};
+ghost use Rattle.execheap.specs.Refusals.{code_of, as_refusal};
 
 use script::Alert;
 use sigsem::fault::SemFault;
@@ -16,11 +16,12 @@ pub enum Refusal {
     /// where it must be; or a list that is to be freed holds nodes.
     #[error("linked where it must not be, or the other way")]
     Link,
-    /// A port that is to be freed holds messages, is public or is the reply port of a request in progress; or a port to wait at does not
-    /// signal the caller.
+    /// A port that is to be freed holds messages, is public or is the reply port of a request in progress; or a port to
+    /// wait at does not signal the caller.
     #[error("a port in use, or not the caller's to wait at")]
     Port,
-    /// A semaphore that is to be freed is owned, one that is to be released is not the caller's, or one is obtained too often.
+    /// A semaphore that is to be freed is owned, one that is to be released is not the caller's, or one is obtained too
+    /// often.
     #[error("a semaphore owned, not owned by the caller, or obtained too often")]
     Sem,
     /// A library that is to be closed is not open.
@@ -48,8 +49,8 @@ impl Refusal {
 }
 
 /// What a call on a semaphore answers by address: any fault of the semaphores is the refusal Sem.
-pub(crate) fn told<A>(answer: Result<A, SemFault>) -> Result<A, Refusal>
-    ensures { result ≡ told answer }
+pub(crate) fn as_refusal<A>(answer: Result<A, SemFault>) -> Result<A, Refusal>
+    ensures { result ≡ as_refusal answer }
 {
     match answer {
         Ok(answer) => Ok(answer),

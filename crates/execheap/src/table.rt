@@ -1,11 +1,11 @@
-//! Which blocks are objects of which kind, and where each object is; and the libraries, which are loaded into blocks. Here is nothing of
-//! what objects hold.
+//! Which blocks are objects of which kind, and where each object is; and the libraries, which are loaded into blocks.
+//! Here is nothing of what objects hold.
 ghost use Rattle.std.specs.Prelude.{◌≡◌, ◌≤◌, ◌↔◌, not, ◌&&◌, true, false, length, map, slice_get, IfOk, IfSome, IsSome, IsTrue, None, Some};
 ghost use Rattle.memlist.specs.{Fit.asks, Fit.avail, Fit.fit, Memory.IsWellFormed, Memory.allocated, Memory.can_free, Memory.untouched, Memory.without_block, Readers.gap_from, Readers.gaps_in};
 ghost use Rattle.execlist.specs.Pool.{IsStocked, all_free, slot};
 ghost use Rattle.execlib.specs.Libraries.{close_fault, count_of, description_of, is_loaded, loaded_at, library_to_open, no_library_loaded, opened_base};
 ghost use Rattle.script.specs.Records.{library_view};
-ghost use Rattle.execheap.specs.Table.{IsSound, after_asking, base_at, begins_at, emptied, free_pools, library_at, library_closed, library_opened, library_removed, next_object, number_at, pool_of, ready_for, ready_to_open, slots_of, unused, with_object, without_object};
+ghost use Rattle.execheap.specs.Table.{IsSoundTable, after_asking, base_at, begins_at, emptied, free_pools, library_at, library_closed, library_opened, library_removed, next_object, number_at, pool_of, ready_for, ready_to_open, slots_of, unused, with_object, without_object};
 ghost use Rattle.execheap.specs.Numbered.{shown_library};
 
 use crate::tag::{Kind, Tagged, library_in, number_in, read, tag_of};
@@ -28,18 +28,18 @@ pub struct Table<S: ListSpace> {
 }
 
 impl<S: ListSpace> Model for Table<S> {
-    ghost use Rattle.execheap.specs.Table.{IsSound, Tabled};
+    ghost use Rattle.execheap.specs.Table.{IsSoundTable, Tabled};
 
     ghost Value = { Tabled };
 
     ghost view = { λ t. record { memory = t.memory; pools = t.pools; pool = t.pool; libs = t.libs } };
 
-    ghost invariant = { λ t. IsSound (record { memory = t.memory; pools = t.pools; pool = t.pool; libs = t.libs }) };
+    ghost invariant = { λ t. IsSoundTable (record { memory = t.memory; pools = t.pools; pool = t.pool; libs = t.libs }) };
 }
 
 impl<S: ListSpace> Table<S> {
-    /// Memory of these regions in which nothing is allocated, room for that many objects of each kind, and these libraries, none of them loaded,
-    /// which are expunged under low memory or not.
+    /// Memory of these regions in which nothing is allocated, room for that many objects of each kind, and these
+    /// libraries, none of them loaded, which are asked for memory or not.
     pub fn new(
         alloc: Global,
         regions: &[Region],
@@ -62,7 +62,8 @@ impl<S: ListSpace> Table<S> {
         })
     }
 
-    /// Frees all, as `new` makes it: nothing is allocated, no object lives, and no library is loaded; libraries are expunged under low memory or not.
+    /// Frees all, as `new` makes it: nothing is allocated, no object lives, and no library is loaded; libraries are
+    /// asked for memory or not.
     ///
     /// Source: project rule.
     pub fn reset(&mut self, asks: bool)
@@ -98,7 +99,7 @@ impl<S: ListSpace> Table<S> {
 
     /// What always holds of the table. It costs nothing.
     pub fn facts(&self)
-        ensures sound { IsSound self.now }
+        ensures sound { IsSoundTable self.now }
         ensures memory { IsWellFormed self.now.memory.regions self.now.memory.blocks }
     {
         self.memory.is_well_formed();
@@ -106,13 +107,13 @@ impl<S: ListSpace> Table<S> {
 
     // ---- plain blocks
 
-    /// A plain block of that many bytes, if one fits once libraries were expunged under low memory.
+    /// A plain block of that many bytes, if one fits, at once or after libraries were asked for memory.
     ///
     /// Source: autodoc exec.library/AllocMem; when libraries are asked: project rule.
     pub fn allocate(&mut self, size: u32, reqs: u32) -> Option<u32>
         ensures answer { let ready = after_asking size reqs self.old in result ≡ fit ready.memory.regions ready.memory.blocks size reqs }
         ensures next { let ready = after_asking size reqs self.old in self.new ≡ record ready { memory = allocated size 0 result ready.memory } }
-        ensures sound { IsSound self.old }
+        ensures sound { IsSoundTable self.old }
         ensures memory { IsWellFormed self.old.memory.regions self.old.memory.blocks }
     {
         self.memory.is_well_formed();
@@ -180,12 +181,12 @@ impl<S: ListSpace> Table<S> {
         self.pools[kind.code()].get(number)
     }
 
-    /// A new object of a kind, if the pool has one left and its block fits once libraries were expunged under low memory: its number and its
-    /// address. Nothing is asked if the pool has none left.
+    /// A new object of a kind, if the pool has one left and its block fits, at once or after libraries were asked for
+    /// memory: its number and its address. Nothing is asked if the pool has none left.
     pub fn make(&mut self, kind: Kind) -> Option<(usize, u32)>
         ensures answer { result ≡ next_object kind (ready_for kind self.old) }
         ensures next { self.new ≡ with_object kind result (ready_for kind self.old) }
-        ensures sound { IsSound self.old }
+        ensures sound { IsSoundTable self.old }
         ensures stocked { IsStocked (pool_of kind self.old) }
         ensures memory { IsWellFormed self.old.memory.regions self.old.memory.blocks }
     {
@@ -205,7 +206,7 @@ impl<S: ListSpace> Table<S> {
     pub fn free(&mut self, kind: Kind, number: usize, address: u32)
         requires { slot (slots_of kind self.old) number ≡ Some address }
         ensures next { self.new ≡ without_object kind number address self.old }
-        ensures sound { IsSound self.old }
+        ensures sound { IsSoundTable self.old }
         ensures memory { IsWellFormed self.old.memory.regions self.old.memory.blocks }
     {
         self.memory.is_well_formed();
@@ -263,14 +264,15 @@ impl<S: ListSpace> Table<S> {
         self.libs.count(i)
     }
 
-    /// Opens the library of a name that has at least a version, loading it first if it is absent, and answers its base; none if there
-    /// is none such, or it can be opened no more, or its block fits nowhere once others were expunged under low memory.
+    /// Opens the library of a name that has at least a version, loading it first if it is absent, and answers its base;
+    /// none if there is none such, or it can be opened no more, or its block fits nowhere, even after others were asked
+    /// for memory.
     ///
     /// Source: autodoc exec.library/OpenLibrary.
     pub fn open_library(&mut self, name: &str, version: u32) -> Option<u32>
         ensures answer { let found = library_to_open name.now version self.old.libs in let ready = ready_to_open found self.old in result ≡ opened_base found ready.libs ready.memory }
         ensures next { let found = library_to_open name.now version self.old.libs in self.new ≡ library_opened found result (ready_to_open found self.old) }
-        ensures sound { IsSound self.old }
+        ensures sound { IsSoundTable self.old }
         ensures memory { IsWellFormed self.old.memory.regions self.old.memory.blocks }
     {
         self.memory.is_well_formed();
@@ -284,7 +286,7 @@ impl<S: ListSpace> Table<S> {
         requires loaded { IsTrue (is_loaded i self.old.libs) }
         requires open { close_fault i self.old.libs ≡ None }
         ensures next { self.new ≡ library_closed i self.old }
-        ensures sound { IsSound self.old }
+        ensures sound { IsSoundTable self.old }
         ensures memory { IsWellFormed self.old.memory.regions self.old.memory.blocks }
     {
         self.memory.is_well_formed();
@@ -297,7 +299,7 @@ impl<S: ListSpace> Table<S> {
     pub fn remove_library(&mut self, i: LibId)
         requires { IsTrue (is_loaded i self.old.libs) }
         ensures next { self.new ≡ library_removed i self.old }
-        ensures sound { IsSound self.old }
+        ensures sound { IsSoundTable self.old }
         ensures memory { IsWellFormed self.old.memory.regions self.old.memory.blocks }
     {
         self.memory.is_well_formed();
@@ -305,7 +307,8 @@ impl<S: ListSpace> Table<S> {
     }
 }
 
-/// The memory of these regions, which `check_regions` accepts, so that out of memory is all that can be in the way of it.
+/// The memory of these regions, which `check_regions` accepts, so that out of memory is all that can be in the way of
+/// it.
 fn memory_of(alloc: Global, regions: &[Region]) -> Result<MemList, AllocError>
     ensures { IfOk result (λ memory. memory ≡ untouched regions.now) }
 {

@@ -49,8 +49,8 @@ impl Kind {
         }
     }
 
-    /// The bytes of an object of the kind, by the include files exec/lists.h, exec/nodes.h, exec/ports.h, exec/semaphores.h and
-    /// devices/timer.h; a message has its word too (project rule).
+    /// The bytes of an object of the kind, by the include files exec/lists.h, exec/nodes.h, exec/ports.h,
+    /// exec/semaphores.h and devices/timer.h; a message has its word too (project rule).
     pub fn size(self) -> u32
         ensures { result ≡ size_of self }
     {

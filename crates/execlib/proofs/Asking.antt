@@ -1,4 +1,5 @@
--- What libraries keep while they are expunged under low memory: which there are, which are absent, and that the loaded ones lie in the memory.
+-- What libraries keep while they are asked for memory: which there are, which are absent, and that the loaded ones lie
+-- in the memory.
 use Rattle.std.proofs.Common.{◌≡◌, ◌≢◌, ℕ, suc, ◌+◌, ◌-◌, ◌<◌, Bool, true, false, cond, List, [], ◌∷◌, length, slice_index_or, refl, sym, ap, subst, ◌∙◌, arith, Option, Some, None, is_some, not, ◌&&◌, nat_eq, unwrap_or, if◌then◌else◌, option_map, nat_cmp}
 use Rattle.std.specs.{List.range_with_len, Option.option_map_or, FinMap.nat_cmp-IsAntisymmetric, FinMap.Entries.find-where_key}
 use Rattle.execlist.proofs.Pools.{slot_known, slot_other, slot_same}
@@ -47,9 +48,9 @@ tag_beside a b blocks other =
     (find-where_key nat_cmp (λ k. not (nat_eq k a)) b (λ x e. ap (λ k. not (nat_eq k a)) (sym (nat_cmp-IsAntisymmetric b x e))) blocks
     ∙ ap (λ t. cond (not t) (block_at b blocks) None) (nat_eq-other b a other))
 
--- ---- one library is expunged under low memory
+-- ---- one library is asked for memory
 
--- what giving way comes to, by whether the library is loaded and whether it is expunged
+-- what asking a library for memory comes to, by whether the library is loaded and whether it is expunged
 abbrev way : (loaded leaves : Bool) → ℕ → Lent → Lent
 way loaded leaves i l =
     if loaded then record {
@@ -57,7 +58,7 @@ way loaded leaves i l =
       memory = if leaves then memory_without i l.libraries l.memory else l.memory;
     } else l
 
--- a library that is expunged under low memory is absent, or is expunged, or is marked
+-- a library that is asked for memory is absent, or is expunged, or is marked
 pub ways : (P : Lent → Type 0) (i : ℕ) (l : Lent) → P l
     → (is_loaded i l.libraries ≡ true → leaves_by_removal i l.libraries ≡ true → P (lent (expunged i l.libraries) (memory_without i l.libraries l.memory)))
     → (is_loaded i l.libraries ≡ true → leaves_by_removal i l.libraries ≡ false → P (lent (marked i l.libraries) l.memory))
@@ -132,7 +133,7 @@ module _ (P : Lent → Type 0) (kept : (i : ℕ) (l : Lent) → P l → P (gives
       each_kept others (asked_one size reqs i l)
       (elim (fits size reqs l.memory) as (λ b. P (cond b l (gives_way i l))) [ true ↦ before | false ↦ kept i l before ])
 
-  -- what each library that is expunged under low memory keeps is kept by the asking
+  -- what each library that is asked for memory keeps is kept by the asking
   pub asking_keeps : (l : Lent) → P l → P (after_asking size reqs l)
   unfolding after_asking
   asking_keeps l before =
@@ -159,7 +160,7 @@ fitting_asked size reqs [] l fitting = refl
 fitting_asked size reqs (i ∷ others) l fitting =
     ap (λ b. asked_each size reqs others (cond b l (gives_way i l))) fitting ∙ fitting_asked size reqs others l fitting
 
--- as long as it does not, the next one is expunged under low memory
+-- as long as it does not, the next one is asked for memory
 pub next_asked : (size reqs i n : ℕ) (l : Lent) → i < n → fits size reqs l.memory ≡ false
     → asked_each size reqs (range_with_len i (n - i)) l ≡ asked_each size reqs (range_with_len (i + 1) (n - (i + 1))) (gives_way i l)
 next_asked size reqs i n l there unfit =
@@ -175,7 +176,7 @@ last_asked size reqs i n l end =
 
 -- ---- before an opening
 
--- what each library that is expunged under low memory keeps is kept before an opening
+-- what each library that is asked for memory keeps is kept before an opening
 pub ready_keeps : (P : Lent → Type 0) → ((i : ℕ) (l : Lent) → P l → P (gives_way i l)) → (i : ℕ) (l : Lent) → P l → P (ready_to_load i l)
 ready_keeps P kept i l before =
     elim (is_loaded i l.libraries) as (λ b. P (cond b l (after_asking (library_at i l.libraries).size public_memory l))) [
@@ -196,7 +197,7 @@ module _ (i : ℕ) (l : Lent) where
     abbrev asked : Lent
     asked = after_asking (library_at i l.libraries).size public_memory l
 
-    -- others are expunged under low memory for a library that is absent
+    -- others are asked for memory for a library that is absent
     pub ready_absent : ready_to_load i l ≡ asked
     ready_absent = ap (λ o. cond (is_some o) l asked) is
 

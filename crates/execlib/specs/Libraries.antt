@@ -17,7 +17,7 @@ pub record Libraries : Type 0 where
   pub known : List Description
   -- where each is loaded, how often it is open and whether it is to be expunged; none for one that is absent
   pub loaded : List (Option Loaded)
-  -- whether they are expunged under low memory if a block fits nowhere
+  -- whether they are asked for memory if a block fits nowhere
   pub asks : Bool
 
 -- libraries, and the memory that is lent to them: their blocks lie there
@@ -136,13 +136,13 @@ memory_after_removal i m memory = if leaves_by_removal i m then memory_without i
 abbrev pub fits : (size reqs : ℕ) → Memory → Bool
 fits size reqs memory = is_some (fit memory.regions memory.blocks size reqs)
 
--- library i, if it is loaded, is expunged under low memory as if it were removed: it is expunged if it is not open, and else is to be expunged when it is
--- closed for the last time
+-- library i is asked for memory: if it is loaded, it does as if it were removed: it is expunged if it is not open, and
+-- else is marked, to be expunged when it is closed for the last time
 abbrev pub gives_way : ℕ → Lent → Lent
 gives_way i l =
     if is_loaded i l.libraries then record { libraries = removed i l.libraries; memory = memory_after_removal i l.libraries l.memory } else l
 
--- library i is expunged under low memory, unless a block of that many bytes fits already
+-- library i is asked for memory, unless a block of that many bytes fits already
 abbrev pub asked_one : (size reqs i : ℕ) → Lent → Lent
 asked_one size reqs i l = if fits size reqs l.memory then l else gives_way i l
 
@@ -183,7 +183,7 @@ base_or_fit (Some l) size memory = Some l.base
 abbrev pub base_for : ℕ → Libraries → Memory → Option ℕ
 base_for i m memory = base_or_fit (loaded_at i m) (library_at i m).size memory
 
--- libraries and memory before library i is opened: if it is to be loaded, libraries are expunged under low memory for it
+-- libraries and memory before library i is opened: if it is to be loaded, the others are asked for memory
 abbrev pub ready_to_load : ℕ → Lent → Lent
 ready_to_load i l = if is_loaded i l.libraries then l else after_asking (library_at i l.libraries).size public_memory l
 
@@ -220,7 +220,7 @@ memory_for (Some i) base m memory = loads i base m memory
 abbrev pub description_of : LibInit → Description
 description_of library = record { name = library.name.bytes; version = library.version; size = library.size }
 
--- all libraries, none of which is loaded, and whether they are expunged under low memory
+-- all libraries, none of which is loaded, and whether they are asked for memory
 abbrev pub no_library_loaded : List Description → Bool → Libraries
 no_library_loaded known asks = record { known = known; loaded = replicate (length known) None; asks = asks }
 

@@ -25,8 +25,8 @@ const FIRST_TAG: u32 = 0x8000_0000;
 
 /// Libraries, and which of them are loaded.
 ///
-/// All room is made by `new`; no other call takes memory of the host. The memory in which libraries are loaded is lent to each call.
-/// RKM Libraries, Exec Libraries.
+/// All room is made by `new`; no other call takes memory of the host. The memory in which libraries are loaded is lent
+/// to each call. RKM Libraries, Exec Libraries.
 #[derive(Drop)]
 pub struct Libs<S: ListSpace> {
     known: Vec<LibInit>,
@@ -47,8 +47,8 @@ impl<S: ListSpace> Model for Libs<S> {
 }
 
 impl<S: ListSpace> Libs<S> {
-    /// Libraries of these names, versions and sizes, at most 32, numbered in the order given. None is loaded. With `asks` the loaded ones
-    /// are expunged under low memory if a block fits nowhere (`alloc_mem`, and `open` if it loads one).
+    /// Libraries of these names, versions and sizes, at most 32, numbered in the order given. None is loaded. With
+    /// `asks` the loaded ones are asked for memory if a block fits nowhere (`alloc_mem`, and `open` if it loads one).
     ///
     /// An error means that memory is refused.
     pub fn new(alloc: Global, libraries: &[LibInit], asks: bool) -> Result<Self, AllocError>
@@ -66,8 +66,8 @@ impl<S: ListSpace> Libs<S> {
         })
     }
 
-    /// Leaves no library loaded, as `new` did, and the loaded ones are expunged under low memory or not, as `asks` says. The blocks of those
-    /// that were loaded are left to the caller.
+    /// Leaves no library loaded, as `new` did, and the loaded ones are asked for memory or not, as `asks` says. The
+    /// blocks of those that were loaded are left to the caller.
     ///
     /// Source: project rule.
     pub fn reset(&mut self, asks: bool)
@@ -79,12 +79,14 @@ impl<S: ListSpace> Libs<S> {
 
     // ---- taking memory
 
-    /// Takes a block of a size in bytes with those requirements and that tag, as `MemList::alloc_mem` does, and answers its address.
+    /// Takes a block of a size in bytes with those requirements and that tag, as `MemList::alloc_mem` does, and answers
+    /// its address.
     ///
-    /// If the libraries are asked, the size is not 0 and no gap is large enough, the loaded ones are asked in the order of
-    /// their numbers: one that is not open is expunged, an open one is to be expunged when it is closed for the last time (LIBF_DELEXP).
-    /// After each of them the gaps are looked at again, and the first that is large enough ends the asking. None is answered if none
-    /// is large enough then; what was expunged or marked stays so. The loaded libraries have to lie in the memory.
+    /// If the libraries are asked, the size is not 0 and no gap is large enough, the loaded ones are asked in the order
+    /// of their numbers: one that is not open is expunged, an open one is to be expunged when it is closed for the last
+    /// time (LIBF_DELEXP). After each of them the gaps are looked at again, and the first that is large enough ends the
+    /// asking. None is answered if none is large enough then; what was expunged or marked stays so. The loaded
+    /// libraries have to lie in the memory.
     ///
     /// Autodocs exec.library/AllocMem, exec.library/RemLibrary; the order of asking: project rule.
     pub fn alloc_mem(&mut self, size: u32, reqs: u32, tag: u32, memory: &mut MemList) -> Option<u32>
@@ -99,13 +101,14 @@ impl<S: ListSpace> Libs<S> {
 
     // ---- opening and closing
 
-    /// Opens the library of a name whose version is at least the one asked for. One that is not loaded is loaded first: it takes a block
-    /// of its size, with MEMF_PUBLIC, whose tag is $80000000 and its number, and other libraries are expunged under low memory for it as in `alloc_mem`. It is
-    /// open once more, and is not to be expunged any more.
+    /// Opens the library of a name whose version is at least the one asked for. One that is not loaded is loaded first:
+    /// it takes a block of its size, with MEMF_PUBLIC, whose tag is $80000000 and its number, and the other libraries
+    /// are asked for memory as in `alloc_mem`. It is open once more, and is not to be expunged any more.
     ///
-    /// Answers its base, the address of its block. None is answered, and nothing changes but what was expunged under low memory, if there is no library of the
-    /// name, its version is lower, it is open 65,535 times, or it is to be loaded and no gap of memory is large enough (the count: project
-    /// rule). The loaded libraries have to lie in the memory. Autodoc exec.library/OpenLibrary.
+    /// Answers its base, the address of its block. None is answered, and nothing changes but libraries that were asked
+    /// for memory, if there is no library of the name, its version is lower, it is open 65,535 times, or it is to be
+    /// loaded and no gap of memory is large enough (the count: project rule). The loaded libraries have to lie in the
+    /// memory. Autodoc exec.library/OpenLibrary.
     #[tactic(auto, unfolding(crate::specs::Libraries::ready_to_open))]
     pub fn open(&mut self, name: &str, version: u32, memory: &mut MemList) -> Option<u32>
         requires blocks { LieIn self.old memory.old }
@@ -119,8 +122,8 @@ impl<S: ListSpace> Libs<S> {
         Some(base)
     }
 
-    /// Closes a loaded library once. If it is to be expunged and is now open no more, it is: its block is freed, and it is not loaded
-    /// any more. One that is not to be expunged stays loaded.
+    /// Closes a loaded library once. If it is to be expunged and is now open no more, it is: its block is freed, and it
+    /// is not loaded any more. One that is not to be expunged stays loaded.
     ///
     /// It is NotOpen if the library is open no more (project rule). The block of the library has to be in the memory.
     /// Autodoc exec.library/CloseLibrary.
@@ -150,8 +153,8 @@ impl<S: ListSpace> Libs<S> {
         Ok(())
     }
 
-    /// Removes a loaded library: if it is not open it is expunged, and else it is to be expunged when it is closed for the last time
-    /// (LIBF_DELEXP). The block of the library has to be in the memory. Autodoc exec.library/RemLibrary.
+    /// Removes a loaded library: if it is not open it is expunged, and else it is to be expunged when it is closed for
+    /// the last time (LIBF_DELEXP). The block of the library has to be in the memory. Autodoc exec.library/RemLibrary.
     pub fn remove(&mut self, i: LibId, memory: &mut MemList)
         requires loaded { IsTrue (is_loaded i self.old) }
         requires block { IsSome (block_at (base_of i self.old) memory.old.blocks) }
@@ -200,15 +203,16 @@ impl<S: ListSpace> Libs<S> {
         self.loaded_library(i).base
     }
 
-    /// Answers whether there is a library of that number and it is loaded: whether the calls that ask for one may be made. Project rule.
+    /// Answers whether there is a library of that number and it is loaded: whether the calls that ask for one may be
+    /// made. Project rule.
     pub fn is_loaded(&self, i: LibId) -> bool
         ensures { result ≡ is_loaded i self.now }
     {
         self.loaded_at(i).is_some()
     }
 
-    /// Answers, of a loaded library, how often it is open, and whether it is to be expunged when it is closed for the last time; none
-    /// if it is not loaded. RKM Libraries, Exec Libraries: `lib_OpenCnt`, `lib_Flags`.
+    /// Answers, of a loaded library, how often it is open, and whether it is to be expunged when it is closed for the
+    /// last time; none if it is not loaded. RKM Libraries, Exec Libraries: `lib_OpenCnt`, `lib_Flags`.
     pub fn loaded_at(&self, i: LibId) -> Option<Loaded>
         ensures { result ≡ loaded_at i self.now }
     {
@@ -285,7 +289,7 @@ impl<S: ListSpace> Libs<S> {
 
     // ---- single changes
 
-    // Where a library is; one that is not loaded takes its block, and others are expunged under low memory for it.
+    // Where a library is; one that is not loaded takes its block, for which the others are asked for memory.
     fn base_for(&mut self, i: LibId, memory: &mut MemList) -> Option<u32>
         requires known { i < length self.old.known }
         requires blocks { LieIn self.old memory.old }
@@ -303,7 +307,8 @@ impl<S: ListSpace> Libs<S> {
         }
     }
 
-    // If the libraries are asked and a block of that many bytes fits nowhere, they are expunged under low memory one after another until it does.
+    // If libraries are asked for memory and a block of that many bytes fits nowhere, they are asked one after another
+    // until it fits.
     #[tactic(auto, unfolding(crate::specs::Libraries::after_asking))]
     fn ask(&mut self, size: u32, reqs: u32, memory: &mut MemList)
         requires blocks { LieIn self.old memory.old }
@@ -315,7 +320,7 @@ impl<S: ListSpace> Libs<S> {
         }
     }
 
-    // The libraries are expunged under low memory one after another as long as a block of that many bytes fits nowhere.
+    // Libraries are asked for memory one after another as long as a block of that many bytes fits nowhere.
     fn ask_each(&mut self, size: u32, reqs: u32, memory: &mut MemList)
         requires blocks { LieIn self.old memory.old }
         ensures libraries { self.new ≡ (asked_each size reqs (numbers (length self.old.known)) (lent self.old memory.old)).libraries }
@@ -329,7 +334,8 @@ impl<S: ListSpace> Libs<S> {
         }
     }
 
-    // A library that is loaded is expunged under low memory as if it were removed.
+    // A library that is asked for memory does as if it were removed, if it is loaded: one that is not open is expunged,
+    // an open one is marked.
     fn give_way(&mut self, i: LibId, memory: &mut MemList)
         requires blocks { LieIn self.old memory.old }
         ensures libraries { self.new ≡ (gives_way i (lent self.old memory.old)).libraries }

@@ -1,6 +1,6 @@
 -- The definitions compute: small cases that hold by computing both sides.
 use Rattle.std.proofs.Common.{refl, ◌≡◌, ℕ, ℤ, pos, negsuc, [], ◌∷◌, Some, None, slice_index_or}
-use Rattle.execlist.specs.Order.{chosen, order, without}
+use Rattle.execlist.specs.Order.{chosen, order, without_item}
 
 -- the priorities 0, 5, 0, -128, 127, 5
 abbrev key : ℕ → ℤ
@@ -15,7 +15,7 @@ chosen-of-equals = refl
 chosen-of-none : chosen key [] ≡ None
 chosen-of-none = refl
 
-without-one : without 1 (0 ∷ 1 ∷ 2 ∷ []) ≡ 0 ∷ 2 ∷ []
+without-one : without_item 1 (0 ∷ 1 ∷ 2 ∷ []) ≡ 0 ∷ 2 ∷ []
 without-one = refl
 
 order-of-all : order key (0 ∷ 1 ∷ 2 ∷ 3 ∷ 4 ∷ 5 ∷ []) ≡ 4 ∷ 1 ∷ 5 ∷ 0 ∷ 2 ∷ 3 ∷ []

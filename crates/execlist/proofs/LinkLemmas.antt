@@ -2,7 +2,7 @@
 use Rattle.std.proofs.Common.{◌≡◌, ℕ, zero, suc, ◌+◌, ◌-◌, ◌<◌, ◌≤◌, false, cond, eqb, List, [], ◌∷◌, ◌++◌, length, get_or, set, replicate, refl, sym, ap, subst, ◌∙◌, arith, Option, Some, None, inl, inr, append_assoc, ◌⊎◌, slice_set, IsSome, eq-eqb, ne_eqb, lt-ltb, le-ltb}
 use Rattle.std.proofs.lemmas.{Bool.cond-true, Bool.cond-false, Bool.cases_lt, Bool.cases_eq, List.get_or_past, List.same_lists, List.set-get_or, List.length-replicate, List.FromFn.length-map-range_with_len, List.FromFn.get_or-map-range_with_len}
 use Rattle.execlist.specs.Chains.{head_cell, tail_cell, Follows, Misses, Apart, AtHome, Below, IsIn, IsChain, IsLinked, lists_of, homes_of, header_of, node_at, cell_before, empty_links}
-use Rattle.execlist.specs.{Order.first, Order.without, Lists.sequence, Lists.home, Lists.is_at, Lists.times, Lists.part_before, Lists.part_after, Lists.part_from, Lists.put_after, Lists.last, Links.Link, Links.link_at, Links.linked, Links.unlinked}
+use Rattle.execlist.specs.{Order.first, Order.without_item, Lists.sequence, Lists.home, Lists.is_at, Lists.times, Lists.part_before, Lists.part_after, Lists.part_from, Lists.put_after, Lists.last, Links.Link, Links.link_at, Links.linked, Links.unlinked}
 use Rattle.execlist.proofs.{PlainLemmas.home_known, PlainLemmas.map_set, PlainLemmas.times-append, PlainLemmas.times_same, PlainLemmas.without_round, Walks.upto, Walks.put_parts, Chains.last_from, Chains.prev-is, Chains.next-is, Chains.home-misses, Chains.append-assoc, Chains.linked-home, Chains.linked-home-c, Chains.unlinked-home, Chains.unlinked-home-c, Linked.first_or, Linked.rest_of, Linked.first-is, Linked.decide, Linked.linked-holds, Linked.unlinked-holds, Empty.empty-at, Read.lists-is, Read.apart-left}
 
 -- lists of numbers
@@ -252,12 +252,12 @@ module _ (n k : ℕ) (ls : List Link) (L : IsLinked n k ls (lists_of ls n k)) wh
     out-linked : IsLinked n k (unlinked c ls) (set seqs h (xs ++ ys))
     out-linked = unlinked-holds n k ls seqs L h is-in.0 xs ys c (sym round) ahead-in behind-in
 
-    left-out : xs ++ ys ≡ without c (sequence seqs h)
+    left-out : xs ++ ys ≡ without_item c (sequence seqs h)
     left-out =
         let once = in-once c (sequence seqs h) (seq-apart h is-in.0) is-in.1 in let t = times-append c xs (c ∷ ys) in let s = times_same c ys in let e = ap (times c) round in
-        sym (ap (without c) (sym round) ∙ without_round c xs ys (omega arith) (omega arith))
+        sym (ap (without_item c) (sym round) ∙ without_round c xs ys (omega arith) (omega arith))
 
-    pub out-lists : lists_of (unlinked c ls) n k ≡ slice_set seqs h (without c (sequence seqs h))
+    pub out-lists : lists_of (unlinked c ls) n k ≡ slice_set seqs h (without_item c (sequence seqs h))
     out-lists = lists-is n k (unlinked c ls) (set seqs h (xs ++ ys)) out-linked ∙ ap (set seqs h) left-out
 
     pub out-holds : IsLinked n k (unlinked c ls) (lists_of (unlinked c ls) n k)

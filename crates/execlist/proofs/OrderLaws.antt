@@ -2,7 +2,7 @@
 use Rattle.std.proofs.Common.{◌≡◌, ℕ, zero, suc, ◌<◌, Bool, true, false, cond, not, eqb, List, [], ◌∷◌, length, get_or, refl, sym, ◌∙◌, ap, arith, Option, Some, None, MatchOption, All, ℤ, ◌≤ℤ◌, ◌<ℤ◌, int_lt, filter, fold, slice_index_or, find, eq-eqb}
 use Rattle.std.specs.List.{AllByRecursion}
 use Rattle.std.proofs.lemmas.{Grind.fold-append, List.Elements.filter_passes, List.Elements.All-head, List.Elements.All-tail, Bool.both_ways, Bool.not-true, Bool.cond-true, Bool.cond-false, Int.ints}
-use Rattle.execlist.specs.Order.{OrderTakesArrival, is_lower, enqueue, order, first, chosen, chosen_or, IsEarliestGreatest, OrderLeavesOut, FirstOfOrderIsChosen, ChosenIsEarliestGreatest, OrderReadsMembersKeys, FoundInOrderIsChosen, without, OrderRekeyed}
+use Rattle.execlist.specs.Order.{OrderTakesArrival, is_lower, enqueue, order, first, chosen, chosen_or, IsEarliestGreatest, OrderLeavesOut, FirstOfOrderIsChosen, ChosenIsEarliestGreatest, OrderReadsMembersKeys, FoundInOrderIsChosen, without_item, OrderRekeyed}
 
 lt_trans : (a b c : ℤ) → int_lt a b ≡ true → int_lt b c ≡ true → int_lt a c ≡ true
 lt_trans a b c p q = grind (arith, ints)
@@ -206,7 +206,7 @@ order_reads_keys A = λ key other xs h. same_from key other [] xs tt h
 
 pub order_rekeyed : OrderRekeyed
 order_rekeyed key other n xs same =
-    let w = without n xs in
+    let w = without_item n xs in
     let agree : All (λ x. other x ≡ key x) w = λ k d l. same (get_or w k d) (λ e. both_ways (eqb (get_or w k d) n) (not-true (eqb (get_or w k d) n) (filter_passes (λ x. not (eqb x n)) xs k d l)) (eq-eqb (get_or w k d) n e)) in
     order_takes ℕ other w n
     ∙ ap (λ l. enqueue other l n) (order_reads_keys ℕ key other w agree ∙ order_leaves_out ℕ key (λ x. not (eqb x n)) xs)

@@ -2,7 +2,7 @@
 use Rattle.std.proofs.Common.{◌≡◌, ◌≢◌, ℕ, zero, suc, ◌+◌, ◌-◌, ◌<◌, ◌≤◌, Bool, true, false, cond, not, eqb, List, [], ◌∷◌, ◌++◌, length, get_or, take, drop, map, refl, sym, ◌∙◌, ap, arith, inl, inr, Option, Some, None, is_some, append_assoc, replicate, length-append, length-take, length-drop, add-one, slice_set, insert, remove, All, ◌⊎◌, slice_index, IfSome, eqb-true, eq-eqb, ne_eqb, get_or-set_same, get_or-set_other, length-set, take-append-drop, append-nil}
 use Rattle.std.specs.List.{range_with_len}
 use Rattle.std.proofs.lemmas.{Bool.cond-true, Bool.cond-false, Bool.eqb-false, Bool.cases_eq, Bool.cases_lt, List.same_lists, List.get_or_past, List.set-get_or, List.get_or_read, List.Elements.filter-append, List.Elements.filter_more, List.FromFn.length-map-range_with_len, List.FromFn.get_or-map-range_with_len}
-use Rattle.execlist.specs.{Order.first, Order.without, Lists.home, Lists.is_at, Lists.times, Lists.sequence, Lists.part_before, Lists.part_after, Lists.put_after, Lists.last, Plain.nodes_of, Plain.sequences_of, Plain.linked_count, Plain.IsSpace}
+use Rattle.execlist.specs.{Order.first, Order.without_item, Lists.home, Lists.is_at, Lists.times, Lists.sequence, Lists.part_before, Lists.part_after, Lists.put_after, Lists.last, Plain.nodes_of, Plain.sequences_of, Plain.linked_count, Plain.IsSpace}
 
 -- Homes.
 
@@ -278,33 +278,33 @@ parts_fresh all i n l e once =
     let t = times-append n (take i all) (n ∷ drop (suc i) all) in let r = ap (times n) (split_round all i n l e) in let o = times_same n (drop (suc i) all) in
     (omega arith, omega arith)
 
-pub without_fresh : (n : ℕ) (xs : List ℕ) → times n xs ≡ 0 → without n xs ≡ xs
+pub without_fresh : (n : ℕ) (xs : List ℕ) → times n xs ≡ 0 → without_item n xs ≡ xs
 without_fresh n [] e = refl
 without_fresh n (x ∷ xs) e = by_case (eqb x n) e (without_fresh n xs) where
-  by_case : (b : Bool) → cond b (suc (times n xs)) (times n xs) ≡ 0 → (times n xs ≡ 0 → without n xs ≡ xs) → cond (not b) (x ∷ without n xs) (without n xs) ≡ x ∷ xs
+  by_case : (b : Bool) → cond b (suc (times n xs)) (times n xs) ≡ 0 → (times n xs ≡ 0 → without_item n xs ≡ xs) → cond (not b) (x ∷ without_item n xs) (without_item n xs) ≡ x ∷ xs
   by_case true z ih = absurd (omega arith)
   by_case false z ih = ap (λ l. x ∷ l) (ih z)
 
-pub times_without : (n : ℕ) (xs : List ℕ) → times n (without n xs) ≡ 0
+pub times_without : (n : ℕ) (xs : List ℕ) → times n (without_item n xs) ≡ 0
 times_without n [] = refl
 times_without n (x ∷ xs) = by_case (eqb x n) refl (times_without n xs) where
-  by_case : (b : Bool) → eqb x n ≡ b → times n (without n xs) ≡ 0 → times n (cond (not b) (x ∷ without n xs) (without n xs)) ≡ 0
+  by_case : (b : Bool) → eqb x n ≡ b → times n (without_item n xs) ≡ 0 → times n (cond (not b) (x ∷ without_item n xs) (without_item n xs)) ≡ 0
   by_case true e ih = ih
   by_case false e ih = cond-false _ _ _ e ∙ ih
 
-pub times_without_other : (n t : ℕ) (xs : List ℕ) → (t ≡ n → ⊥) → times t (without n xs) ≡ times t xs
+pub times_without_other : (n t : ℕ) (xs : List ℕ) → (t ≡ n → ⊥) → times t (without_item n xs) ≡ times t xs
 times_without_other n t [] other = refl
 times_without_other n t (x ∷ xs) other = by_case (cases_eq x n) (times_without_other n t xs other) where
-  by_case : (x ≡ n) ⊎ (x ≡ n → ⊥) → times t (without n xs) ≡ times t xs → times t (without n (x ∷ xs)) ≡ times t (x ∷ xs)
+  by_case : (x ≡ n) ⊎ (x ≡ n → ⊥) → times t (without_item n xs) ≡ times t xs → times t (without_item n (x ∷ xs)) ≡ times t (x ∷ xs)
   by_case (inl same) ih =
       ap (times t) (cond-false _ _ _ (ap not (eq-eqb x n same))) ∙ ih
       ∙ sym (cond-false _ _ _ (ne_eqb x t (λ e. other (sym e ∙ same))))
   by_case (inr differs) ih =
       ap (times t) (cond-true _ _ _ (ap not (ne_eqb x n differs))) ∙ ap (λ k. cond (eqb x t) (suc k) k) ih
 
-pub without_round : (n : ℕ) (xs ys : List ℕ) → times n xs ≡ 0 → times n ys ≡ 0 → without n (xs ++ n ∷ ys) ≡ xs ++ ys
+pub without_round : (n : ℕ) (xs ys : List ℕ) → times n xs ≡ 0 → times n ys ≡ 0 → without_item n (xs ++ n ∷ ys) ≡ xs ++ ys
 without_round n xs ys a b =
-    filter-append (λ x. not (eqb x n)) xs (n ∷ ys) ∙ ap (λ l. l ++ without n (n ∷ ys)) (without_fresh n xs a)
+    filter-append (λ x. not (eqb x n)) xs (n ∷ ys) ∙ ap (λ l. l ++ without_item n (n ∷ ys)) (without_fresh n xs a)
     ∙ ap (λ l. xs ++ l) (cond-false _ _ _ (ap not (eq-eqb n n refl)) ∙ without_fresh n ys b)
 
 pub before_round : (n : ℕ) (xs ys : List ℕ) → times n xs ≡ 0 → part_before n (xs ++ n ∷ ys) ≡ xs
@@ -375,7 +375,7 @@ put_after_held homes all i h n p l e own once =
 
 -- What the sequences are after a node is taken out.
 module _ (headers : ℕ) (all : List ℕ) (homes : List (Option ℕ)) (i h n : ℕ) (s : IsSpace headers all homes) (within : i < length all) (there : get_or all i 0 ≡ n) (own : home homes n ≡ Some h) where
-  pub take_sequences : sequences_of headers (remove all i) (slice_set homes n None) ≡ slice_set (sequences_of headers all homes) h (without n (sequence (sequences_of headers all homes) h))
+  pub take_sequences : sequences_of headers (remove all i) (slice_set homes n None) ≡ slice_set (sequences_of headers all homes) h (without_item n (sequence (sequences_of headers all homes) h))
   take_sequences =
       let node = home_known homes n h own in
       let free : home (slice_set homes n None) n ≡ None = home_same homes n None node in
@@ -385,9 +385,9 @@ module _ (headers : ℕ) (all : List ℕ) (homes : List (Option ℕ)) (i h n : �
       ∙ ap (λ l. nodes_of homes k (take i all) ++ l) (held_fresh homes n k None (drop (suc i) all) gone.1) in
       let was : (k : ℕ) → nodes_of homes k all ≡ nodes_of homes k (take i all) ++ nodes_of homes k (n ∷ drop (suc i) all) = λ k. ap (nodes_of homes k) (sym (split_round all i n within there))
       ∙ filter-append (λ m. is_at (home homes m) k) (take i all) (n ∷ drop (suc i) all) in
-      let own_part : without n (nodes_of homes h all) ≡ nodes_of homes h (take i all) ++ nodes_of homes h (drop (suc i) all) = ap (without n) (was h ∙ ap (λ l. nodes_of homes h (take i all) ++ l) (held_in homes n h (drop (suc i) all) (at_own homes n h own)))
+      let own_part : without_item n (nodes_of homes h all) ≡ nodes_of homes h (take i all) ++ nodes_of homes h (drop (suc i) all) = ap (without_item n) (was h ∙ ap (λ l. nodes_of homes h (take i all) ++ l) (held_in homes n h (drop (suc i) all) (at_own homes n h own)))
       ∙ without_round n (nodes_of homes h (take i all)) (nodes_of homes h (drop (suc i) all)) (times_held homes n h (take i all) gone.0) (times_held homes n h (drop (suc i) all) gone.1) in
-      map_set (λ k. nodes_of homes k all) (λ k. nodes_of (slice_set homes n None) k (remove all i)) headers h (without n (sequence (sequences_of headers all homes) h)) (s.homed n h own) (left h ∙ sym own_part ∙ ap (without n) (sym (sequence_is headers all homes h (s.homed n h own)))) (λ k ne. left k ∙ sym (was k ∙ ap (λ l. nodes_of homes k (take i all) ++ l) (held_out homes n k (drop (suc i) all) (at_other homes n h k own ne))))
+      map_set (λ k. nodes_of homes k all) (λ k. nodes_of (slice_set homes n None) k (remove all i)) headers h (without_item n (sequence (sequences_of headers all homes) h)) (s.homed n h own) (left h ∙ sym own_part ∙ ap (without_item n) (sym (sequence_is headers all homes h (s.homed n h own)))) (λ k ne. left k ∙ sym (was k ∙ ap (λ l. nodes_of homes k (take i all) ++ l) (held_out homes n k (drop (suc i) all) (at_other homes n h k own ne))))
 
   pub after_held : part_after n (sequence (sequences_of headers all homes) h) ≡ nodes_of homes h (drop (suc i) all)
   after_held = ap (part_after n) (sequence_is headers all homes h (s.homed n h own))
@@ -418,7 +418,7 @@ stands_once headers all homes s h n = by_case (cases_lt h headers) where
       ∙ outside l (home homes n) refl
 
 -- The ends.
-pub without_first : (n : ℕ) (xs : List ℕ) → first xs ≡ Some n → times n xs ≡ 1 → without n xs ≡ drop 1 xs
+pub without_first : (n : ℕ) (xs : List ℕ) → first xs ≡ Some n → times n xs ≡ 1 → without_item n xs ≡ drop 1 xs
 without_first n [] e t = cc
 without_first n (x ∷ xs) e t =
     let here : x ≡ n = cc in
@@ -441,14 +441,14 @@ take_less x y xs =
     let b : length (y ∷ xs) - 1 ≡ length xs = omega arith in
     ap (λ k. take k (x ∷ y ∷ xs)) a ∙ ap (λ k. x ∷ take k (y ∷ xs)) (sym b)
 
-pub without_last : (n : ℕ) (xs : List ℕ) → last xs ≡ Some n → times n xs ≡ 1 → without n xs ≡ take (length xs - 1) xs
+pub without_last : (n : ℕ) (xs : List ℕ) → last xs ≡ Some n → times n xs ≡ 1 → without_item n xs ≡ take (length xs - 1) xs
 without_last n [] e t = cc
 without_last n (x ∷ []) e t =
     let here : x ≡ n = cc in
     cond-false _ _ _ (ap not (eq-eqb x n here))
 without_last n (x ∷ y ∷ xs) e t =
     by_case (eqb x n) t (last_times n (y ∷ xs) e) (without_last n (y ∷ xs) e) ∙ sym (take_less x y xs) where
-      by_case : (b : Bool) → cond b (suc (times n (y ∷ xs))) (times n (y ∷ xs)) ≡ 1 → 0 < times n (y ∷ xs) → (times n (y ∷ xs) ≡ 1 → without n (y ∷ xs) ≡ take (length (y ∷ xs) - 1) (y ∷ xs)) → cond (not b) (x ∷ without n (y ∷ xs)) (without n (y ∷ xs)) ≡ x ∷ take (length (y ∷ xs) - 1) (y ∷ xs)
+      by_case : (b : Bool) → cond b (suc (times n (y ∷ xs))) (times n (y ∷ xs)) ≡ 1 → 0 < times n (y ∷ xs) → (times n (y ∷ xs) ≡ 1 → without_item n (y ∷ xs) ≡ take (length (y ∷ xs) - 1) (y ∷ xs)) → cond (not b) (x ∷ without_item n (y ∷ xs)) (without_item n (y ∷ xs)) ≡ x ∷ take (length (y ∷ xs) - 1) (y ∷ xs)
       by_case true z l ih = absurd (omega arith)
       by_case false z l ih = ap (λ m. x ∷ m) (ih z)
 

@@ -14,7 +14,7 @@ pub record Discipline : Type 0 where
 abbrev pub by_priority : Discipline
 by_priority = record { arrival = enqueue; choice = λ key. first }
 
--- an arriving item is put last, and the earliest among those of greatest priority is next: such a queue is never sorted
+-- an arriving item is put last, and the earliest among those of highest priority is next: such a queue is never sorted
 -- (RKM Libraries, Exec Tasks: scheduling)
 abbrev pub by_arrival : Discipline
 by_arrival = record { arrival = λ key xs x. xs ++ x ∷ []; choice = chosen }

@@ -21,8 +21,8 @@ first [] = None
 first (x ∷ xs) = Some x
 
 -- the sequence with item n left out
-abbrev pub without : ℕ → List ℕ → List ℕ
-without n xs = filter (λ x. not (x == n)) xs
+abbrev pub without_item : ℕ → List ℕ → List ℕ
+without_item n xs = filter (λ x. not (x == n)) xs
 
 -- x, unless the item that is chosen from those after it has a greater key
 abbrev pub chosen_or : {A : Type 0} → (A → ℤ) → A → Option A → Option A
@@ -68,4 +68,4 @@ FoundInOrderIsChosen A = (key : A → ℤ) (wanted : A → Bool) (xs : List A) �
 
 -- an item that leaves, gets another key and arrives anew is put among the others by its new key
 abbrev pub OrderRekeyed : Type 0
-OrderRekeyed = (key other : ℕ → ℤ) (n : ℕ) (xs : List ℕ) → ((m : ℕ) → m ≢ n → other m ≡ key m) → order other (without n xs ++ n ∷ []) ≡ enqueue other (without n (order key xs)) n
+OrderRekeyed = (key other : ℕ → ℤ) (n : ℕ) (xs : List ℕ) → ((m : ℕ) → m ≢ n → other m ≡ key m) → order other (without_item n xs ++ n ∷ []) ≡ enqueue other (without_item n (order key xs)) n

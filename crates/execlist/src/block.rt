@@ -68,8 +68,8 @@ impl Block {
     }
 }
 
-/// Takes a block with room for `capacity` cells, none of which is there yet, and the lease on its memory, or answers none
-/// if no memory is left. Neither can be dropped: only `free` takes them.
+/// Takes a block with room for `capacity` cells, none of which is there yet, and the lease on its memory, or answers
+/// none if no memory is left. Neither can be dropped: only `free` takes them.
 pub fn reserve(alloc: &Global, capacity: usize) -> Option<(Block, Lease<Cell, Global>)>
     requires { capacity < 2 ^ 32 }
     ensures { IfSome result (λ r. (r.0.capacity ≡ capacity) × (r.0.links ≡ []) × (lease_heap r.1 ≡ alloc.now)

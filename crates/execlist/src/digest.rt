@@ -64,7 +64,7 @@ impl DigestKey {
     ///
     /// Source: autodoc exec.library/FindName; the digest is a project rule.
     #[inline]
-    pub fn is_told(&self, digest: u64, name: &str) -> bool
+    pub fn matches(&self, digest: u64, name: &str) -> bool
         requires { digest ≡ digest_of name.now }
         ensures { result ≡ name_is ((digest_key_of self.now).name) name.now }
     {

@@ -1,5 +1,5 @@
-//! Laws of the definitions of `specs/Order.antt` and `specs/Places.antt`. Each function does nothing: its contract is the law,
-//! and a caller who calls it may use the law from there on. No law speaks of a list space.
+//! Laws of the definitions of `specs/Order.antt` and `specs/Places.antt`. Each function does nothing: its contract is
+//! the law, and a caller who calls it may use the law from there on. No law speaks of a list space.
 ghost use Rattle.execlist.specs.{Order.OrderTakesArrival, Order.OrderLeavesOut, Order.FirstOfOrderIsChosen, Order.ChosenIsEarliestGreatest, Order.OrderReadsMembersKeys, Order.FoundInOrderIsChosen, Order.OrderRekeyed, Places.WalksMeetSequences};
 
 /// An arrival is one more `enqueue`: the order of some items and one more is that one put into their order.
@@ -51,7 +51,8 @@ pub fn order_rekeyed()
     ensures { OrderRekeyed }
 {}
 
-/// From the head of a header the places that follow are its nodes in their order and then its tail, if they end; and the same back.
+/// From the head of a header the places that follow are its nodes in their order and then its tail, if they end; and
+/// the same back.
 ///
 /// RKM Libraries, Exec Lists and Queues: `ln_Succ`, `ln_Pred`.
 pub fn walks_meet_sequences()

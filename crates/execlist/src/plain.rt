@@ -1,5 +1,6 @@
-//! A list space in vectors: one list of all linked nodes, in which the nodes of a header are in their
-//! order, and for each node its header and its key. A call reads that list once or twice from end to end, and a walk does so for each node.
+//! A list space in vectors: one list of all linked nodes, in which the nodes of a header are in their order, and for
+//! each node its header and its key. A call reads that list once or twice from end to end, and a walk does so for each
+//! node.
 ghost use Rattle.std.specs.Prelude.{◌≡◌, ℕ, ◌<◌, ◌≤◌, ◌+◌, List, [], ◌∷◌, ◌++◌, Option, Some, None, true, false, length, insert, remove, slice_set, slice_index, slice_index_or, drop, take, find, map, option_map, All, IfOk, IfSome, IsSome, vec_len, if◌then◌else◌, vec_capacity};
 ghost use Rattle.execlist.specs.{Order.first, Order.is_lower, Order.enqueue, Lists.sequence, Lists.blank, Lists.part_from, Lists.home, Lists.pri_of, Lists.is_at, Lists.is_named, Lists.times, Lists.last, Lists.name_is, Plain.nodes_of, Plain.sequences_of, Plain.IsSpace, Keys.key_of, Keys.keys_of};
 

@@ -1,5 +1,5 @@
-//! A pool: that many numbers, each of which holds one item or is free. A list space has its headers and nodes by number, and gives out
-//! none of them: a pool does.
+//! A pool: that many numbers, each of which holds one item or is free. A list space has its headers and nodes by
+//! number, and gives out none of them: a pool does.
 //!
 //! The numbers are an project rule: Exec knows its objects by address alone. The free ones are in a stack with room
 //! for all, so that each call but `new` and the resets takes constant time, and none but `new` memory.
@@ -99,8 +99,8 @@ impl<T: Copy> Pool<T> {
         self.reset_below(count);
     }
 
-    /// Makes the numbers below `count` free, in the order in which `new` made them; each number from there on holds an item, which stays.
-    /// It looks at those alone that may have been given since the pool was made or reset.
+    /// Makes the numbers below `count` free, in the order in which `new` made them; each number from there on holds an
+    /// item, which stays. It looks at those alone that may have been given since the pool was made or reset.
     pub fn reset_below(&mut self, count: usize)
         requires known { count ≤ length self.old.slots }
         requires held { (n : ℕ) → count ≤ n → n < length self.old.slots → IsSome (slot self.old.slots n) }

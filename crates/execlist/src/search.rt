@@ -54,6 +54,6 @@ impl<'a> Sought for Named<'a> {
 
     #[inline]
     fn is_met(&self, key: &DigestKey) -> bool {
-        key.is_told(self.digest, self.name)
+        key.matches(self.digest, self.name)
     }
 }

@@ -3,7 +3,7 @@
 ghost use Rattle.std.specs.Prelude.{◌≡◌, ℕ, ◌<◌, ◌≤◌, List, [], ◌∷◌, ◌++◌, Option, Some, None, length, replicate, slice_set, drop, take, find, option_map, IfOk, IfSome, IsSome, MatchOption, if◌then◌else◌, ◌-◌};
 ghost use Rattle.std.specs.Option.{ForSome};
 ghost use Rattle.execlist.specs.Lists.{KeyData, blank, sequence, home, pri_of, part_before, part_after, part_from, put_after, last, is_named, is_at, times};
-ghost use Rattle.execlist.specs.Order.{enqueue, first, without};
+ghost use Rattle.execlist.specs.Order.{enqueue, first, without_item};
 
 use crate::key::Name;
 use std::alloc::{AllocError, Global};
@@ -38,7 +38,8 @@ pub trait ListSpace: Drop {
         ensures unlinked { IfOk result (λ s. homes s ≡ replicate nodes None) }
         ensures blank { IfOk result (λ s. keys s ≡ replicate nodes blank) };
 
-    /// Makes the space as `new` made it: each header is empty, and each node is in none, of priority 0 and with no name.
+    /// Makes the space as `new` made it: each header is empty, and each node is in none, of priority 0 and with no
+    /// name.
     ///
     /// Source: project rule.
     fn reset(&mut self)
@@ -99,7 +100,7 @@ pub trait ListSpace: Drop {
     fn remove(&mut self, n: NodeId)
         requires { IsSome (home (homes self.old) n) }
         ensures taken { IfSome (home (homes self.old) n) (λ h. sequences self.new
-            ≡ slice_set (sequences self.old) h (without n (sequence (sequences self.old) h))) }
+            ≡ slice_set (sequences self.old) h (without_item n (sequence (sequences self.old) h))) }
         ensures headers { length (sequences self.new) ≡ length (sequences self.old) }
         ensures homes { homes self.new ≡ slice_set (homes self.old) n None }
         ensures keys { keys self.new ≡ keys self.old };

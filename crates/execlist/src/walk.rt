@@ -5,7 +5,8 @@ ghost use Rattle.execlist.specs.{Order.first, Lists.sequence, Lists.home, Lists.
 
 use crate::space::{HeaderId, ListSpace, NodeId};
 
-/// The node after `after` in the sequence of a header, or the first one for none. None at the end, and if `after` is not in that sequence.
+/// The node after `after` in the sequence of a header, or the first one for none. None at the end, and if `after` is
+/// not in that sequence.
 ///
 /// Source: RKM Libraries, Exec Lists and Queues: scanning a list.
 pub fn next_node<S: ListSpace>(space: &S, h: HeaderId, after: Option<NodeId>) -> Option<NodeId>

@@ -1,5 +1,5 @@
 -- How rows follow one another.
-use Rattle.std.proofs.Common.{◌≡◌, ◌≢◌, ◌≤◌, ◌<◌, ◌-◌, ◌^◌, ◌/◌, ◌%◌, ◌+◌, ℕ, zero, suc, take, drop, length, replicate, Bool, true, List, [], ◌∷◌, ◌++◌, refl, ap, sym, ◌∙◌, subst, append-nil, append_assoc, length-drop, arith, ◌&&◌, codes, decimal, Option, None, flat_map, length-append, length-take-le, take-append-drop, take-take}
+use Rattle.std.proofs.Common.{◌≡◌, ◌≤◌, ◌<◌, ◌-◌, ◌^◌, ◌/◌, ◌%◌, ◌+◌, ℕ, zero, suc, take, drop, length, replicate, Bool, true, List, [], ◌∷◌, ◌++◌, refl, ap, sym, ◌∙◌, subst, append-nil, append_assoc, length-drop, arith, ◌&&◌, codes, decimal, Option, None, flat_map, length-append, length-take-le, take-append-drop, take-take}
 use Rattle.std.specs.List.{list_all}
 use Rattle.std.proofs.lemmas.{Fmt.decimal_digit, Fmt.decimal_step, Fmt.length-decimal-le, List.drop-append-le, List.drop-replicate, List.length-replicate, List.nil_from_length, List.take-replicate}
 use Rattle.execlog.proofs.Columns.{digit_replaced}
@@ -259,11 +259,6 @@ head_counted_by_tens {n} {clock} {tens} {start} {last} {room} m mid new head sam
       within = head.within;
       shows = ap (drop start) then ∙ digit_replaced mid (stem u) rest (digit n) (digit m) start last inside' at' between;
     }
-
--- the spaces before the text of a command, by a test
-pub gap_tested : (source : List ℕ) (gap : ℕ) → (length source ≡ 0 → gap ≡ 0) → (length source ≢ 0 → gap ≡ 43) → gap ≡ gap_of source
-gap_tested [] gap none some = none refl
-gap_tested (c ∷ source) gap none some = some (λ e. absurd (omega (arith, e)))
 
 -- ---- rows one after another
 

@@ -18,7 +18,7 @@ word_join : (a b : List ℕ) → IsWord a → IsWord b → IsWord (a ++ b)
 word_join [] b p q = q
 word_join (c ∷ a) b p q = (p.0, word_join a b p.1 q)
 
--- a digit is no space
+-- a digit is not a space
 no_space : (d : ℕ) → eqb (48 + d) 32 ≡ false
 no_space d = ne_eqb (48 + d) 32 (λ e. omega (arith, e))
 

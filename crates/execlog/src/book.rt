@@ -1,4 +1,5 @@
-//! What is written where in a machine file: the names of its bodies, and of each command the line of the file and the text.
+//! What is written where in a machine file: the names of its bodies, and of each command the line of the file and the
+//! text.
 ghost use Rattle.std.specs.Prelude.{◌≡◌, true, option_copied, string_bytes, IfOk};
 ghost use Rattle.execlog.specs.Rows.{IsFrame};
 

@@ -1,5 +1,6 @@
-//! Whose the lines of an entry are: the first is that of a task's command, if the step was one that prints; after the line of a server or of a
-//! software interrupt come those of its body, one for each command that prints, unless an alert ends the run.
+//! Whose the lines of an entry are: the first is that of a task's command, if the step was one that prints; after the
+//! line of a server or of a software interrupt come those of its body, one for each command that prints, unless an
+//! alert ends the run.
 
 use crate::book::{Book, Place};
 use crate::moment::Actor;
@@ -23,7 +24,8 @@ pub struct Cursor {
     body: Option<(usize, usize)>,
 }
 
-/// What is after one of the words that begin the lines of a body, if it is a name. The first eight bytes are compared at once.
+/// What is after one of the words that begin the lines of a body, if it is a name. The first eight bytes are compared
+/// at once.
 #[inline(always)]
 fn body_name(line: &[u8]) -> Option<&[u8]> {
     let (first, after) = line.split_first_chunk::<8>()?;
@@ -47,7 +49,7 @@ impl Cursor {
     }
 
     /// Behind the line of the task's command.
-    pub(crate) fn behind_task() -> Cursor {
+    pub(crate) fn after_task() -> Cursor {
         Cursor {
             actor: None,
             body: None,

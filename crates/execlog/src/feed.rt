@@ -1,4 +1,5 @@
-//! Where the first line feed of a text is. Many bytes are looked at together, from the first on; the last ones of the text may be looked at twice.
+//! Where the first line feed of a text is. Many bytes are looked at together, from the first on; the last ones of the
+//! text may be looked at twice.
 ghost use Rattle.std.specs.Prelude.{◌≡◌, ◌≢◌, ◌<◌, ◌≤◌, ◌+◌, ◌-◌, ℕ, Some, false, length, slice_index, true};
 ghost use Rattle.execlog.specs.Rows.{IsFeedAt};
 
@@ -35,8 +36,8 @@ fn has_feed<const N: usize>(text: &[u8], at: usize) -> bool
     feeds != 0
 }
 
-/// Whether a text is a line and its line feed, by its last byte and by the others, as the first ones and the last ones, of that many; false if they
-/// are not as many.
+/// Whether a text is a line and its line feed, by its last byte and by the others, as the first ones and the last ones,
+/// of that many; false if they are not as many.
 #[inline(always)]
 fn is_line_by<const N: usize>(text: &[u8]) -> bool
     requires few { N ≤ 32 }

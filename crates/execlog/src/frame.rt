@@ -1,5 +1,5 @@
-//! What a row has around the line of a command, prepared once for all its rows: the column of its line of the file, and after the line of the trace
-//! the text of the command and the line feed.
+//! What a row has around the line of a command, prepared once for all its rows: the column of its line of the file, and
+//! after the line of the trace the text of the command and the line feed.
 ghost use Rattle.std.specs.Prelude.{◌≡◌, IfOk, IfSome};
 ghost use Rattle.std.proofs.Props.{props};
 ghost use Rattle.execlog.specs.Rows.{IsFrame, IsSheet};

@@ -1,4 +1,5 @@
-//! The columns of the number and the time of an entry. They are kept from one entry to the next, of which mostly one digit differs.
+//! The columns of the number and the time of an entry. They are kept from one entry to the next, of which mostly one
+//! digit differs.
 ghost use Rattle.std.specs.Prelude.{◌≡◌, ◌∷◌, ◌<◌, ◌≤◌, ◌++◌, ◌+◌, ◌-◌, ◌*◌, ◌/◌, ℕ, [], drop, length, replicate, take, true};
 ghost use Rattle.execlog.specs.Rows.{IsHead, columns};
 
@@ -79,7 +80,8 @@ impl Head {
         self.number = number;
     }
 
-    /// Goes on to a number, if it differs in no more than the last two digits, which both have, and the time is the same.
+    /// Goes on to a number, if it differs in no more than the last two digits, which both have, and the time is the
+    /// same.
     #[inline(always)]
     fn count_by_tens(&mut self, number: u64)
         requires same { number / 10 / 10 ≡ self.old.tens / 10 }
@@ -149,8 +151,8 @@ impl Head {
         write_block::<N>(room, from, &self.room[self.start..self.start + N]);
     }
 
-    /// Writes the columns over bytes from a place on, and after them the first cells, that many, with a text over those from a place on. The answer is
-    /// where they end.
+    /// Writes the columns over bytes from a place on, and after them the first cells, that many, with a text over those
+    /// from a place on. The answer is where they end.
     #[inline(always)]
     pub(crate) fn write_row(
         &self,
@@ -177,7 +179,8 @@ impl Head {
         wide + len
     }
 
-    /// Writes the columns over bytes from a place on, and after them an empty column of a line, a text, and a line feed. The answer is where they end.
+    /// Writes the columns over bytes from a place on, and after them an empty column of a line, a text, and a line
+    /// feed. The answer is where they end.
     #[inline(always)]
     pub(crate) fn write_bare(&self, room: &mut [u8], from: usize, text: &[u8]) -> usize
         requires narrow { 64 - self.now.start ≤ 32 }

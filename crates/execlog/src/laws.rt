@@ -8,7 +8,8 @@ pub fn logs_tell_the_trace()
     ensures { LogsTellTheTrace }
 {}
 
-/// A row is cut at its spaces: its first words are its number, its time and the line of its command, if that is known, however wide they are.
+/// A row is cut at its spaces: its first words are its number, its time and the line of its command, if that is known,
+/// however wide they are.
 ///
 /// Source: project rule.
 pub fn rows_are_cut_at_spaces()

@@ -1,6 +1,7 @@
-//! The log of a run: an entry for the start, and one for each step, tick and request of an interrupt, with its number, the time, the command and
-//! what it printed. `write_log` runs a machine and writes each entry in a form, but for steps that print nothing and that the form does not show, which are
-//! done together; `Plain` is the form of rows, which has the whole trace.
+//! The log of a run: an entry for the start, and one for each step, tick and request of an interrupt, with its number,
+//! the time, the command and what it printed. `write_log` runs a machine and writes each entry in a form, but for steps
+//! that print nothing and that the form does not show, which are done together; `Plain` is the form of rows, which has
+//! the whole trace.
 #![tactic(auto)]
 
 mod book;

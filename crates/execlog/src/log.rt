@@ -1,4 +1,5 @@
-//! A run with an entry for each step, tick and request. Steps that print nothing are done together if they are not shown.
+//! A run with an entry for each step, tick and request. Steps that print nothing are done together if they are not
+//! shown.
 ghost use Rattle.std.specs.Prelude.{◌≡◌, ◌+◌, ◌*◌, ◌∷◌, ◌<◌, ◌≤◌, ◌^◌, ℕ, [], false, replicate, sum_by, None, IfOk, OnOk};
 ghost use Rattle.exectrace.specs.declared.sinks.SinkState.{SinkState};
 ghost use Rattle.script.specs.{Events.event_ticks, File.MachineData};
@@ -73,7 +74,7 @@ impl<'a, F: Form> Log<'a, F> {
             self.text.bytes.as_slice(),
             &mut self.page,
         )?;
-        self.page.turn(out);
+        self.page.flush_if_full(out);
         Ok(())
     }
 }
@@ -160,7 +161,8 @@ fn advance_many<S: ListSpace, F: Form, W: Sink>(
     Ok(())
 }
 
-/// How many steps that print nothing may come after a step with no entries of their own, at most that many: none if they are shown.
+/// How many steps that print nothing may come after a step with no entries of their own, at most that many: none if
+/// they are shown.
 fn most_silent<F: Form>(form: &F, more: u32) -> u32
     ensures within { result ≤ more }
     ensures hidden { 0 < result → (moment : Moment) → F.shows form.now (record { moment = moment; text = [] }) [] }
@@ -168,7 +170,8 @@ fn most_silent<F: Form>(form: &F, more: u32) -> u32
     if form.shows_silent() { 0 } else { more }
 }
 
-/// Does a step, and those after it that print nothing and are not shown, at most that many; adds the entry, and answers how many these were.
+/// Does a step, and those after it that print nothing and are not shown, at most that many; adds the entry, and answers
+/// how many these were.
 fn advance_step<S: ListSpace, F: Form, W: Sink>(
     machine: &mut Machine<S>,
     more: u32,
@@ -289,12 +292,13 @@ fn log_all<S: ListSpace, F: Form, W: Sink>(
     advance_all(machine, list, log, out)
 }
 
-/// Runs a machine that was not started yet over a list of events, and writes the log of the run to `out`, which is good: an entry for the
-/// start, and one for each step, tick and request of an interrupt, each as the form shows it.
+/// Runs a machine that was not started yet over a list of events, and writes the log of the run to `out`, which is
+/// good: an entry for the start, and one for each step, tick and request of an interrupt, each as the form shows it.
 ///
 /// # Errors
 ///
-/// `Write` if the sink did not take all rows: it has taken a prefix of them. `Memory` if memory was refused for the rows of an entry.
+/// `Write` if the sink did not take all rows: it has taken a prefix of them. `Memory` if memory was refused for the
+/// rows of an entry.
 ///
 /// Source: project rule.
 pub fn write_log<S: ListSpace, F: Form, W: Sink>(

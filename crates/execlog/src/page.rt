@@ -14,20 +14,21 @@ use std::marker::Model;
 /// How many cells a short row is written in, of which the last ones may be left over.
 const ROW: usize = 128;
 
-/// How many bytes are put at once: more than a buffer before a file keeps, so that they are not copied once more, and whole blocks of a file, which takes
-/// those with less work.
+/// How many bytes are put at once: more than a buffer before a file keeps, so that they are not copied once more, and
+/// whole blocks of a file, which takes those with less work.
 const MOST_KEPT: usize = 524_288;
 
 /// How many bytes a file has mostly taken before: those of a line that names the columns.
 const HEADING: usize = 74;
 
-/// Bytes that are kept in the first ones of cells, of which the others are spare: a row is written there with no test of its own for room.
+/// Bytes that are kept in the first ones of cells, of which the others are spare: a row is written there with no test
+/// of its own for room.
 #[derive(Drop)]
 pub struct Page {
     cells: Vec<u8>,
     len: usize,
     /// At how many bytes the first ones are put.
-    due: usize,
+    flush_at: usize,
 }
 
 impl Model for Page {
@@ -63,7 +64,7 @@ impl Page {
         Page {
             cells: Vec::new(alloc),
             len: 0,
-            due: MOST_KEPT - HEADING,
+            flush_at: MOST_KEPT - HEADING,
         }
     }
 
@@ -76,10 +77,10 @@ impl Page {
 
     /// Puts the first bytes if there are many, and keeps the others.
     #[inline(always)]
-    pub(crate) fn turn<W: Sink>(&mut self, out: &mut W)
+    pub(crate) fn flush_if_full<W: Sink>(&mut self, out: &mut W)
         ensures { Adds (W.tape out.old) (W.tape out.new) self.old self.new [] }
     {
-        if self.len >= self.due {
+        if self.len >= self.flush_at {
             self.put_first(out);
         }
     }
@@ -91,11 +92,15 @@ impl Page {
         ensures { Adds (W.tape out.old) (W.tape out.new) self.old self.new [] }
     {
         let len = self.len;
-        let first = if self.due < len { self.due } else { len };
+        let first = if self.flush_at < len {
+            self.flush_at
+        } else {
+            len
+        };
         put(&self.cells[..first], out);
         self.cells.copy_within(first..len, 0);
         self.len = len - first;
-        self.due = MOST_KEPT;
+        self.flush_at = MOST_KEPT;
     }
 
     /// Adds bytes.

@@ -1,4 +1,5 @@
-//! The plain form of a log: a row for each line of the trace, with the number of the step, the time, the line of the command and its text.
+//! The plain form of a log: a row for each line of the trace, with the number of the step, the time, the line of the
+//! command and its text.
 ghost use Rattle.std.specs.Prelude.{◌≡◌, ◌≤◌, ◌<◌, ◌++◌, ◌+◌, ◌-◌, length, slice_index, IfSome, List, None, OnOk, Option, Some, ℕ};
 ghost use Rattle.execlog.specs.{Books.ShowsAll, Books.line_at, Log.Entry, Log.Gains, Rows.FollowsRows, Rows.IsCut, Rows.IsCutAt, Rows.IsFeedAt, Rows.IsRow, Rows.LaysOut};
 
@@ -142,7 +143,8 @@ impl Plain<'_> {
         }
     }
 
-    /// Adds the row of the first line of a text, which is of no command, if it is shown. The answer is whose lines come next.
+    /// Adds the row of the first line of a text, which is of no command, if it is shown. The answer is whose lines come
+    /// next.
     #[inline(always)]
     fn push_first_other(
         &self,
@@ -159,7 +161,8 @@ impl Plain<'_> {
         Ok(cursor)
     }
 
-    /// Adds the row of the first line of a text that a step of a task has printed, if it is shown. The answer is whose lines come next.
+    /// Adds the row of the first line of a text that a step of a task has printed, if it is shown. The answer is whose
+    /// lines come next.
     #[inline(always)]
     fn push_first_of_step(
         &self,
@@ -174,11 +177,11 @@ impl Plain<'_> {
             None => self.push_first_other(heading, Cursor::new(Some(actor)), line, page),
             Some(place) => {
                 if place.is_silent {
-                    self.push_first_other(heading, Cursor::behind_task(), line, page)
+                    self.push_first_other(heading, Cursor::after_task(), line, page)
                 } else {
                     let spot = Spot::Task(actor.task, actor.place);
                     self.push_command(heading, spot, place, line, page)?;
-                    Ok(Cursor::behind_task())
+                    Ok(Cursor::after_task())
                 }
             }
         }
@@ -195,7 +198,7 @@ impl Plain<'_> {
         ensures { OnOk result (Gains (IsRow (ShowsAll self.now.filter) heading.entry.moment (line_at self.now.book.now heading.entry.moment.actor) line.now) page.old page.new) }
     {
         match heading.moment.actor {
-            None => self.push_first_other(heading, Cursor::behind_task(), line, page),
+            None => self.push_first_other(heading, Cursor::after_task(), line, page),
             Some(actor) => self.push_first_of_step(heading, actor, line, page),
         }
     }

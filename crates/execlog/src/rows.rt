@@ -1,4 +1,5 @@
-//! The rows of a log: columns before and after a line of the trace. The columns before it are put into room of a fixed size, the last one first.
+//! The rows of a log: columns before and after a line of the trace. The columns before it are put into room of a fixed
+//! size, the last one first.
 ghost use Rattle.std.specs.Prelude.{◌≡◌, ◌∷◌, ◌≤◌, ◌<◌, ◌++◌, ◌+◌, ◌-◌, ◌/◌, [], codes, decimal, drop, length, replicate, take, OnOk};
 ghost use Rattle.execlog.specs.Rows.{IsBlank, IsSheet, columns, digit, front, line_column, millis, padded, row_with, source_column};
 
@@ -49,7 +50,8 @@ fn put_digits(room: &mut [u8], end: usize, n: u64) -> usize
     write_digits(n, room, end)
 }
 
-/// Puts a number at the right of a column of a width that ends at a place in room that is blank up to there, and answers where the column begins.
+/// Puts a number at the right of a column of a width that ends at a place in room that is blank up to there, and
+/// answers where the column begins.
 pub(crate) fn put_column(room: &mut [u8], end: usize, width: usize, n: u64) -> usize
     requires within { (25 ≤ end) × (end ≤ length room.old) }
     requires narrow { width ≤ 5 }
@@ -71,7 +73,8 @@ pub(crate) fn digit(n: u64) -> u8
     b'0' + (n % 10) as u8
 }
 
-/// Puts a point and three places of milliseconds before a place in room that is blank up to there, and answers where they begin.
+/// Puts a point and three places of milliseconds before a place in room that is blank up to there, and answers where
+/// they begin.
 fn put_places(room: &mut [u8], end: usize, micros: u64) -> usize
     requires within { (4 ≤ end) × (end ≤ length room.old) }
     requires blank { IsBlank end room.old }
@@ -215,7 +218,8 @@ pub fn push_row(
     Ok(())
 }
 
-/// Adds a row: the number and the time, and a line of the trace that takes the place of no more than the spaces after it.
+/// Adds a row: the number and the time, and a line of the trace that takes the place of no more than the spaces after
+/// it.
 #[inline(always)]
 fn push_on_sheet(
     page: &mut Page,

@@ -1,4 +1,5 @@
-//! What is before and after a line in its row, in cells that are copied at once; the line is then written over the spaces.
+//! What is before and after a line in its row, in cells that are copied at once; the line is then written over the
+//! spaces.
 ghost use Rattle.std.specs.Prelude.{◌≡◌, ◌≤◌, ◌+◌, IfSome};
 ghost use Rattle.execlog.specs.Rows.{IsSheet};
 
@@ -22,7 +23,8 @@ pub(crate) struct Sheet {
 }
 
 impl Sheet {
-    /// The cells of what is before a line, and after it if it has no byte; none if they are too long. A line takes the place of `gap` bytes at most.
+    /// The cells of what is before a line, and after it if it has no byte; none if they are too long. A line takes the
+    /// place of `gap` bytes at most.
     pub(crate) fn new(before: &[u8], after: &[u8], gap: usize) -> Option<Sheet>
         ensures { IfSome result (λ s. (s.most ≡ gap) × IsSheet before.now after.now s.cells s.at s.len) }
     {

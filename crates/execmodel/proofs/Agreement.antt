@@ -1,13 +1,13 @@
 -- The queues agree with the schedule, whatever is done.
 use Rattle.std.proofs.Common.{◌≡◌, ◌≢◌, ℕ, zero, suc, ◌+◌, ◌<◌, ◌≤◌, ℤ, Bool, true, false, List, [], ◌∷◌, ◌++◌, Option, None, Some, length, refl, sym, ap, ◌∙◌, subst, arith, not, ◌&&◌, cond, if◌then◌else◌, nat_eq, replicate, slice_set, get_or-set_same, get_or-set_other}
 use Rattle.memlist.proofs.Answered.{nat_eq-same, nat_eq-other, cases_eq}
-use Rattle.execlist.specs.{Lists.is_at, Lists.times, Disciplines.pri_at, Disciplines.by_arrival, Order.without, Order.chosen, Order.chosen_or, Order.is_lower}
+use Rattle.execlist.specs.{Lists.is_at, Lists.times, Disciplines.pri_at, Disciplines.by_arrival, Order.without_item, Order.chosen, Order.chosen_or, Order.is_lower}
 use Rattle.taskq.specs.declared.TaskState.TheVariants.{Absent, Ready, Running, Waiting, Removed}
 use Rattle.taskq.specs.{Tasks.state_at, Tasks.is_ready, Tasks.is_live, declared.TaskState.TaskState, declared.Why.TheVariants.Signals, declared.Why.TheVariants.Sem}
-use Rattle.scheduler.specs.Schedule.{Schedule, status_of, signals_of, is_absent, is_at_semaphore, awaits, departs, begins, removed, renewed, switch_for, takes_over, is_switching_allowed, is_quantum_over, waits_at_semaphore, with_signals}
+use Rattle.scheduler.specs.Schedule.{Schedule, status_of, signals_of, is_absent, is_at_semaphore, awaits, departs, begins, task_removed, renewed, switch_for, takes_over, is_switching_allowed, is_quantum_over, waits_at_semaphore, with_signals}
 use Rattle.scheduler.specs.{declared.Switch.TheVariants.To, declared.Switch.TheVariants.Idle, Dispatch.arrives, Dispatch.added, Dispatch.displaced, Dispatch.after_switch, Dispatch.switch_of, Dispatch.rescheduled, Dispatch.signalled, Sound.is_running}
 use Rattle.signals.specs.Signals.{after_post}
-use Rattle.execmodel.specs.{Agreement.once_if, Agreement.StandsInOne, Agreement.Agrees, Queues.Turn, Queues.Came, Queues.Served, Marks.turn_at}
+use Rattle.execmodel.specs.{Agreement.once_if, Agreement.IsInOneQueue, Agreement.Agrees, Queues.Turn, Queues.Came, Queues.Served, Marks.turn_at}
 use Rattle.execmodel.proofs.{Heaps.true_is_not_false, Queues.IsAway, Queues.Turns, Queues.Follows}
 
 -- ---- how often a task is in a sequence
@@ -30,26 +30,26 @@ times_cond t x true q = refl
 times_cond t x false q = refl
 
 -- who leaves is there no more
-pub times_gone : (t : ℕ) (q : List ℕ) → times t (without t q) ≡ 0
+pub times_gone : (t : ℕ) (q : List ℕ) → times t (without_item t q) ≡ 0
 times_gone t [] = refl
 times_gone t (x ∷ q) =
-    times_cond t x (not (nat_eq x t)) (without t q)
+    times_cond t x (not (nat_eq x t)) (without_item t q)
     ∙ cases_eq t x
-    (λ same. ap (λ b. if not b then times t (x ∷ without t q) else times t (without t q)) (ap (λ k. nat_eq x k) same ∙ nat_eq-same x)
+    (λ same. ap (λ b. if not b then times t (x ∷ without_item t q) else times t (without_item t q)) (ap (λ k. nat_eq x k) same ∙ nat_eq-same x)
     ∙ times_gone t q)
-    (λ apart. ap (λ b. if not b then times t (x ∷ without t q) else times t (without t q)) (nat_eq-other x t (λ e. apart (sym e)))
-    ∙ ap (λ b. if b then suc (times t (without t q)) else times t (without t q)) (nat_eq-other x t (λ e. apart (sym e))) ∙ times_gone t q)
+    (λ apart. ap (λ b. if not b then times t (x ∷ without_item t q) else times t (without_item t q)) (nat_eq-other x t (λ e. apart (sym e)))
+    ∙ ap (λ b. if b then suc (times t (without_item t q)) else times t (without_item t q)) (nat_eq-other x t (λ e. apart (sym e))) ∙ times_gone t q)
 
 -- and the others are there as before
-pub times_others : (t k : ℕ) (q : List ℕ) → t ≢ k → times t (without k q) ≡ times t q
+pub times_others : (t k : ℕ) (q : List ℕ) → t ≢ k → times t (without_item k q) ≡ times t q
 times_others t k [] apart = refl
 times_others t k (x ∷ q) apart =
-    times_cond t x (not (nat_eq x k)) (without k q)
+    times_cond t x (not (nat_eq x k)) (without_item k q)
     ∙ cases_eq x k
-    (λ same. ap (λ b. if not b then times t (x ∷ without k q) else times t (without k q)) (ap (λ j. nat_eq j k) same ∙ nat_eq-same k)
+    (λ same. ap (λ b. if not b then times t (x ∷ without_item k q) else times t (without_item k q)) (ap (λ j. nat_eq j k) same ∙ nat_eq-same k)
     ∙ times_others t k q apart
     ∙ sym (ap (λ b. if b then suc (times t q) else times t q) (nat_eq-other x t (λ e. apart (sym e ∙ same)))))
-    (λ other. ap (λ b. if not b then times t (x ∷ without k q) else times t (without k q)) (nat_eq-other x k other)
+    (λ other. ap (λ b. if not b then times t (x ∷ without_item k q) else times t (without_item k q)) (nat_eq-other x k other)
     ∙ ap (λ n. if nat_eq x t then suc n else n) (times_others t k q apart))
 
 -- one who is nowhere in a sequence is away from it
@@ -97,7 +97,7 @@ all_absent (suc n) (suc t) = all_absent n t
 abbrev pub AllAgree : Schedule → (ℕ → List ℕ) → Type 0
 AllAgree s waiters = (t : ℕ) → Agrees t s waiters
 
-stands_same : (test : Bool) (t : ℕ) (q p : ℕ → List ℕ) → ((a : ℕ) → times t (p a) ≡ times t (q a)) → StandsInOne test t q → StandsInOne test t p
+stands_same : (test : Bool) (t : ℕ) (q p : ℕ → List ℕ) → ((a : ℕ) → times t (p a) ≡ times t (q a)) → IsInOneQueue test t q → IsInOneQueue test t p
 stands_same true t q p e stands = (stands.0, λ other. e other ∙ stands.1 other)
 stands_same false t q p e stands = λ other. e other ∙ stands other
 
@@ -107,16 +107,16 @@ pub untouched : (t : ℕ) (s r : Schedule) (q p : ℕ → List ℕ) → status_o
 untouched t s r q p status running ready queues old = record {
   runs = running ∙ old.runs ∙ sym (ap is_running status);
   ready = ready ∙ old.ready ∙ sym (ap (λ x. once_if (is_ready x)) status);
-  waits = subst (λ x. StandsInOne (is_at_semaphore x) t p) (sym status) (stands_same (is_at_semaphore (status_of s t)) t q p queues old.waits);
+  waits = subst (λ x. IsInOneQueue (is_at_semaphore x) t p) (sym status) (stands_same (is_at_semaphore (status_of s t)) t q p queues old.waits);
 }
 
 -- a task of a known state
 stands : (t : ℕ) (s : Schedule) (q : ℕ → List ℕ) (x : TaskState) → status_of s t ≡ x → is_at s.running t ≡ is_running x
-    → times t s.queue.ready ≡ once_if (is_ready x) → StandsInOne (is_at_semaphore x) t q → Agrees t s q
+    → times t s.queue.ready ≡ once_if (is_ready x) → IsInOneQueue (is_at_semaphore x) t q → Agrees t s q
 stands t s q x status running ready queues = record {
   runs = running ∙ sym (ap is_running status);
   ready = ready ∙ sym (ap (λ y. once_if (is_ready y)) status);
-  waits = subst (λ y. StandsInOne (is_at_semaphore y) t q) (sym status) queues;
+  waits = subst (λ y. IsInOneQueue (is_at_semaphore y) t q) (sym status) queues;
 }
 
 -- ---- what a known state reports
@@ -151,8 +151,8 @@ ready_at : (t : ℕ) (s : Schedule) (q : ℕ → List ℕ) (x : TaskState) → s
     → times t s.queue.ready ≡ once_if (is_ready x)
 ready_at t s q x status old = old.ready ∙ ap (λ y. once_if (is_ready y)) status
 
-pub waits_at : (t : ℕ) (s : Schedule) (q : ℕ → List ℕ) (x : TaskState) → status_of s t ≡ x → Agrees t s q → StandsInOne (is_at_semaphore x) t q
-waits_at t s q x status old = subst (λ y. StandsInOne (is_at_semaphore y) t q) status old.waits
+pub waits_at : (t : ℕ) (s : Schedule) (q : ℕ → List ℕ) (x : TaskState) → status_of s t ≡ x → Agrees t s q → IsInOneQueue (is_at_semaphore x) t q
+waits_at t s q x status old = subst (λ y. IsInOneQueue (is_at_semaphore y) t q) status old.waits
 
 -- the running task has the state Running
 pub running_state : (t : ℕ) (s : Schedule) (q : ℕ → List ℕ) → s.running ≡ Some t → Agrees t s q → status_of s t ≡ Running
@@ -184,7 +184,7 @@ no_more t k q apart =
 
 -- a task that neither runs nor is ready, and is in no queue any more
 pub arrives_agrees : (k : ℕ) (s : Schedule) (q p : ℕ → List ℕ) (x : TaskState) → status_of s k ≡ x → k < length s.queue.states
-    → is_running x ≡ false → is_ready x ≡ false → StandsInOne false k p → ((j a : ℕ) → j ≢ k → times j (p a) ≡ times j (q a))
+    → is_running x ≡ false → is_ready x ≡ false → IsInOneQueue false k p → ((j a : ℕ) → j ≢ k → times j (p a) ≡ times j (q a))
     → AllAgree s q → AllAgree (arrives by_arrival k s) p
 unfolding arrives
 arrives_agrees k s q p x status range idle unready none others old t =
@@ -204,9 +204,9 @@ rearrives_agrees k s q e old t =
     cases_eq t k
     (λ here. subst (λ j. Agrees j (arrives by_arrival k (departs k s)) q) (sym here)
     (stands k (arrives by_arrival k (departs k s)) q Ready (set_here s.queue.states k Ready (range_of k s Ready status refl)) (runs_at k s q Ready status (old k))
-    (one_time k (without k s.queue.ready) (times_gone k s.queue.ready)) (waits_at k s q Ready status (old k))))
+    (one_time k (without_item k s.queue.ready) (times_gone k s.queue.ready)) (waits_at k s q Ready status (old k))))
     (λ apart. untouched t s (arrives by_arrival k (departs k s)) q q (set_there s.queue.states k t Ready apart) refl
-    (no_more t k (without k s.queue.ready) apart ∙ times_others t k s.queue.ready apart) (λ a. refl) (old t))
+    (no_more t k (without_item k s.queue.ready) apart ∙ times_others t k s.queue.ready apart) (λ a. refl) (old t))
 
 -- a task that was not added yet is nowhere
 pub absent_agrees : (t : ℕ) (s : Schedule) (q : ℕ → List ℕ) → status_of s t ≡ Absent → s.running ≡ None → s.queue.ready ≡ [] → ((a : ℕ) → times t (q a) ≡ 0)
@@ -217,7 +217,7 @@ absent_agrees t s q status none unready nowhere = stands t s q Absent status (ap
 
 pub stops_agrees : (t : ℕ) (x : TaskState) (s r : Schedule) (q p : ℕ → List ℕ) → s.running ≡ Some t
     → r.queue.states ≡ slice_set s.queue.states t x → r.queue.ready ≡ s.queue.ready → r.running ≡ None → is_running x ≡ false → is_ready x ≡ false
-    → StandsInOne (is_at_semaphore x) t p → ((j a : ℕ) → j ≢ t → times j (p a) ≡ times j (q a)) → AllAgree s q → AllAgree r p
+    → IsInOneQueue (is_at_semaphore x) t p → ((j a : ℕ) → j ≢ t → times j (p a) ≡ times j (q a)) → AllAgree s q → AllAgree r p
 stops_agrees t x s r q p runs states ready none idle unready queues others old j =
     let status = running_state t s q runs (old t) in
     cases_eq j t
@@ -364,18 +364,18 @@ signalled_agrees k mask s q old = live (is_live (status_of s k))
     live true = come (awaits (status_of s k) (signals_of (got k mask s) k).received) refl
     live false = old
 
-pub removed_agrees : (k t : ℕ) (s : Schedule) (q p : ℕ → List ℕ) → s.running ≡ Some t → k ≢ t → ((a : ℕ) → p a ≡ without k (q a))
-    → AllAgree s q → AllAgree (removed k s) p
-unfolding removed
+pub removed_agrees : (k t : ℕ) (s : Schedule) (q p : ℕ → List ℕ) → s.running ≡ Some t → k ≢ t → ((a : ℕ) → p a ≡ without_item k (q a))
+    → AllAgree s q → AllAgree (task_removed k s) p
+unfolding task_removed
 removed_agrees k t s q p runs apart queues old j =
     cases_eq j k
-    (λ here. subst (λ i. Agrees i (removed k s) p) (sym here) (record {
+    (λ here. subst (λ i. Agrees i (task_removed k s) p) (sym here) (record {
       runs = not_running t k s runs apart ∙ sym (set_state s.queue.states k Removed is_running refl refl);
       ready = times_gone k s.queue.ready ∙ sym (ap once_if (set_state s.queue.states k Removed is_ready refl refl));
-      waits = subst (λ b. StandsInOne b k p) (sym (set_state s.queue.states k Removed is_at_semaphore refl refl))
+      waits = subst (λ b. IsInOneQueue b k p) (sym (set_state s.queue.states k Removed is_at_semaphore refl refl))
           (λ a. ap (λ l. times k l) (queues a) ∙ times_gone k (q a));
     }))
-    (λ other. untouched j s (removed k s) q p (set_there s.queue.states k j Removed other) refl (times_others j k s.queue.ready other)
+    (λ other. untouched j s (task_removed k s) q p (set_there s.queue.states k j Removed other) refl (times_others j k s.queue.ready other)
     (λ a. ap (λ l. times j l) (queues a) ∙ times_others j k (q a) other) (old j))
 
 -- ---- the queue of a semaphore
@@ -411,19 +411,19 @@ asks_agrees semaphore t s q p runs follows old =
     (λ other. ap (λ l. times j l) (there a other))) old
 
 -- one who is in a queue waits for a semaphore, that one
-pub waits_there : (b : Bool) (t : ℕ) (q : ℕ → List ℕ) (a : ℕ) → StandsInOne b t q → 0 < times t (q a) → b ≡ true
+pub waits_there : (b : Bool) (t : ℕ) (q : ℕ → List ℕ) (a : ℕ) → IsInOneQueue b t q → 0 < times t (q a) → b ≡ true
 waits_there true t q a one h = refl
 waits_there false t q a one h = let none = one a in absurd (omega (arith, none, h))
 
 -- and is in no other
-pub only_there : (b : Bool) (t : ℕ) (q : ℕ → List ℕ) (a : ℕ) → StandsInOne b t q → 0 < times t (q a) → (c : ℕ) → c ≢ a → times t (q c) ≡ 0
+pub only_there : (b : Bool) (t : ℕ) (q : ℕ → List ℕ) (a : ℕ) → IsInOneQueue b t q → 0 < times t (q a) → (c : ℕ) → c ≢ a → times t (q c) ≡ 0
 only_there true t q a one h c apart =
     cases_eq a one.0
     (λ same. one.1 c ∙ ap once_if (nat_eq-other c one.0 (λ e. apart (e ∙ sym same))))
     (λ other. let none = one.1 a ∙ ap once_if (nat_eq-other a one.0 other) in absurd (omega (arith, none, h)))
 only_there false t q a one h c apart = one c
 
-pub once_there : (b : Bool) (t : ℕ) (q : ℕ → List ℕ) (a : ℕ) → StandsInOne b t q → times t (q a) ≤ 1
+pub once_there : (b : Bool) (t : ℕ) (q : ℕ → List ℕ) (a : ℕ) → IsInOneQueue b t q → times t (q a) ≤ 1
 once_there true t q a one = subst (λ n. n ≤ 1) (sym (one.1 a)) (at_most (nat_eq a one.0))
   where
     at_most : (b : Bool) → once_if b ≤ 1

@@ -2,14 +2,14 @@
 -- not.
 use Rattle.std.proofs.Common.{◌≡◌, ◌≢◌, ℕ, suc, ◌+◌, ◌<◌, Bool, true, false, List, [], ◌∷◌, ◌++◌, length, Option, None, Some, refl, sym, ap, ◌∙◌, subst, arith, ℤ, pos, not, ◌&&◌, cond, if◌then◌else◌, nat_eq, map, filter, ◌==◌, option_map}
 use Rattle.memlist.proofs.Answered.{cases_eq}
-use Rattle.execlist.specs.{Order.chosen, Order.chosen_or, Order.is_lower, Order.without, Lists.times}
+use Rattle.execlist.specs.{Order.chosen, Order.chosen_or, Order.is_lower, Order.without_item, Lists.times}
 use Rattle.iorequest.specs.{declared.request.Request.Request as TimerRequest, Request.is_way, Request.is_under_way, Request.done_state, Request.finished, Request.reply_port}
-use Rattle.execmodel.specs.State.{Object, Request, Block, Heap, Waiting as Queued, Timer, Memory, Mark, put, Scripts, State, Outcome, says, on_memory}
+use Rattle.execmodel.specs.State.{Object, Request, Block, Heap, Waiting as Queued, Timer, Memory, Mark, put, Scripts, State, Outcome, prints_line, on_memory}
 use Rattle.execmodel.specs.Requests.{is_request, is_request_at, request_of, with_request, where_port, answering_port, appended_at, acting_at, with_reply, finished_at, ended, finishes}
 use Rattle.execmodel.specs.{Objects.replaced, Ports.is_port_at, Ports.messages_of, Ports.port_of, Ports.with_port, Ports.appended, Ports.performed, Agreement.once_if, Laws.times_waiting}
 use Rattle.exectrace.specs.Trace.{Timer as TimerLine}
 use Rattle.timerdev.specs.Timing.{sooner, next_of, due_next, until_next, waits_no_more}
-use Rattle.execmodel.proofs.Posts.{Post, ARequest, post_at, messages_at, asked_at, is_a_port, may_stand, IsTidy, messages_are, request_is, port_is, request_there, request_from, under_way_there, post_elsewhere, post_here}
+use Rattle.execmodel.proofs.Posts.{Post, ARequest, post_at, messages_at, asked_at, is_a_port, may_be_in, IsTidy, messages_are, request_is, port_is, request_there, request_from, under_way_there, post_elsewhere, post_here}
 use Rattle.execmodel.proofs.{Heaps.true_is_not_false, Agreement.times_last, Agreement.times_gone, Agreement.times_others, Agreement.first_stands, Agreement.later_stands, Commands.none_some, Commands.IsCalm, Commands.Reaches, Commands.performed_reaches, Commands.performed_memory, Commands.performed_scripts, Commands.settings_of, Queues.IsAway}
 
 -- a request is in no port
@@ -41,7 +41,7 @@ pub data Asks (s : State) : List Mark → Heap → List Queued → Type 0 where
 
 -- the reply of a request is in a port no more
 abbrev pub without_reply : ℕ → ℕ → Heap → Heap
-without_reply port request heap = with_port port (port_of port heap) (without request (messages_of port heap)) heap
+without_reply port request heap = with_port port (port_of port heap) (without_item request (messages_of port heap)) heap
 
 -- ---- a request asks something else
 
@@ -150,7 +150,7 @@ who_tested false w rest others e = e
 
 who_left : (request : ℕ) (waiting : List Queued)
     → map (λ (x : Queued). x.request) (filter (λ (w : Queued). not (w.request == request)) waiting)
-    ≡ without request (map (λ (x : Queued). x.request) waiting)
+    ≡ without_item request (map (λ (x : Queued). x.request) waiting)
 who_left request [] = refl
 who_left request (w ∷ rest) =
     who_tested (not (nat_eq w.request request)) w (filter (λ (x : Queued). not (x.request == request)) rest) _ (who_left request rest)
@@ -285,7 +285,7 @@ pub way_loose : (request : ℕ) (s : State) → IsTidy s → is_under_way (reque
 way_loose request s tidy under port =
     subst (λ messages. IsAway request messages) (sym (messages_are port s.memory.heap))
     (tidy.order.stands request port
-    (ap (may_stand port) (request_there request s.memory.heap (under_way_there request s.memory.heap under))
+    (ap (may_be_in port) (request_there request s.memory.heap (under_way_there request s.memory.heap under))
     ∙ ap (λ b. not b && nat_eq port (request_of request s.memory.heap).port) under))
 
 pub ended_asks : (error : ℤ) (request : ℕ) (s : State) → (IsTidy s → is_under_way (request_of request s.memory.heap) ≡ true)
@@ -338,7 +338,7 @@ finishing request s waits =
     let found = answering_port request s.memory.heap in
     let act = acting_at found s.memory.heap in
     let next = on_memory (ended (pos 0) request) s in
-    let o = says (TimerLine request) (performed act next) in
+    let o = prints_line (TimerLine request) (performed act next) in
     subst (λ marks. Finishing s marks (with_reply found request o).state) (sym (marks_of found request o refl))
     (subst (λ r. Finishing s (reply_marks found request) r) (sym (state_of found request o))
     (record {

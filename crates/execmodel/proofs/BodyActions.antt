@@ -7,11 +7,11 @@ use Rattle.scheduler.specs.Schedule.{Schedule}
 use Rattle.softint.specs.{declared.latches.Latches.Latches, declared.source.Source.Source}
 use Rattle.script.specs.Commands.{CommandData}
 use Rattle.execmodel.specs.Requests.{answering_port, acting_at, with_reply, ended, ends_with, finishes, finishes_each, finishes_all_due, finishes_set}
-use Rattle.execmodel.specs.{State.Call, State.State, State.Timer as Clock, State.Outcome, State.quiet, State.says, State.andthen, State.unless_stopped, State.on_memory, State.on_timer, State.on_pending, State.Bodies, Calls.call_in_body, Pending.caused_no_more, Bodies.body_step, Bodies.runs_body, Interrupts.softint_at, Interrupts.server_at, Interrupts.runs_softint, Interrupts.runs_server, Interrupts.runs_chain, Interrupts.finishes_for}
+use Rattle.execmodel.specs.{State.Call, State.State, State.Timer as Clock, State.Outcome, State.quiet, State.prints_line, State.andthen, State.unless_stopped, State.on_memory, State.on_timer, State.on_pending, State.Bodies, Calls.call_in_body, Pending.caused_no_more, Bodies.body_step, Bodies.runs_body, Interrupts.softint_at, Interrupts.server_at, Interrupts.runs_softint, Interrupts.runs_server, Interrupts.runs_chain, Interrupts.finishes_for}
 use Rattle.softint.specs.declared.source.Source.TheVariants as source
 use Rattle.timerdev.specs.Timing.{due_next, looked_at, until_next}
 use Rattle.std.proofs.lemmas.List.Elements.{All-head, All-tail}
-use Rattle.execmodel.proofs.{Commands.performed_fixed, Telling.IsOwn, Telling.own, Telling.refusing, Telling.body_commanded, Keeping.finishes_found}
+use Rattle.execmodel.proofs.{Commands.performed_fixed, LinesOf.IsOwn, LinesOf.own, LinesOf.refusing, LinesOf.body_commanded, Keeping.finishes_found}
 
 -- ---- what bodies leave
 
@@ -97,7 +97,7 @@ pub softint_bodily : (i : ℕ) (s : State) → Bodily s (runs_softint i s)
 unfolding runs_softint
 softint_bodily i s =
     let softint = softint_at i s.bodies in
-    let all = then_bodily (says (Softint softint.name)) (runs_body softint.name softint.code) (on_pending (caused_no_more i) s)
+    let all = then_bodily (prints_line (Softint softint.name)) (runs_body softint.name softint.code) (on_pending (caused_no_more i) s)
     (record { same = refl; told = (tt, tt) }) (body_bodily softint.name softint.code) in
     record { same = all.same; told = all.told }
 
@@ -105,7 +105,7 @@ server_bodily : (k : ℕ) (s : State) → Bodily s (runs_server k s)
 unfolding runs_server
 server_bodily k s =
     let server = server_at k s.bodies in
-    then_bodily (says (Server server.name)) (runs_body server.name server.code) s
+    then_bodily (prints_line (Server server.name)) (runs_body server.name server.code) s
     (record { same = refl; told = (tt, tt) }) (body_bodily server.name server.code)
 
 claimed_bodily : (claim : Bool) (others : State → Outcome) → ((r : State) → Bodily r (others r)) → (s : State)

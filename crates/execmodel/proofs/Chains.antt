@@ -2,7 +2,7 @@
 use Rattle.std.proofs.Common.{◌≡◌, ℕ, zero, suc, ◌+◌, ◌<◌, ◌≤◌, Bool, true, false, cond, not, eqb, List, [], ◌∷◌, length, refl, sym, ap, ◌∙◌, arith, Option, Some, None, ℤ, filter, fold, slice_index_or, eq-eqb, ne_eqb}
 use Rattle.std.specs.List.{range_with_len}
 use Rattle.std.proofs.lemmas.{Bool.cond-true, Bool.cond-false, List.FromFn.length-range_with_len}
-use Rattle.execlist.specs.Order.{enqueue, order, first, without, is_lower}
+use Rattle.execlist.specs.Order.{enqueue, order, first, without_item, is_lower}
 use Rattle.execlist.proofs.OrderLaws.{first_of_order, order_leaves_out}
 use Rattle.softint.specs.{Sources.is_source, declared.source.Source.Source}
 use Rattle.script.specs.File.{ServerData}
@@ -29,11 +29,11 @@ Apart (x ∷ xs) ys = Lacks x ys × Apart xs ys
 apart_back : (x y : ℕ) → eqb x y ≡ false → eqb y x ≡ false
 apart_back x y e = ne_eqb y x (λ same. true_is_not_false (sym (eq-eqb x y (sym same)) ∙ e))
 
-left_alone : (k : ℕ) (xs : List ℕ) → Lacks k xs → without k xs ≡ xs
+left_alone : (k : ℕ) (xs : List ℕ) → Lacks k xs → without_item k xs ≡ xs
 left_alone k [] h = refl
 left_alone k (x ∷ xs) h = cond-true _ _ _ (ap not h.0) ∙ ap (λ l. x ∷ l) (left_alone k xs h.1)
 
-first_left : (k : ℕ) (xs : List ℕ) → Lacks k xs → without k (k ∷ xs) ≡ xs
+first_left : (k : ℕ) (xs : List ℕ) → Lacks k xs → without_item k (k ∷ xs) ≡ xs
 first_left k xs h = cond-false _ _ _ (ap not (eq-eqb k k refl)) ∙ left_alone k xs h
 
 -- ---- in order they stay apart, and as many
@@ -79,7 +79,7 @@ module _ (key : ℕ → ℤ) where
 
   -- the chosen one, and then that many others
   abbrev with_choice : ℕ → List ℕ → Option ℕ → List ℕ
-  with_choice n xs choice = elim choice as (λ (x : Option ℕ). List ℕ) [ None ↦ [] | Some k ↦ k ∷ by_choice n key (without k xs) ]
+  with_choice n xs choice = elim choice as (λ (x : Option ℕ). List ℕ) [ None ↦ [] | Some k ↦ k ∷ by_choice n key (without_item k xs) ]
 
   -- what is chosen, one after another from those that are left, is all of them in order
   chosen_in_order : (l : List ℕ) (n : ℕ) (xs : List ℕ) → order key xs ≡ l → Distinct l → length l ≤ n → by_choice n key xs ≡ l
@@ -90,8 +90,8 @@ module _ (key : ℕ → ℤ) where
   chosen_in_order (k ∷ l) (suc n) xs e d most =
       ap (with_choice n xs) (sym (first_of_order ℕ key xs) ∙ ap first e)
       ∙ ap (λ others. k ∷ others)
-      (chosen_in_order l n (without k xs)
-      (order_leaves_out ℕ key (λ x. not (eqb x k)) xs ∙ ap (without k) e ∙ first_left k l d.0) d.1 (omega (arith, most)))
+      (chosen_in_order l n (without_item k xs)
+      (order_leaves_out ℕ key (λ x. not (eqb x k)) xs ∙ ap (without_item k) e ∙ first_left k l d.0) d.1 (omega (arith, most)))
 
 -- ---- the numbers of servers
 

@@ -6,12 +6,12 @@ use Rattle.exectrace.specs.Trace.{TraceLine, Switch, Idle, Call, Serve, Timer, S
 use Rattle.script.specs.declared.event.Event.TheVariants.{Run, Tick, Irq}
 use Rattle.script.specs.{File.MachineData, declared.event.Event.Event}
 use Rattle.softint.specs.{declared.source.Source.Source, declared.source.Source.TheVariants.Vertb}
-use Rattle.timerdev.specs.Timing.{ticked}
-use Rattle.scheduler.specs.{declared.Switch.Switch as Choice, Schedule.name_of, Dispatch.switch_of}
+use Rattle.timerdev.specs.Timing.{clock_ticked}
+use Rattle.scheduler.specs.{declared.Switch.Switch as Choice, Schedule.task_name, Dispatch.switch_of}
 use Rattle.scheduler.specs.declared.Switch.TheVariants as choice
-use Rattle.execmodel.specs.Step.{announced, switches, settle, call_step, task_step, softint_or_task_step, acting, acts, step, steps, request, tick, ticks, all_added, starts, event, events, run}
+use Rattle.execmodel.specs.Step.{announced, switches, settle, call_step, task_step, softint_or_task_step, step_action, acts, step, steps, request, tick, ticks, all_added, starts, event, events, run}
 use Rattle.execmodel.specs.{State.Call as TaskCall, State.State, State.Outcome, State.quiet, State.andthen, State.unless_stopped, State.on_schedule, State.on_memory, State.on_pending, State.on_timer, State.booted, Calls.next_call, Pending.with_latch_of, Pending.next_softint, Interrupts.interrupts, Laws.OneStep, Laws.OneTick, Laws.OneRequest, Laws.says_switch, Laws.ComesTo, Laws.begins, Laws.goes_on, Laws.SwitchesTo, Laws.at_start, Laws.by_action, Laws.EachSwitchLineIsAChoice}
-use Rattle.execmodel.proofs.{Heaps.true_is_not_false, Saying.only_switches_say_so}
+use Rattle.execmodel.proofs.{Heaps.true_is_not_false, LinesOfBodies.only_switches_say_so}
 
 -- ---- what says no switch
 
@@ -51,7 +51,7 @@ module _ (machine : MachineData) where
       → AreChoices (announced c s).lines
   announced_choice None s makes = All-nil IsChoice
   announced_choice (Some (choice.To t)) s makes =
-      All-cons IsChoice (Switch (name_of s.schedule t)) [] (λ name e. makes name (ap (λ line. line ∷ []) e)) (All-nil IsChoice)
+      All-cons IsChoice (Switch (task_name s.schedule t)) [] (λ name e. makes name (ap (λ line. line ∷ []) e)) (All-nil IsChoice)
   announced_choice (Some choice.Idle) s makes = All-cons IsChoice Idle [] (λ name e. cc) (All-nil IsChoice)
 
   switched : (s : State) → ((name : List ℕ) → (switches s).lines ≡ Switch name ∷ [] → SwitchesTo machine name) → AreChoices (switches s).lines
@@ -78,8 +78,8 @@ module _ (machine : MachineData) where
       (unless switches (interrupts s).state (switched (interrupts s).state makes)))
 
   acted : (s : State) → AreChoices (acts s).lines
-  unfolding acts acting
-  acted s = unless acting s (silent (softint_or_task_step (next_softint s) s).lines (acting_silent (next_softint s) s))
+  unfolding acts step_action
+  acted s = unless step_action s (silent (softint_or_task_step (next_softint s) s).lines (acting_silent (next_softint s) s))
 
   -- ---- actions and events
 
@@ -96,9 +96,9 @@ module _ (machine : MachineData) where
   one_tick : (s : State) → ComesTo machine s → AreChoices (tick s).lines
   unfolding tick request
   one_tick s comes =
-      unless (λ s. request Vertb (on_memory (on_timer ticked) s)) s
-      (unless (λ s. settle (on_pending (with_latch_of Vertb true) s)) (on_memory (on_timer ticked) s)
-      (settled (on_pending (with_latch_of Vertb true) (on_memory (on_timer ticked) s)) (λ name e. by_action OneTick s comes e)))
+      unless (λ s. request Vertb (on_memory (on_timer clock_ticked) s)) s
+      (unless (λ s. settle (on_pending (with_latch_of Vertb true) s)) (on_memory (on_timer clock_ticked) s)
+      (settled (on_pending (with_latch_of Vertb true) (on_memory (on_timer clock_ticked) s)) (λ name e. by_action OneTick s comes e)))
 
   abbrev Goes : Outcome → Type 0
   Goes o = AreChoices o.lines × ComesTo machine o.state

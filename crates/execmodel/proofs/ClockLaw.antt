@@ -8,7 +8,7 @@ use Rattle.script.specs.{declared.word.Word.Word, declared.event.Event.Event, Ev
 use Rattle.script.specs.declared.word.Word.TheVariants as group
 use Rattle.execmodel.specs.{State.Call, State.Timer, State.State, State.Outcome, State.quiet, State.andthen, State.booted, State.on_schedule, Step.ends, Step.switches, Step.step, Step.steps, Step.request, Step.tick, Step.ticks, Step.event, Step.events, Step.starts, Step.run, Laws.TheClockCountsTicks}
 use Rattle.scheduler.specs.Dispatch.{rescheduled}
-use Rattle.execmodel.proofs.{Heaps.true_is_not_false, Itself.word_itself, Itself.word_keeps, Stopped.step_stopped, Stopped.request_stopped, Stretches.Relation, Stretches.HoldsOfEach, Stretches.clock_gains, Stretches.of_request, Stretches.of_step, Stretches.of_starts, Telling.body_alters, Asking.finishing, TidyLaw.quietly, TidyLaw.switches_quiet}
+use Rattle.execmodel.proofs.{Heaps.true_is_not_false, WithoutFinishing.word_itself, WithoutFinishing.word_keeps, Stopped.step_stopped, Stopped.request_stopped, Stretches.Relation, Stretches.HoldsOfEach, Stretches.clock_gains, Stretches.of_request, Stretches.of_step, Stretches.of_starts, LinesOf.body_alters, Asking.finishing, NoStraysLaw.quietly, NoStraysLaw.switches_quiet}
 
 -- ---- but for ticks the clock is
 

@@ -9,8 +9,8 @@ use Rattle.script.specs.declared.variable.Variable.TheVariants.{Private, Shared}
 use Rattle.script.specs.{declared.variable.Variable.Variable, File.SoftintData}
 use Rattle.execmodel.specs.State.{Call, Scripts, Heap, Memory, Mark, put, got, State, Outcome, leaving, Pending, Bodies, on_schedule}
 use Rattle.execmodel.specs.Calls.{Caller, ByTask, ByBody, argument, stored, stored_shared, goes_on, done, answered, silent, alerted, done_by, answered_by, silent_by, unless_by, name_argument}
-use Rattle.execmodel.specs.Ports.{is_port_at, is_message_at, is_queued, port_alert, message_alert, messages_of, content_of, port_of, appended, with_content, typed, posted, taken_off, reply_port_alert, loose_alert, put_alert, reply_alert, replied_by, delivered, performed, taken_by, does_put_msg_by, does_get_msg_by, does_reply_msg_by}
-use Rattle.execmodel.specs.{Signals.signal_alert, Signals.does_signal_by, Pending.causes, Pending.arrived, Pending.is_caused, Pending.softint_named, Causing.does_cause_by, Marks.turns_at_semaphore}
+use Rattle.execmodel.specs.Ports.{is_port_at, is_message_at, is_queued, port_alert, message_alert, messages_of, content_of, port_of, appended, with_content, typed, posted, taken_off, reply_port_alert, unqueued_alert, put_alert, reply_alert, replied_by, delivered, performed, taken_by, does_put_msg_by, does_get_msg_by, does_reply_msg_by}
+use Rattle.execmodel.specs.{Signals.signal_alert, Signals.does_signal_by, Pending.causes, Pending.arrived, Pending.is_caused, Pending.softint_number, Causing.does_cause_by, Marks.turns_at_semaphore}
 use Rattle.execmodel.proofs.Heaps.{content_is, filled, true_is_not_false}
 use Rattle.forbid.specs.Nesting.{Nesting}
 use Rattle.softint.specs.declared.latches.Latches.{Latches}
@@ -97,8 +97,8 @@ pub is_message_there : (message : ℕ) (heap : Heap) → message_alert message h
 unfolding message_alert
 is_message_there message heap none = (passed_first (is_message_at message heap) _ _ none).0
 
-pub is_loose_there : (message : ℕ) (heap : Heap) → loose_alert message heap ≡ None → (is_message_at message heap ≡ true) × (is_queued message heap ≡ false)
-unfolding loose_alert
+pub is_loose_there : (message : ℕ) (heap : Heap) → unqueued_alert message heap ≡ None → (is_message_at message heap ≡ true) × (is_queued message heap ≡ false)
+unfolding unqueued_alert
 is_loose_there message heap none =
     let first = passed_first (is_message_at message heap) _ _ none in (first.0, (passed_other (is_queued message heap) _ _ first.1).0)
 
@@ -382,5 +382,5 @@ get_alters c call s =
 
 pub cause_alters : (c : Caller) (call : Call) (s : State) → IsAltered s (does_cause_by c call s)
 cause_alters c call s =
-    let i = softint_named (unwrap_or (name_argument 0 call) []) s.bodies.softints in
+    let i = softint_number (unwrap_or (name_argument 0 call) []) s.bodies.softints in
     done_alters c call s (causes i s) (causing_alters i s)

@@ -1,7 +1,7 @@
 -- Facts about every call that is a value of what refuses it, what it makes of the blocks, and what it answers.
 use Rattle.std.proofs.Common.{◌≡◌, ℕ, Bool, Option, None, Some, refl, sym, ap, ◌∙◌, List, unwrap_or}
-use Rattle.execmodel.specs.{State.Call, State.Object, State.Memory, State.State, State.Outcome, State.on_memory, Calls.answered, Calls.unless, Deeds.allots, Deeds.makes, Deeds.performs, GivingWay.after_asking_for_object, Keeping.without_blocks, Memory.allocates_block, Memory.makes_object, Objects.place_for_object, Places.placed}
-use Rattle.execmodel.proofs.GivingWay.{asking_for_object_keeps}
+use Rattle.execmodel.specs.{State.Call, State.Object, State.Memory, State.State, State.Outcome, State.on_memory, Calls.answered, Calls.unless, Deeds.allots, Deeds.makes, Deeds.performs, LowMemory.after_asking_for_object, Keeping.without_blocks, Memory.allocates_block, Memory.makes_object, Objects.place_for_object, Places.placed}
+use Rattle.execmodel.proofs.LowMemory.{asking_for_object_keeps}
 use Rattle.script.specs.declared.alert.Alert.{Alert}
 
 -- a memory that differs in its blocks alone
@@ -17,7 +17,8 @@ unless_same : (alert : Option Alert) (t : ℕ) (call : Call) (f g : State → Ou
 unless_same None t call f g s e = e
 unless_same (Some code) t call f g s e = refl
 
--- to take memory for an object is such a value: it is taken once libraries were asked, which changes the blocks alone
+-- to take memory for an object is such a value: it is taken after libraries were asked for memory, which changes the
+-- blocks alone
 pub allotting : (alert : Option Alert) (asked : Memory → Memory) (place : Memory → Option ℕ) (size : ℕ) (object : Object) (t : ℕ) (call : Call) (s : State)
     → without_blocks (asked s.memory) ≡ without_blocks s.memory
     → performs (allots alert asked place size object) t call s

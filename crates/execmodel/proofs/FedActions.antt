@@ -8,11 +8,11 @@ use Rattle.scheduler.specs.{declared.Switch.Switch as Choice, Schedule.Schedule,
 use Rattle.scheduler.specs.declared.Switch.TheVariants as switch
 use Rattle.softint.specs.declared.source.Source.{Source}
 use Rattle.softint.specs.declared.source.Source.TheVariants as source
-use Rattle.timerdev.specs.Timing.{ticked}
-use Rattle.execmodel.specs.State.{Call, Scripts, State, Outcome, quiet, says, andthen, unless_stopped, on_schedule, on_memory, on_pending, on_timer}
+use Rattle.timerdev.specs.Timing.{clock_ticked}
+use Rattle.execmodel.specs.State.{Call, Scripts, State, Outcome, quiet, prints_line, andthen, unless_stopped, on_schedule, on_memory, on_pending, on_timer}
 use Rattle.execmodel.specs.Feeding.{fed, fed_to, and_fed, if_no_call, without_call, without_call_or_softint, at_end}
 use Rattle.execmodel.specs.Interrupts.{softint_at, runs_softint, server_at, chain_of, runs_server, runs_chain, serving_counted, finishes_for, serves, servings, interrupts}
-use Rattle.execmodel.specs.Step.{announced, switches, settle, ends, task_step, call_step, softint_or_task_step, acting, acts, step, request, tick, started, all_added, starts}
+use Rattle.execmodel.specs.Step.{announced, switches, settle, ends, task_step, call_step, softint_or_task_step, step_action, acts, step, request, tick, started, all_added, starts}
 use Rattle.execmodel.specs.{Calls.next_call, Calls.call_in_body, Pending.caused_no_more, Pending.with_latch_of, Pending.next_softint, Pending.next_source, Bodies.does_in_body, Bodies.body_step, Bodies.runs_body}
 use Rattle.execmodel.proofs.FedScripts.{fed_count, fed_starts, fed_body_call, fed_next}
 use Rattle.execmodel.proofs.FedWords.{Commutes, fed_in_body, fed_andthen, fed_finishes_all_due, fed_does}
@@ -40,8 +40,8 @@ module _ (u : ℕ) (command : CommandData) where
       fed_andthen u command (unless_stopped (body_step name c)) (runs_body name others) s
       (fed_unless (body_step name c) s (λ going. fed_body_step name c s)) (fed_body name others (unless_stopped (body_step name c) s).state)
 
-  fed_says_body : (line : TraceLine) (name : List ℕ) (code : List CommandData) (s : State) → Commutes u command (andthen (says line) (runs_body name code)) s
-  fed_says_body line name code s = fed_andthen u command (says line) (runs_body name code) s refl (fed_body name code s)
+  fed_says_body : (line : TraceLine) (name : List ℕ) (code : List CommandData) (s : State) → Commutes u command (andthen (prints_line line) (runs_body name code)) s
+  fed_says_body line name code s = fed_andthen u command (prints_line line) (runs_body name code) s refl (fed_body name code s)
 
   fed_softint : (i : ℕ) (s : State) → Commutes u command (runs_softint i) s
   unfolding runs_softint
@@ -76,7 +76,7 @@ module _ (u : ℕ) (command : CommandData) where
   fed_serves asks s =
       let chain = chain_of asks s.bodies.servers in
       let begun = on_schedule (serving_counted asks) (on_pending (with_latch_of asks false) s) in
-      fed_andthen u command (says (Serve (source_text asks))) (andthen (finishes_for asks) (runs_chain chain)) begun refl
+      fed_andthen u command (prints_line (Serve (source_text asks))) (andthen (finishes_for asks) (runs_chain chain)) begun refl
       (fed_andthen u command (finishes_for asks) (runs_chain chain) begun (fed_finishing asks begun) (fed_chain chain (finishes_for asks begun).state))
 
   fed_servings : (n : ℕ) (s : State) → Commutes u command (servings n) s
@@ -136,9 +136,9 @@ module _ (u : ℕ) (command : CommandData) where
   fed_either (Some i) s apart = fed_softint i s
 
   fed_acts : (s : State) → at_end s ≢ Some u → Commutes u command acts s
-  unfolding acts acting at_end next_softint
+  unfolding acts step_action at_end next_softint
   fed_acts s apart =
-      fed_unless acting s (λ going. fed_either (next_softint s) s (λ here. apart (going_on s.stopped going ∙ here)))
+      fed_unless step_action s (λ going. fed_either (next_softint s) s (λ here. apart (going_on s.stopped going ∙ here)))
     where
       going_on : (test : Bool) → test ≡ false → (if test then None else without_call_or_softint (next_softint s) s) ≡ without_call_or_softint (next_softint s) s
       going_on test going = ap (λ b. if b then None else without_call_or_softint (next_softint s) s) going
@@ -157,7 +157,7 @@ module _ (u : ℕ) (command : CommandData) where
   pub fed_tick : (s : State) → Commutes u command tick s
   unfolding tick
   fed_tick s =
-      fed_unless (λ s. request source.Vertb (on_memory (on_timer ticked) s)) s (λ going. fed_request source.Vertb (on_memory (on_timer ticked) s))
+      fed_unless (λ s. request source.Vertb (on_memory (on_timer clock_ticked) s)) s (λ going. fed_request source.Vertb (on_memory (on_timer clock_ticked) s))
 
   fed_added : (n : ℕ) (scripts : Scripts) (s : Schedule) → all_added (fed_to u command scripts) n s ≡ all_added scripts n s
   unfolding all_added

@@ -21,7 +21,7 @@ use Rattle.execmodel.specs.Semaphores.{waiters_of}
 use Rattle.execmodel.proofs.NewTask.{status_same}
 use Rattle.execmodel.proofs.NewWords.{more, grown, and_grown, Sized, Both}
 use Rattle.execmodel.proofs.NewActions.{going_by, event_with, softint_same, next_same as next_call_same, out_there, settle_with, added_with}
-use Rattle.execmodel.proofs.{Agreement.untouched, FedScripts.fed_count, Heaps.true_is_not_false, Stopped.event_stopped, Stopped.step_stopped, Stretches.of_event, Stretches.of_starts, Stretches.of_adding, WaitingLaw.IsSound, WaitingLaw.Waits, WaitingLaw.waits, WaitingLaw.clocked, WaitingLaw.as_many, WaitingLaw.booted_sound}
+use Rattle.execmodel.proofs.{Agreement.untouched, FedScripts.fed_count, Heaps.true_is_not_false, Stopped.event_stopped, Stopped.step_stopped, Stretches.of_event, Stretches.of_starts, Stretches.of_adding, WaitingLaw.IsSoundState, WaitingLaw.Waits, WaitingLaw.waits, WaitingLaw.clocked, WaitingLaw.as_many, WaitingLaw.booted_sound}
 
 pub steps_commute_with_feeding : StepsCommuteWithFeeding
 steps_commute_with_feeding t command s apart = fed_step t command s apart
@@ -81,7 +81,7 @@ count_of_tasks s = length s.schedule.queue.states
 -- what is known of a state between two inputs: all holds of it that holds in every state of a run, and, if it goes on, there are as many of each
 -- as there are tasks
 record IsReady (s : State) : Type 0 where
-  sound : IsSound s
+  sound : IsSoundState s
   sized : s.stopped ≡ false → Sized (count_of_tasks s) no_task s
 
 resized : (n : ℕ) (s : State) → Sized n no_task s → Sized (count_of_tasks s) no_task s
@@ -108,7 +108,7 @@ event_ready e s ready = record {
       (event_with (count_of_tasks s) no_task e s ready.sound (ready.sized (event_going e s going)) going).sized;
 }
 
-pub fed_sound : (t : ℕ) (command : CommandData) (s : State) → IsSound s → IsSound (fed t command s)
+pub fed_sound : (t : ℕ) (command : CommandData) (s : State) → IsSoundState s → IsSoundState (fed t command s)
 fed_sound t command s sound = record {
   tidy = record { formed = sound.tidy.formed; order = sound.tidy.order };
   idle = sound.idle;
@@ -159,7 +159,7 @@ grown_is : (n : ℕ) (task : TaskData) (s : State) → s.memory.tasks ≡ n → 
 grown_is n task s e = ap (λ k. record (with_new task s) { memory = record s.memory { tasks = suc k } }) e
 
 -- an outcome of a machine with a new task, by how many tasks there are
-by_count : (n : ℕ) (task : TaskData) (o : Outcome) → IsSound o.state → Sized n no_task o.state → and_grown n task o ≡ and_new task o
+by_count : (n : ℕ) (task : TaskData) (o : Outcome) → IsSoundState o.state → Sized n no_task o.state → and_grown n task o ≡ and_new task o
 by_count n task o sound sized = ap (λ s. record o { state = s }) (sym (grown_is n task o.state (sound.roomy ∙ sized.0.states)))
 
 new_event : (task : TaskData) (e : Event) (s : State) → IsReady s → (event e s).state.stopped ≡ false → event e (with_new task s) ≡ and_new task (event e s)

@@ -4,7 +4,7 @@ use Rattle.std.specs.Int.{cast_signed}
 use Rattle.execlist.specs.Order.{first}
 use Rattle.forbid.specs.Nesting.{Nesting, after_disable, after_enable, after_forbid, after_permit}
 use Rattle.signals.specs.Signals.{grant}
-use Rattle.scheduler.specs.Schedule.{come_for, nesting_of, nested, signals_of, after_wait, removed, waits_at_semaphore}
+use Rattle.scheduler.specs.Schedule.{come_for, nesting_of, nested, signals_of, after_wait, task_removed, waits_at_semaphore}
 use Rattle.scheduler.specs.Dispatch.{arrives}
 use Rattle.execlist.specs.Disciplines.{by_arrival}
 use Rattle.exectrace.specs.Trace.{Timer}
@@ -44,18 +44,18 @@ use Rattle.execmodel.specs.Lists.{list_deed}
 use Rattle.execmodel.specs.Memory.{memory_deed}
 use Rattle.execmodel.specs.Nesting.{does_nesting, nesting_rules}
 use Rattle.execmodel.specs.Objects.{place_for_object}
-use Rattle.execmodel.specs.Pending.{causes, softint_named}
+use Rattle.execmodel.specs.Pending.{causes, softint_number}
 use Rattle.execmodel.specs.Plain.{does_add, does_and, does_jump, does_jump_not_zero, does_jump_zero, does_or, does_plain, does_print, does_set, does_sub, jumps}
 use Rattle.execmodel.specs.Ports.{after_asking_for_port, content_of, delivered, does_add_port, does_create_msg_port, does_delete_msg_port, does_find_port, does_free_msg, does_get_msg, does_get_msg_by, does_msg_type, does_msg_word, does_new_msg, does_port_cause, does_port_ignore, does_port_signal, does_ports, does_put_msg, does_put_msg_by, does_rem_port, does_reply_msg, does_reply_msg_by, does_set_msg_word, does_wait_port, is_port, looked, loses, messages_of, performed, port_created, port_size, posted, taken_by, taken_off, typed}
 use Rattle.execmodel.specs.Requests.{aborts, acting_at, answering_port, begun_at, does_abort_io, does_check_io, does_close_device, does_create_io_request, does_delete_io_request, does_do_io, does_io_error, does_io_flags, does_io_micros, does_io_secs, does_open_device, does_requests, does_send_io, does_set_io, does_wait_io, ended, finishes, finishes_all_due, finishes_each, finishes_set, looks_for, replying_port, request_of, with_reply}
 use Rattle.execmodel.specs.Semaphores.{awaited_by, does_attempt_semaphore, does_free_sem, does_new_sem, does_obtain_semaphore, does_release_semaphore, does_semaphores, dropped, heir, is_tried_again, leaving_queue, obtains, passes, sem_of}
 use Rattle.execmodel.specs.Signals.{does_signal_by, does_signals, is_task, signal_rules, waited}
-use Rattle.execmodel.specs.State.{asked, got, left, out, passed, put, says}
+use Rattle.execmodel.specs.State.{asked, got, left, out, passed, put, prints_line}
 use Rattle.execmodel.specs.Step.{does, does_word}
 use Rattle.execmodel.specs.Tasks.{does_tasks, ends_other, is_caller, task_rules}
 use Rattle.execmodel.specs.Libraries.{close_alert, library_alert}
 use Rattle.execmodel.specs.Nesting.{gives_nesting, nest_alert}
-use Rattle.execmodel.specs.Ports.{add_port_alert, delete_alert, loose_alert, message_alert, port_alert, put_alert, rem_port_alert, reply_alert, reply_port_alert, wait_alert}
+use Rattle.execmodel.specs.Ports.{add_port_alert, delete_alert, unqueued_alert, message_alert, port_alert, put_alert, rem_port_alert, reply_alert, reply_port_alert, wait_alert}
 use Rattle.execmodel.specs.Requests.{delete_request_alert, do_alert, request_alert, resting_alert, send_alert, set_io_alert, wait_io_alert}
 use Rattle.execmodel.specs.Semaphores.{free_sem_alert, obtain_alert, release_alert}
 use Rattle.execmodel.specs.Signals.{free_signal_alert, mask_alert, signal_alert}
@@ -188,7 +188,7 @@ module _ (u : ℕ) (command : CommandData) where
 
   fed_cause : (c : Caller) (call : Call) (s : State) → Commutes (does_cause_by c call) s
   unfolding causes
-  fed_cause c call s = fed_done_by c call (causes (softint_named (unwrap_or (name_argument 0 call) []) s.bodies.softints) s)
+  fed_cause c call s = fed_done_by c call (causes (softint_number (unwrap_or (name_argument 0 call) []) s.bodies.softints) s)
 
   plain_in_body : (word : PlainWord) (c : Caller) (call : Call) (s : State) → Commutes (does_plain_by word c call) s
   plain_in_body plain.Set c call s = fed_silent_by c call _ s
@@ -263,7 +263,7 @@ module _ (u : ℕ) (command : CommandData) where
 
   fed_ends_other : (other t : ℕ) (call : Call) (s : State) → Commutes (ends_other other t call) s
   fed_ends_other other t call s =
-      leaves_queue (awaited_by other s.memory.heap) _ _ (fed_done t call (on_schedule (removed other) (on_memory (on_heap (dropped other)) s)))
+      leaves_queue (awaited_by other s.memory.heap) _ _ (fed_done t call (on_schedule (task_removed other) (on_memory (on_heap (dropped other)) s)))
     where
       leaves_queue : (semaphore : Option ℕ) (one another : Outcome) → one ≡ and_fed u command another
           → leaving_queue semaphore other one ≡ and_fed u command (leaving_queue semaphore other another)
@@ -329,7 +329,7 @@ module _ (u : ℕ) (command : CommandData) where
   fed_ports ports.FindPort t call s = fed_answered t call _ s
   fed_ports ports.NewMsg t call s = refused_by (reply_port_alert (argument 0 call) s.memory.heap) (ByTask t) call _ s (fed_answered t call _ _)
   fed_ports ports.MsgWord t call s = refused_by (message_alert (argument 0 call) s.memory.heap) (ByTask t) call _ s (fed_answered t call _ s)
-  fed_ports ports.FreeMsg t call s = refused_by (loose_alert (argument 0 call) s.memory.heap) (ByTask t) call _ s (fed_done t call _)
+  fed_ports ports.FreeMsg t call s = refused_by (unqueued_alert (argument 0 call) s.memory.heap) (ByTask t) call _ s (fed_done t call _)
   fed_ports ports.SetMsgWord t call s = refused_by (message_alert (argument 0 call) s.memory.heap) (ByTask t) call _ s (fed_done t call _)
   fed_ports ports.MsgType t call s = refused_by (message_alert (argument 0 call) s.memory.heap) (ByTask t) call _ s (fed_answered t call _ s)
   fed_ports ports.PutMsg t call s = fed_put_msg (ByTask t) call s
@@ -438,7 +438,7 @@ module _ (u : ℕ) (command : CommandData) where
   unfolding finishes
   fed_finishes request s =
       replying (answering_port request s.memory.heap) request _ _
-      (ap (says (Timer request)) (fed_performed _ (on_memory (ended (pos 0) request) s)))
+      (ap (prints_line (Timer request)) (fed_performed _ (on_memory (ended (pos 0) request) s)))
 
   fed_finishes_each : (next : Clock → Option ℕ) (n : ℕ) (s : State) → Commutes (finishes_each next n) s
   unfolding finishes_each

@@ -3,14 +3,14 @@ use Rattle.std.proofs.Common.{◌≡◌, ◌≢◌, ℕ, Bool, true, false, List
 use Rattle.std.specs.{List.list_any, Ordering.eq_by_cmp}
 use Rattle.memlist.specs.{declared.region.Region.Region, Memory.IsWellFormed, Fit.round}
 use Rattle.memlist.proofs.Answered.{nat_eq-same, nat_eq-other, cases_eq}
-use Rattle.execlist.specs.Order.{first, without}
+use Rattle.execlist.specs.Order.{first, without_item}
 use Rattle.iorequest.specs.declared.request.Request.{Request as TimerRequest}
 use Rattle.execmodel.specs.State.{Call, Object, Plain, ListHead, MsgPort, Message, Semaphore, Library, Block, Heap, Waiting as Queued, Mark, out, State}
 use Rattle.execmodel.specs.Ports.{is_port, is_message, is_port_at, is_message_at, messages_in, messages_of_object, messages_of, is_queued, has_message, with_port, with_action, appended, taken_off}
 use Rattle.execmodel.specs.Semaphores.{is_semaphore, is_semaphore_at, with_semaphore, left_by_task, entered, queued, dropped, handed_on, released_once, awaited_by}
 use Rattle.execmodel.specs.{Requests.with_request, Objects.object_at, Objects.is_kind, Objects.replaced, Memory.extents, Memory.block_at, Lists.is_list, Lists.is_list_at, Lists.with_nodes, Lists.unlinked, Lists.left_by, Libraries.is_library, Libraries.is_library_at, Libraries.with_library, Queues.Turn, Queues.Came, Queues.Served, Queues.Left, Marks.turn_at, Marks.turns_at_port}
-use Rattle.execmodel.proofs.Moves.{MayGo, leaving_marks, Moves, touches, takes, frees, relists, unlinks, sets, enters, queues, hands, opens, releases, counts, expunges, drops}
-use Rattle.execmodel.proofs.{Queues.Turns, Queues.Follows, Queues.IsAway, Heaps.rid, Heaps.filled, Heaps.instead, Heaps.object_replaced, Heaps.object_remade, Heaps.object_placed_here, Heaps.object_placed_there, Heaps.object_rid_here, Heaps.object_rid_there, Heaps.true_is_not_false, Formed.placed_fresh, Formed.counted_formed, Formed.rid_formed, Commands.Touches, Commands.remains, Commands.fills, Commands.puts, Commands.gets, Commands.none_some, Posts.IsTidy, Posts.messages_are, Asking.Asks, Asking.writes, Asking.answers, Asking.messages_written, Asking.ports_written, Asking.without_reply, Taking.IsNew, Taking.Takes, Taking.nothing, Taking.places, Taking.recounts, Taking.yields}
+use Rattle.execmodel.proofs.BlocksAfter.{MayGo, leaving_marks, Moves, touches, takes, frees, relists, unlinks, sets, enters, queues, hands, opens, releases, counts, expunges, drops}
+use Rattle.execmodel.proofs.{Queues.Turns, Queues.Follows, Queues.IsAway, Heaps.rid, Heaps.filled, Heaps.instead, Heaps.object_replaced, Heaps.object_remade, Heaps.object_placed_here, Heaps.object_placed_there, Heaps.object_rid_here, Heaps.object_rid_there, Heaps.true_is_not_false, WellFormed.placed_fresh, WellFormed.counted_formed, WellFormed.rid_formed, Commands.Touches, Commands.remains, Commands.fills, Commands.puts, Commands.gets, Commands.none_some, Posts.IsTidy, Posts.messages_are, Asking.Asks, Asking.writes, Asking.answers, Asking.messages_written, Asking.ports_written, Asking.without_reply, Taking.IsNew, Taking.Takes, Taking.nothing, Taking.places, Taking.recounts, Taking.yields}
 use Rattle.msgport.specs.{Port.Port, declared.message.Message.Message as Content}
 use Rattle.sigsem.specs.declared.semaphore.Sem.{Sem}
 
@@ -300,6 +300,6 @@ pub taken_follow : (port request : ℕ) (heap : Heap) → is_port_at port heap �
 taken_follow port request heap is p =
     let new = without_reply port request heap in
     turned p port (Left request) (messages_of p heap) (messages_of p new)
-    (λ same. ap (λ a. messages_of a new) same ∙ port_there port _ (without request (messages_of port heap)) heap is
-    ∙ ap (λ a. without request (messages_of a heap)) (sym same))
-    (λ apart. port_elsewhere p port _ (without request (messages_of port heap)) heap apart)
+    (λ same. ap (λ a. messages_of a new) same ∙ port_there port _ (without_item request (messages_of port heap)) heap is
+    ∙ ap (λ a. without_item request (messages_of a heap)) (sym same))
+    (λ apart. port_elsewhere p port _ (without_item request (messages_of port heap)) heap apart)

@@ -5,7 +5,7 @@ use Rattle.execlist.specs.Disciplines.{by_arrival}
 use Rattle.script.specs.{File.MachineData, declared.event.Event.Event}
 use Rattle.execmodel.specs.{State.Call, State.Memory, State.Mark, State.State, State.Outcome, State.on_schedule, State.booted, State.andthen, Ports.messages_of, Bodies.body_step, Step.switches, Step.ends, Step.starts, Step.events, Step.run, Marks.port_turn, Marks.turns_at_port, Laws.FirstInFirstOut, Requests.finishes}
 use Rattle.scheduler.specs.Dispatch.{rescheduled}
-use Rattle.execmodel.proofs.{Queues.Follows, Queues.IsOnce, Queues.follows_more, Queues.follows_once, Queues.in_order, Itself.does_itself, Itself.call_works, Stretches.Relation, Stretches.HoldsOfEach, Stretches.clock_gains, Stretches.of_starts, Stretches.of_events, Telling.body_alters, Posts.IsTidy, Asking.finishing, Asking.without_reply, Works.Works, Works.by_moves, Works.by_asking, Works.by_taking, Fifo.touched_follow, Fifo.moves_follow, Fifo.asked_follow, Fifo.taken_follow, TidyLaw.tidies, TidyLaw.rescheduled_tidy, TidyLaw.booted_tidy, TidyLaw.quietly, TidyLaw.switches_quiet}
+use Rattle.execmodel.proofs.{Queues.Follows, Queues.IsOnce, Queues.follows_more, Queues.follows_once, Queues.in_order, WithoutFinishing.does_itself, WithoutFinishing.call_works, Stretches.Relation, Stretches.HoldsOfEach, Stretches.clock_gains, Stretches.of_starts, Stretches.of_events, LinesOf.body_alters, Posts.IsTidy, Asking.finishing, Asking.without_reply, RequestsAfter.Works, RequestsAfter.by_moves, RequestsAfter.by_asking, RequestsAfter.by_taking, Fifo.touched_follow, Fifo.moves_follow, Fifo.asked_follow, Fifo.taken_follow, NoStraysLaw.tidies, NoStraysLaw.rescheduled_tidy, NoStraysLaw.booted_tidy, NoStraysLaw.quietly, NoStraysLaw.switches_quiet}
 
 -- the state stays in order, and each port follows its marks
 abbrev Ports : Relation

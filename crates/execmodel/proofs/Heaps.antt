@@ -1,5 +1,5 @@
 -- What begins at an address, after a block is placed or freed and after what begins there becomes another.
-use Rattle.std.proofs.Common.{◌≡◌, ◌≢◌, ℕ, Bool, true, false, [], ◌∷◌, Option, None, Some, refl, sym, ap, ◌∙◌, not, cond, if◌then◌else◌, nat_eq, map, nat_cmp, is_eq, option_map, Equal}
+use Rattle.std.proofs.Common.{◌≡◌, ◌≢◌, ℕ, Bool, true, false, [], ◌∷◌, Option, None, Some, refl, sym, ap, ◌∙◌, not, ◌&&◌, cond, if◌then◌else◌, nat_eq, map, nat_cmp, is_eq, option_map, Equal}
 use Rattle.std.specs.{Ordering.eq_by_cmp, Cmp.nat_cmp_total, FinMap.Entries.find-put, FinMap.Entries.find-where_key, FinMap.Entries.where_key, FinMap.put}
 use Rattle.memlist.proofs.Answered.{nat_eq-same, nat_eq-other, cases_eq, key_same, key_other}
 use Rattle.msgport.specs.declared.message.Message.{Message as Content}
@@ -7,6 +7,11 @@ use Rattle.execmodel.specs.{State.Object, State.Message, State.Block, State.Heap
 
 pub true_is_not_false : {A : Type 0} → true ≡ false → A
 true_is_not_false e = let bad : true ≡ false = e in cc
+
+-- both of two are so
+pub both_true : {A : Type 0} (b c : Bool) → (b && c) ≡ true → (b ≡ true → c ≡ true → A) → A
+both_true true c e f = f refl e
+both_true false c e f = true_is_not_false (sym e)
 
 key_is : (a k : ℕ) → eq_by_cmp nat_cmp a k ≡ true → k ≡ a
 key_is a k e = cases_eq a k (λ same. sym same) (λ apart. true_is_not_false (sym e ∙ key_other a k apart))

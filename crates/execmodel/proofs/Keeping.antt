@@ -3,7 +3,7 @@ use Rattle.std.proofs.Common.{[], ◌≡◌, ℕ, zero, suc, ℤ, Bool, true, fa
 use Rattle.execlist.specs.{Order.first, Disciplines.by_arrival}
 use Rattle.signals.specs.Signals.{taken_signals}
 use Rattle.taskq.specs.Tasks.{is_ready, is_live}
-use Rattle.scheduler.specs.Schedule.{Schedule, status_of, signals_of, is_absent, removed, waits_at_semaphore, allocates as allocates_signal, frees, sets_signals, awaits, waits_for, takes, after_wait, clears_and_waits}
+use Rattle.scheduler.specs.Schedule.{Schedule, status_of, signals_of, is_absent, task_removed, waits_at_semaphore, allocates_signal, frees_signal, sets_signals, awaits, waits_for, takes_signals, after_wait, clears_and_waits}
 use Rattle.scheduler.specs.Dispatch.{arrives, added, reprioritized, signalled}
 use Rattle.forbid.specs.Nesting.{Nesting}
 use Rattle.script.specs.declared.variable.Variable.TheVariants.{Private, Shared}
@@ -15,7 +15,7 @@ use Rattle.sigsem.specs.declared.semaphore.Obtained.TheVariants.{Owner, Waits}
 use Rattle.sigsem.specs.declared.semaphore.Obtained.{Obtained}
 use Rattle.msgport.specs.declared.action.Action.{Action}
 use Rattle.msgport.specs.declared.action.Action.TheVariants as action
-use Rattle.execmodel.specs.State.{quiet, Call, Heap, Object, Library, Timer, Memory, Pending, Program, Scripts, State, Outcome, no_program, says, andthen, on_schedule, on_scripts, on_memory, on_timer}
+use Rattle.execmodel.specs.State.{quiet, Call, Heap, Object, Library, Timer, Memory, Pending, Program, Scripts, State, Outcome, no_program, prints_line, andthen, on_schedule, on_scripts, on_memory, on_timer}
 use Rattle.execmodel.specs.Requests.{finishes, finishes_each, finishes_set, answering_port, acting_at, with_reply, ended, outcome_at, timer_begun, begun_at, looks_for, aborts}
 use Rattle.execmodel.specs.Keeping.{Keeps, without_progress, without_progress_of, without_states, without_priorities, without_signals, without_blocks, beside_plain, beside_signals, beside_nestings, beside_memory, beside_ports, beside_semaphores, beside_tasks, beside_requests, without_caused, clock_alone, without_blocks_system_and_waiting}
 use Rattle.execmodel.specs.{Pending.arrived, Pending.is_caused, Pending.causes, Libraries.base_of, Libraries.library_at, Libraries.library_opened, Libraries.entered_or_loaded, Calls.keeps as keeps_call, Calls.stored, Calls.goes_on, Calls.done, Calls.answered, Calls.waiting, Calls.silent, Calls.alerted, Calls.unless, Signals.waited, Nesting.gives_nesting, Tasks.ends_other, Memory.placed, Memory.place_for, Deeds.concluded, Ports.port_created, Ports.replied, Ports.delivered, Ports.performed, Ports.taken, Ports.looked, Semaphores.awaited_by, Semaphores.leaving_queue, Semaphores.obtains, Semaphores.passes}
@@ -83,8 +83,8 @@ pub allocates_signal_keeps : (t : ℕ) (n : ℤ) (s : Schedule) → beside_waits
 unfolding allocates_signal
 allocates_signal_keeps t n s = refl
 
-pub frees_keeps : (t n : ℕ) (s : Schedule) → beside_waits (frees t n s) ≡ beside_waits s
-unfolding frees
+pub frees_keeps : (t n : ℕ) (s : Schedule) → beside_waits (frees_signal t n s) ≡ beside_waits s
+unfolding frees_signal
 frees_keeps t n s = either_schedule beside_waits _ (is_live (status_of s t)) _ _ refl refl
 
 pub sets_keeps : (t new mask : ℕ) (s : Schedule) → beside_waits (sets_signals t new mask s) ≡ beside_waits s
@@ -98,11 +98,11 @@ signalled_keeps t mask s =
     (either_schedule beside_waits _ (awaits (status_of s t) _) _ _ refl refl)
 
 pub after_wait_keeps : (t mask : ℕ) (s : Schedule) → beside_waits (after_wait t mask s) ≡ beside_waits s
-unfolding waits_for takes
+unfolding waits_for takes_signals
 after_wait_keeps t mask s = either_schedule beside_waits _ (nat_eq (taken_signals mask (signals_of s t)) 0) _ _ refl refl
 
 clears_keeps : (t mask : ℕ) (s : Schedule) → beside_waits (clears_and_waits t mask s) ≡ beside_waits s
-unfolding waits_for takes
+unfolding waits_for takes_signals
 clears_keeps t mask s = refl
 
 -- a state in whose schedule signals and the tasks' states change alone
@@ -209,7 +209,7 @@ left_keeps None t o s keeps = keeps
 left_keeps (Some semaphore) t o s keeps = keeps
 
 pub ended_keeps : (other t : ℕ) (call : Call) (s : State) → beside_tasks (ends_other other t call s).state ≡ beside_tasks s
-unfolding done removed
+unfolding done task_removed
 ended_keeps other t call s = left_keeps (awaited_by other s.memory.heap) other _ s refl
 
 pub obtains_keeps : (how : Obtained) (semaphore t : ℕ) (call : Call) (s r : State) → beside_semaphores r ≡ beside_semaphores s
@@ -292,7 +292,7 @@ finish_keeps request s =
     let found = answering_port request s.memory.heap in
     let act = acting_at found s.memory.heap in
     let next = on_memory (ended (pos 0) request) s in
-    reply_keeps found request (says (TimerLine request) (performed act next)) s
+    reply_keeps found request (prints_line (TimerLine request) (performed act next)) s
     (acted_keeps act next ∙ waiting_change (ended (pos 0) request) s refl)
 
 -- the request that is found finishes, and then what comes next
@@ -306,7 +306,7 @@ unfolding finishes ended
 finish_scripts request s =
     let found = answering_port request s.memory.heap in
     let next = on_memory (ended (pos 0) request) s in
-    by_reply found (says (TimerLine request) (performed (acting_at found s.memory.heap) next)) (performed_scripts (acting_at found s.memory.heap) next)
+    by_reply found (prints_line (TimerLine request) (performed (acting_at found s.memory.heap) next)) (performed_scripts (acting_at found s.memory.heap) next)
   where
     by_reply : (port : Option ℕ) (o : Outcome) → o.state.scripts ≡ s.scripts → (with_reply port request o).state.scripts ≡ s.scripts
     by_reply None o same = same

@@ -8,11 +8,11 @@ use Rattle.iorequest.specs.declared.request.Request.{Request as TimerRequest}
 use Rattle.execmodel.specs.State.{Call, Object, ListHead, Semaphore, Library, Request, Block, Heap, Waiting as Queued, Mark, State, Outcome, quiet, andthen, on_schedule}
 use Rattle.execmodel.specs.Semaphores.{is_semaphore, is_semaphore_at, with_semaphore, left_by_task, entered, queued, dropped, handed_on, released_once}
 use Rattle.execmodel.specs.Libraries.{is_library, is_library_at, library_number, library_number_at, count_in, count_of, delayed_in, is_delayed, with_library}
-use Rattle.execmodel.specs.{Requests.is_request, Requests.is_request_at, Requests.with_request, Requests.finishes, Calls.next_call, Pending.next_softint, Bodies.body_step, Objects.object_at, Objects.is_kind, Objects.replaced, Memory.extents, Memory.block_at, Lists.is_list, Lists.is_list_at, Lists.with_nodes, Lists.unlinked, Lists.left_by, Ports.is_port, Ports.is_message, Ports.is_port_at, Ports.is_message_at, Ports.with_port, Ports.with_action, Ports.appended, Ports.taken_off, Step.switches, Step.settle, Step.ends, Step.call_step, Step.task_step, Step.softint_or_task_step, Step.acting, Step.acts, Step.step, Step.tick, Step.run, Laws.Action, Laws.OneStep, Laws.OneTick, Laws.OneRequest, Laws.outcome_of, Laws.IsToCall, Laws.IsLastClose, Laws.StaysLoaded, Laws.OpenLibrariesStay}
+use Rattle.execmodel.specs.{Requests.is_request, Requests.is_request_at, Requests.with_request, Requests.finishes, Calls.next_call, Pending.next_softint, Bodies.body_step, Objects.object_at, Objects.is_kind, Objects.replaced, Memory.extents, Memory.block_at, Lists.is_list, Lists.is_list_at, Lists.with_nodes, Lists.unlinked, Lists.left_by, Ports.is_port, Ports.is_message, Ports.is_port_at, Ports.is_message_at, Ports.with_port, Ports.with_action, Ports.appended, Ports.taken_off, Step.switches, Step.settle, Step.ends, Step.call_step, Step.task_step, Step.softint_or_task_step, Step.step_action, Step.acts, Step.step, Step.tick, Step.run, Laws.Action, Laws.OneStep, Laws.OneTick, Laws.OneRequest, Laws.outcome_of, Laws.IsToCall, Laws.IsLastClose, Laws.StaysLoaded, Laws.OpenLibrariesStay}
 use Rattle.scheduler.specs.Dispatch.{rescheduled}
 use Rattle.execmodel.proofs.Stretches.{Relation, HoldsOfInterrupts, of_softint, of_set, of_settle, of_request, ticked}
-use Rattle.execmodel.proofs.Moves.{MayExpunge, MayGo, Moves, is_of_libraries, touches, takes, frees, relists, unlinks, sets, enters, queues, hands, opens, releases, counts, expunges, drops}
-use Rattle.execmodel.proofs.{Heaps.block_remade, Heaps.found_rid, Heaps.rid, Heaps.filled, Heaps.true_is_not_false, Itself.does_itself, Itself.ends_followed, Itself.call_works, Formed.placed_fresh, Formed.counted_formed, Formed.rid_formed, Commands.Touches, Commands.remains, Commands.fills, Commands.puts, Commands.gets, Telling.body_alters, Taking.Takes, Taking.nothing, Taking.places, Taking.recounts, Taking.yields, Posts.IsTidy, Asking.Asks, Asking.writes, Asking.answers, Asking.written, Asking.without_reply, Asking.finishing, Works.Works, Works.by_moves, Works.by_asking, Works.by_taking, TidyLaw.quietly, TidyLaw.switches_quiet, TidyLaw.tidy_in_every_state}
+use Rattle.execmodel.proofs.BlocksAfter.{MayExpunge, MayGo, Moves, is_of_libraries, touches, takes, frees, relists, unlinks, sets, enters, queues, hands, opens, releases, counts, expunges, drops}
+use Rattle.execmodel.proofs.{Heaps.block_remade, Heaps.found_rid, Heaps.rid, Heaps.filled, Heaps.true_is_not_false, WithoutFinishing.does_itself, WithoutFinishing.ends_followed, WithoutFinishing.call_works, WellFormed.placed_fresh, WellFormed.counted_formed, WellFormed.rid_formed, Commands.Touches, Commands.remains, Commands.fills, Commands.puts, Commands.gets, LinesOf.body_alters, Taking.Takes, Taking.nothing, Taking.places, Taking.recounts, Taking.yields, Posts.IsTidy, Asking.Asks, Asking.writes, Asking.answers, Asking.written, Asking.without_reply, Asking.finishing, RequestsAfter.Works, RequestsAfter.by_moves, RequestsAfter.by_asking, RequestsAfter.by_taking, NoStraysLaw.quietly, NoStraysLaw.switches_quiet, NoStraysLaw.tidy_in_every_state}
 
 -- ---- a library is nothing else
 
@@ -371,8 +371,8 @@ module _ (base : ℕ) (s : State) (tidy : IsTidy s) (is : is_library_at base s.m
   chosen None first = tried s.schedule.running first refl
   chosen (Some i) first = inl (still base s.memory.heap _ is (of_softint (Kept base) (kept base) i s is))
 
-  acted : (test : Bool) → Keeps base s (if test then quiet s else acting s).state.memory.heap
-  unfolding acting
+  acted : (test : Bool) → Keeps base s (if test then quiet s else step_action s).state.memory.heap
+  unfolding step_action
   acted true = inl itself
   acted false = chosen (next_softint s) refl
 

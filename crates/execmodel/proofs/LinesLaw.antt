@@ -4,22 +4,22 @@ use Rattle.std.proofs.lemmas.List.Elements.{All-nil, All-head, All-tail, All-app
 use Rattle.execlist.specs.Disciplines.{by_arrival}
 use Rattle.exectrace.specs.Trace.{Value, Done, Switch, Serve, Server, Softint}
 use Rattle.exectrace.specs.Trace as trace
-use Rattle.scheduler.specs.Schedule.{Schedule, name_of, status_of, is_absent, begins, leaves, renewed, quantum_ticked, ticked_for}
+use Rattle.scheduler.specs.Schedule.{Schedule, task_name, status_of, is_absent, begins, leaves, renewed, quantum_ticked, ticked_for}
 use Rattle.scheduler.specs.{declared.Switch.Switch as Choice, Dispatch.arrives, Dispatch.added, Dispatch.displaced, Dispatch.after_switch, Dispatch.rescheduled, Dispatch.switch_of}
 use Rattle.scheduler.specs.declared.Switch.TheVariants as switch
 use Rattle.softint.specs.declared.source.Source.{Source}
 use Rattle.softint.specs.declared.source.Source.TheVariants as source
-use Rattle.timerdev.specs.Timing.{due_next, looked_at, until_next, ticked as clock_ticked}
+use Rattle.timerdev.specs.Timing.{due_next, looked_at, until_next, clock_ticked}
 use Rattle.script.specs.declared.event.Event.TheVariants.{Run, Tick, Irq}
 use Rattle.script.specs.{Commands.CommandData, File.MachineData, File.TaskData, File.SoftintData, File.ServerData, Machines.IsMachine, Machines.IsCode, Machines.IsTask, Machines.IsSoftint, Machines.IsServer, Machines.softint_names, declared.event.Event.Event}
-use Rattle.execmodel.specs.State.{Call, Scripts, State, Timer as Clock, Outcome, quiet, says, andthen, unless_stopped, no_program, on_schedule, on_memory, on_timer, on_pending, new_program, booted}
+use Rattle.execmodel.specs.State.{Call, Scripts, State, Timer as Clock, Outcome, quiet, prints_line, andthen, unless_stopped, no_program, on_schedule, on_memory, on_timer, on_pending, new_program, booted}
 use Rattle.softint.specs.Sources.{source_text}
 use Rattle.execmodel.specs.Interrupts.{no_softint, no_server, softint_at, runs_softint, server_at, chain_of, runs_server, runs_chain, serving_counted, finishes_for, serves, servings, interrupts}
-use Rattle.execmodel.specs.Step.{announced, switches, settle, does, ends, task_step, call_step, softint_or_task_step, acting, acts, step, steps, request, tick, ticks, started, all_added, starts, event, events, run}
+use Rattle.execmodel.specs.Step.{announced, switches, settle, does, ends, task_step, call_step, softint_or_task_step, step_action, acts, step, steps, request, tick, ticks, started, all_added, starts, event, events, run}
 use Rattle.execmodel.specs.{Calls.next_call, Calls.call_in_body, Pending.caused_no_more, Pending.with_latch_of, Pending.next_softint, Pending.next_source, Bodies.body_step, Bodies.runs_body, Requests.does_requests, Requests.finishes, Requests.finishes_each, Requests.finishes_all_due, Requests.finishes_set, Laws.FitsItsWord, Laws.CallsFitTheirWords, Laws.LinesAreShort}
 use Rattle.execmodel.proofs.ShortLines.{IsShort, IsShortText, switch_short, idle_short, serve_short, server_short, softint_short, call_short}
 use Rattle.execmodel.proofs.ShortTexts.{IsShortBody, HasShortTexts, Says, all_stays, named_alike, quiet_says, line_says, then_says, either_says, going_says, itself_says, next_has, either_names, command_says, finished_says}
-use Rattle.execmodel.proofs.{Keeping.finishes_found, Itself.followed, ShortCalls.IsBrief, ShortCalls.HasArguments, ShortCalls.name_is_short, ShortCalls.body_call_has, Telling.IsBriefProgram}
+use Rattle.execmodel.proofs.{Keeping.finishes_found, WithoutFinishing.followed, ShortCalls.IsBrief, ShortCalls.HasArguments, ShortCalls.name_is_short, ShortCalls.body_call_has, LinesOf.IsBriefProgram}
 
 -- ---- interrupts
 
@@ -37,7 +37,7 @@ unfolding runs_softint
 softint_says i s has =
     let softint = softint_at i s.bodies in
     let body = has.texts.softints i in
-    then_says (says (Softint softint.name)) (runs_body softint.name softint.code) (on_pending (caused_no_more i) s)
+    then_says (prints_line (Softint softint.name)) (runs_body softint.name softint.code) (on_pending (caused_no_more i) s)
     (line_says (Softint softint.name) _ (softint_short softint.name body.short)) (body_says softint.name softint.code body)
     (all_stays s (on_pending (caused_no_more i) s) refl refl has)
 
@@ -46,7 +46,7 @@ unfolding runs_server
 runs_server_says k s has =
     let server = server_at k s.bodies in
     let body = has.texts.servers k in
-    then_says (says (Server server.name)) (runs_body server.name server.code) s
+    then_says (prints_line (Server server.name)) (runs_body server.name server.code) s
     (line_says (Server server.name) s (server_short server.name body.short)) (body_says server.name server.code body) has
 
 claimed_says : (claim : Bool) (others : State → Outcome) → ((r : State) → Says r (others r)) → (s : State)
@@ -112,7 +112,7 @@ serves_says asks s has =
     let cleared = on_pending (with_latch_of asks false) s in
     let begun = on_schedule (serving_counted asks) cleared in
     let chain = chain_of asks s.bodies.servers in
-    then_says (says (Serve (source_text asks))) (andthen (finishes_for asks) (runs_chain chain)) begun
+    then_says (prints_line (Serve (source_text asks))) (andthen (finishes_for asks) (runs_chain chain)) begun
     (line_says (Serve (source_text asks)) begun (serve_short (source_text asks) (source_short asks)))
     (λ r. then_says (finishes_for asks) (runs_chain chain) r (finishing_says asks r) (chain_says chain))
     (all_stays s begun (named_alike (serving_counted asks) cleared (counted_names asks s.schedule)) refl has)
@@ -151,7 +151,7 @@ after_names (Some (switch.To t)) s = displaced_names s.running s
 announced_says : (choice : Option Choice) (s : State) → Says s (announced choice s)
 announced_says None s has = quiet_says s has
 announced_says (Some (switch.To t)) s has =
-    line_says (Switch (name_of s.schedule t)) s (switch_short (name_of s.schedule t) (has.texts.tasks t)) has
+    line_says (Switch (task_name s.schedule t)) s (switch_short (task_name s.schedule t) (has.texts.tasks t)) has
 announced_says (Some switch.Idle) s has = line_says trace.Idle s idle_short has
 
 switches_say : (s : State) → Says s (switches s)
@@ -180,8 +180,8 @@ does_says t call s given has =
 ends_says : (t : ℕ) (s : State) → Says s (ends t s)
 unfolding ends leaves
 ends_says t s has =
-    line_says (trace.Call (name_of s.schedule t) (codes "RemTask") (Value 0 ∷ []) Done) (on_schedule (leaves t) s)
-    (call_short (name_of s.schedule t) (codes "RemTask") (Value 0 ∷ []) Done (has.texts.tasks t) (lit≤ tt) (lit≤ tt))
+    line_says (trace.Call (task_name s.schedule t) (codes "RemTask") (Value 0 ∷ []) Done) (on_schedule (leaves t) s)
+    (call_short (task_name s.schedule t) (codes "RemTask") (Value 0 ∷ []) Done (has.texts.tasks t) (lit≤ tt) (lit≤ tt))
     (all_stays s (on_schedule (leaves t) s) refl refl has)
 
 call_says : (t : ℕ) (next : Option Call) (s : State) → IfSome next HasArguments → Says s (call_step t next s)
@@ -196,13 +196,13 @@ either_step_says : (found : Option ℕ) (s : State) → Says s (softint_or_task_
 either_step_says None s = task_says s.schedule.running s
 either_step_says (Some i) s = softint_says i s
 
-acting_says : (s : State) → Says s (acting s)
-unfolding acting
+acting_says : (s : State) → Says s (step_action s)
+unfolding step_action
 acting_says s = either_step_says (next_softint s) s
 
 step_says : (s : State) → Says s (step s)
 unfolding step acts
-step_says s = then_says acts settle s (going_says acting acting_says s) settle_says
+step_says s = then_says acts settle s (going_says step_action acting_says s) settle_says
 
 steps_say : (n : ℕ) (s : State) → Says s (steps n s)
 unfolding steps

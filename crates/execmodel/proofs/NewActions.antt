@@ -9,24 +9,24 @@ use Rattle.script.specs.declared.variable.Variable.TheVariants.{Private, Shared}
 use Rattle.script.specs.declared.event.Event.TheVariants.{Run, Tick, Irq}
 use Rattle.script.specs.{Commands.ArgumentData, Commands.number, Commands.variable, Commands.quoted, Commands.place, Commands.CommandData, File.TaskData, declared.variable.Variable.Variable, declared.event.Event.Event}
 use Rattle.forbid.specs.Nesting.{may_interrupt}
-use Rattle.scheduler.specs.{declared.Switch.Switch as Choice, Schedule.Schedule, Schedule.leaves, Schedule.name_of, Schedule.is_interrupting_allowed, Schedule.quantum_ticked, Sound.is_running, Dispatch.switch_of, Dispatch.rescheduled, Dispatch.added}
+use Rattle.scheduler.specs.{declared.Switch.Switch as Choice, Schedule.Schedule, Schedule.leaves, Schedule.task_name, Schedule.is_interrupting_allowed, Schedule.quantum_ticked, Sound.is_running, Dispatch.switch_of, Dispatch.rescheduled, Dispatch.added}
 use Rattle.scheduler.specs.declared.Switch.TheVariants as switch
 use Rattle.sigsem.specs.Semaphores.{is_last}
 use Rattle.softint.specs.Sources.{highest}
 use Rattle.softint.specs.declared.source.Source.{Source}
 use Rattle.softint.specs.declared.source.Source.TheVariants as source
 use Rattle.taskq.specs.Tasks.{is_ready}
-use Rattle.timerdev.specs.Timing.{ticked}
+use Rattle.timerdev.specs.Timing.{clock_ticked}
 use Rattle.memlist.proofs.Answered.{nat_eq-same}
-use Rattle.execmodel.specs.State.{Call, Scripts, Program, State, Outcome, quiet, says, andthen, unless_stopped, program_of, on_schedule, on_memory, on_pending, on_timer}
+use Rattle.execmodel.specs.State.{Call, Scripts, Program, State, Outcome, quiet, prints_line, andthen, unless_stopped, program_of, on_schedule, on_memory, on_pending, on_timer}
 use Rattle.execmodel.specs.Feeding.{joined_by}
 use Rattle.execmodel.specs.Calls.{content, evaluated, evaluated_in_body, call_of, call_at, call_after, next_call, call_in_body}
 use Rattle.execmodel.specs.Interrupts.{softint_at, runs_softint, server_at, chain_of, runs_server, runs_chain, serving_counted, finishes_for, serves, servings, interrupts}
-use Rattle.execmodel.specs.Step.{started, all_added, announced, switches, settle, ends, task_step, call_step, softint_or_task_step, acting, acts, step, steps, request, tick, ticks, event}
+use Rattle.execmodel.specs.Step.{started, all_added, announced, switches, settle, ends, task_step, call_step, softint_or_task_step, step_action, acts, step, steps, request, tick, ticks, event}
 use Rattle.execmodel.specs.{Pending.caused_no_more, Pending.with_latch_of, Pending.allows_interrupts, Pending.next_softint, Pending.next_source, Bodies.does_in_body, Bodies.body_step, Bodies.runs_body, Pending.softint_pri, Semaphores.heir, Semaphores.sem_of, Semaphores.waiters_of, Agreement.Agrees, Agreement.once_if}
 use Rattle.execmodel.proofs.NewTask.{Fits, Moves, stays_moves, added_moves, IsOut, nesting_same, name_same, absent_last, leaves_moves, ticked_moves, rescheduled_moves, switch_same, switch_to_other}
 use Rattle.execmodel.proofs.NewWords.{more, grown, Sized, IsWith, Both, Carries, NoHeir, program_same, from_with, scheduled, itself, quiet_with, andthen_with, in_body_with, all_due_with, does_with}
-use Rattle.execmodel.proofs.{Agreement.never_away, Agreement.some_same, Agreement.first_stands, Commands.none_some, Heaps.true_is_not_false, Stopped.step_stopped, Stopped.tick_stopped, WaitingLaw.IsSound, WaitingLaw.Waits, WaitingLaw.waits, WaitingLaw.clocked, Stretches.of_interrupts, Stretches.of_acts, Stretches.of_steps, Stretches.of_event, Stretches.clock_gains, Agreement.waits_at}
+use Rattle.execmodel.proofs.{Agreement.never_away, Agreement.some_same, Agreement.first_stands, Commands.none_some, Heaps.true_is_not_false, Stopped.step_stopped, Stopped.tick_stopped, WaitingLaw.IsSoundState, WaitingLaw.Waits, WaitingLaw.waits, WaitingLaw.clocked, Stretches.of_interrupts, Stretches.of_acts, Stretches.of_steps, Stretches.of_event, Stretches.clock_gains, Agreement.waits_at}
 
 -- an action that goes on does so from a state that went on
 pub going_by : (next : State → Outcome) (s : State) → (s.stopped ≡ true → next s ≡ quiet s) → (next s).state.stopped ≡ false → s.stopped ≡ false
@@ -98,14 +98,14 @@ module _ (n : ℕ) (task : TaskData) where
       let one = unless_with (body_step name c) s sized (λ on. body_step_with name c s sized) (body_going name others r going) in
       andthen_with n task (unless_stopped (body_step name c)) (runs_body name others) s one (body_with name others r one.sized going)
 
-  says_with : (line : TraceLine) (s : State) → Sized n task s → Both n task (says line (grown n task s)) (says line s)
+  says_with : (line : TraceLine) (s : State) → Sized n task s → Both n task (prints_line line (grown n task s)) (prints_line line s)
   says_with line s sized = record { same = refl; sized = sized }
 
   says_body_with : (line : TraceLine) (name : List ℕ) (code : List CommandData) (s : State) → Sized n task s
-      → Carries n task (andthen (says line) (runs_body name code)) s
+      → Carries n task (andthen (prints_line line) (runs_body name code)) s
   unfolding andthen
   says_body_with line name code s sized going =
-      andthen_with n task (says line) (runs_body name code) s (says_with line s sized) (body_with name code s sized going)
+      andthen_with n task (prints_line line) (runs_body name code) s (says_with line s sized) (body_with name code s sized going)
 
   softint_with : (i : ℕ) (s : State) → Sized n task s → Carries n task (runs_softint i) s
   unfolding runs_softint
@@ -144,12 +144,12 @@ module _ (n : ℕ) (task : TaskData) where
   counted_with source.Exter s sized = itself n task s sized
 
   served_with : (asks : Source) (chain : List ℕ) (s : State) → Sized n task s
-      → Carries n task (andthen (says (Serve (source_text asks))) (andthen (finishes_for asks) (runs_chain chain))) s
+      → Carries n task (andthen (prints_line (Serve (source_text asks))) (andthen (finishes_for asks) (runs_chain chain))) s
   unfolding andthen
   served_with asks chain s sized going =
       let line = Serve (source_text asks) in
       let finished = finishing_with asks s sized in
-      andthen_with n task (says line) (andthen (finishes_for asks) (runs_chain chain)) s (says_with line s sized)
+      andthen_with n task (prints_line line) (andthen (finishes_for asks) (runs_chain chain)) s (says_with line s sized)
       (andthen_with n task (finishes_for asks) (runs_chain chain) s finished (chain_with chain (finishes_for asks s).state finished.sized going))
 
   serves_with : (asks : Source) (s : State) → Sized n task s → Carries n task (serves asks) s
@@ -158,7 +158,7 @@ module _ (n : ℕ) (task : TaskData) where
       let chain = chain_of asks s.bodies.servers in
       let cleared = on_pending (with_latch_of asks false) s in
       let counted = counted_with asks cleared sized in
-      from_with n task (andthen (says (Serve (source_text asks))) (andthen (finishes_for asks) (runs_chain chain))) _
+      from_with n task (andthen (prints_line (Serve (source_text asks))) (andthen (finishes_for asks) (runs_chain chain))) _
       (on_schedule (serving_counted asks) cleared) counted (served_with asks chain (on_schedule (serving_counted asks) cleared) counted.1 going)
 
   allowed_same : (s : Schedule) → allows_interrupts (joined_by task.pri task.name s) ≡ allows_interrupts s
@@ -207,10 +207,10 @@ module _ (n : ℕ) (task : TaskData) where
   apart_at None e = λ here. none_some (sym here)
   apart_at (Some r) e = λ here. true_is_not_false (sym (ap (λ o. is_at o n) here ∙ nat_eq-same n) ∙ e)
 
-  agreed : (s : State) → IsSound s → Agrees n s.schedule (λ a. waiters_of a s.memory.heap)
+  agreed : (s : State) → IsSoundState s → Agrees n s.schedule (λ a. waiters_of a s.memory.heap)
   agreed s sound = sound.agrees n
 
-  pub out_there : (s : State) → IsSound s → Sized n task s → IsOut n task.pri task.name s.schedule
+  pub out_there : (s : State) → IsSoundState s → Sized n task s → IsOut n task.pri task.name s.schedule
   out_there s sound sized =
       let absent = absent_last n task.pri task.name s.schedule sized.0 in
       record {
@@ -222,7 +222,7 @@ module _ (n : ℕ) (task : TaskData) where
   no_first [] e = λ here. none_some (sym here)
   no_first (x ∷ q) e = λ here. let stands = first_stands n x q (some_same here) in absurd (omega (arith, stands, e))
 
-  no_heir : (s : State) → IsSound s → Sized n task s → NoHeir n task s
+  no_heir : (s : State) → IsSoundState s → Sized n task s → NoHeir n task s
   unfolding heir
   no_heir s sound sized = λ semaphore.
       by_last (is_last (sem_of semaphore s.memory.heap)) (first (waiters_of semaphore s.memory.heap))
@@ -243,7 +243,7 @@ module _ (n : ℕ) (task : TaskData) where
       from_with n task (announced (Some (switch.To t))) r q alike
       (record { same = rw (name_same n task.pri task.name t q.schedule alike.1.0 (other t refl)) refl; sized = alike.1 })
 
-  switches_with : (s : State) → IsSound s → Sized n task s → Both n task (switches (grown n task s)) (switches s)
+  switches_with : (s : State) → IsSoundState s → Sized n task s → Both n task (switches (grown n task s)) (switches s)
   unfolding switches
   switches_with s sound sized =
       let out = out_there s sound sized in
@@ -257,7 +257,7 @@ module _ (n : ℕ) (task : TaskData) where
         sized = both.sized;
       }
 
-  pub settle_with : (s : State) → IsSound s → Sized n task s → Carries n task settle s
+  pub settle_with : (s : State) → IsSoundState s → Sized n task s → Carries n task settle s
   unfolding settle
   settle_with s sound sized going =
       unless_with (andthen interrupts (unless_stopped switches)) s sized
@@ -319,13 +319,13 @@ module _ (n : ℕ) (task : TaskData) where
   ends_with t s sized apart =
       let left = scheduled n task (leaves t) (grown n task s) s (itself n task s sized) (leaves_moves n task.pri task.name t s.schedule sized.0 apart) in
       record {
-        same = ap (λ name. says (trace.Call name (codes "RemTask") (Value 0 ∷ []) trace.Done) (on_schedule (leaves t) (grown n task s)))
+        same = ap (λ name. prints_line (trace.Call name (codes "RemTask") (Value 0 ∷ []) trace.Done) (on_schedule (leaves t) (grown n task s)))
             (name_same n task.pri task.name t s.schedule sized.0 apart)
-            ∙ ap (says (trace.Call (name_of s.schedule t) (codes "RemTask") (Value 0 ∷ []) trace.Done)) left.0;
+            ∙ ap (prints_line (trace.Call (task_name s.schedule t) (codes "RemTask") (Value 0 ∷ []) trace.Done)) left.0;
         sized = left.1;
       }
 
-  call_step_with : (t : ℕ) (one call : Option Call) (s : State) → one ≡ call → IsSound s → Sized n task s → t ≢ n
+  call_step_with : (t : ℕ) (one call : Option Call) (s : State) → one ≡ call → IsSoundState s → Sized n task s → t ≢ n
       → (call_step t call s).state.stopped ≡ false → Both n task (call_step t one (grown n task s)) (call_step t call s)
   call_step_with t one call s e sound sized apart going =
       let both = here call going in record { same = ap (λ c. call_step t c (grown n task s)) e ∙ both.same; sized = both.sized }
@@ -334,34 +334,34 @@ module _ (n : ℕ) (task : TaskData) where
       here None on = ends_with t s sized apart
       here (Some call) on = does_with n task t call s sized apart (no_heir s sound sized) on
 
-  task_step_with : (running : Option ℕ) (s : State) → running ≢ Some n → IsSound s → Sized n task s → Carries n task (task_step running) s
+  task_step_with : (running : Option ℕ) (s : State) → running ≢ Some n → IsSoundState s → Sized n task s → Carries n task (task_step running) s
   task_step_with None s other sound sized going = quiet_with n task s sized
   task_step_with (Some t) s other sound sized going =
       let apart : t ≢ n = λ here. other (ap Some here) in
       call_step_with t _ (next_call t s.scripts) s (next_same t s.scripts sized.1 apart) sound sized apart going
 
-  either_with : (softint : Option ℕ) (s : State) → IsSound s → Sized n task s → Carries n task (softint_or_task_step softint) s
+  either_with : (softint : Option ℕ) (s : State) → IsSoundState s → Sized n task s → Carries n task (softint_or_task_step softint) s
   either_with None s sound sized going = task_step_with s.schedule.running s (out_there s sound sized).running sound sized going
   either_with (Some i) s sound sized going = softint_with i s sized going
 
-  acting_with : (s : State) → IsSound s → Sized n task s → Carries n task acting s
-  unfolding acting
+  acting_with : (s : State) → IsSoundState s → Sized n task s → Carries n task step_action s
+  unfolding step_action
   acting_with s sound sized going =
       let both = either_with (next_softint s) s sound sized going in
       record { same = ap (λ softint. softint_or_task_step softint (grown n task s)) (softint_same s) ∙ both.same; sized = both.sized }
 
-  acts_with : (s : State) → IsSound s → Sized n task s → Carries n task acts s
+  acts_with : (s : State) → IsSoundState s → Sized n task s → Carries n task acts s
   unfolding acts
-  acts_with s sound sized going = unless_with acting s sized (λ on. acting_with s sound sized) going
+  acts_with s sound sized going = unless_with step_action s sized (λ on. acting_with s sound sized) going
 
-  acted_sound : (s : State) → IsSound s → IsSound (acts s).state
+  acted_sound : (s : State) → IsSoundState s → IsSoundState (acts s).state
   acted_sound s sound = (of_acts Waits waits s sound).0
 
   settled_going : (s : State) → (settle s).state.stopped ≡ false → s.stopped ≡ false
   unfolding settle
   settled_going s going = unless_going (andthen interrupts (unless_stopped switches)) s going
 
-  pub step_with : (s : State) → IsSound s → Sized n task s → Carries n task step s
+  pub step_with : (s : State) → IsSoundState s → Sized n task s → Carries n task step s
   unfolding step andthen
   step_with s sound sized going =
       let r = (acts s).state in
@@ -370,21 +370,21 @@ module _ (n : ℕ) (task : TaskData) where
 
   -- ---- ticks and requests
 
-  pub request_with : (asks : Source) (s : State) → IsSound s → Sized n task s → Carries n task (request asks) s
+  pub request_with : (asks : Source) (s : State) → IsSoundState s → Sized n task s → Carries n task (request asks) s
   unfolding request
   request_with asks s sound sized going =
       unless_with (λ s. settle (on_pending (with_latch_of asks true) s)) s sized
       (λ on. settle_with (on_pending (with_latch_of asks true) s) (waits.interrupting.pending (with_latch_of asks true) s sound).0 sized) going
 
-  pub tick_with : (s : State) → IsSound s → Sized n task s → Carries n task tick s
+  pub tick_with : (s : State) → IsSoundState s → Sized n task s → Carries n task tick s
   unfolding tick
   tick_with s sound sized going =
-      unless_with (λ s. request source.Vertb (on_memory (on_timer ticked) s)) s sized
+      unless_with (λ s. request source.Vertb (on_memory (on_timer clock_ticked) s)) s sized
       (λ on. request_with source.Vertb (clock_gains s) (clocked s sound).0 sized) going
 
   -- ---- events
 
-  pub steps_with : (m : ℕ) (s : State) → IsSound s → Sized n task s → Carries n task (steps m) s
+  pub steps_with : (m : ℕ) (s : State) → IsSoundState s → Sized n task s → Carries n task (steps m) s
   unfolding steps andthen
   steps_with zero s sound sized going = quiet_with n task s sized
   steps_with (suc m) s sound sized going =
@@ -392,11 +392,11 @@ module _ (n : ℕ) (task : TaskData) where
       let one = steps_with m s sound sized (going_by step r (λ is. step_stopped r is) going) in
       andthen_with n task (steps m) step s one (step_with r (of_steps Waits waits m s sound).0 one.sized going)
 
-  ticks_sound : (m : ℕ) (s : State) → IsSound s → IsSound (ticks m s).state
+  ticks_sound : (m : ℕ) (s : State) → IsSoundState s → IsSoundState (ticks m s).state
   unfolding event
   ticks_sound m s sound = (of_event Waits waits clocked (Tick m) s sound).0
 
-  ticks_with : (m : ℕ) (s : State) → IsSound s → Sized n task s → Carries n task (ticks m) s
+  ticks_with : (m : ℕ) (s : State) → IsSoundState s → Sized n task s → Carries n task (ticks m) s
   unfolding ticks andthen
   ticks_with zero s sound sized going = quiet_with n task s sized
   ticks_with (suc m) s sound sized going =
@@ -404,7 +404,7 @@ module _ (n : ℕ) (task : TaskData) where
       let one = ticks_with m s sound sized (going_by tick r (λ is. tick_stopped r is) going) in
       andthen_with n task (ticks m) tick s one (tick_with r (ticks_sound m s sound) one.sized going)
 
-  pub event_with : (e : Event) (s : State) → IsSound s → Sized n task s → Carries n task (event e) s
+  pub event_with : (e : Event) (s : State) → IsSoundState s → Sized n task s → Carries n task (event e) s
   unfolding event
   event_with (Run m) s sound sized going = steps_with m s sound sized going
   event_with (Tick m) s sound sized going = ticks_with m s sound sized going

@@ -8,7 +8,7 @@ use Rattle.script.specs.declared.word.memory.MemoryWord.TheVariants as memory
 use Rattle.std.specs.Int.{cast_signed}
 use Rattle.script.specs.declared.alert.Alert.{Alert}
 use Rattle.execmodel.specs.State.{Call, Object, ListHead, Node, Plain, Memory}
-use Rattle.execmodel.specs.{Calls.argument, Calls.name_argument, Lists.list_size, Lists.node_size, Deeds.Deed, Deeds.allots, Places.place_for, Places.placed, Objects.is_allowed, Objects.place_for_object, Loaded.base_of, Loaded.count_of, Loaded.after_expunge, GivingWay.gives_way_at, GivingWay.gives_way, GivingWay.asked_one, GivingWay.asked_each, GivingWay.after_asking, GivingWay.after_asking_for_object, Libraries.library_at, Libraries.library_to_open, Libraries.ready_to_load, Libraries.ready_to_open, Libraries.base_opened, Libraries.base_or_place, Libraries.opening, Libraries.entered_or_loaded, Libraries.library_opened, Libraries.opened, Libraries.closed, Libraries.is_delayed, Ports.after_asking_for_port, Ports.is_port, Ports.port_size, Lists.list_deed, Memory.memory_deed}
+use Rattle.execmodel.specs.{Calls.argument, Calls.name_argument, Lists.list_size, Lists.node_size, Deeds.Deed, Deeds.allots, Places.place_for, Places.placed, Objects.is_allowed, Objects.place_for_object, Loaded.base_of, Loaded.count_of, Loaded.after_expunge, LowMemory.gives_way_at, LowMemory.gives_way, LowMemory.asked_one, LowMemory.asked_each, LowMemory.after_asking, LowMemory.after_asking_for_object, Libraries.library_at, Libraries.library_to_open, Libraries.ready_to_load, Libraries.ready_to_open, Libraries.base_opened, Libraries.base_or_place, Libraries.opening, Libraries.entered_or_loaded, Libraries.library_opened, Libraries.opened, Libraries.closed, Libraries.is_delayed, Ports.after_asking_for_port, Ports.is_port, Ports.port_size, Lists.list_deed, Memory.memory_deed}
 
 module _ (k : ℕ) where
   -- a memory of that many tasks

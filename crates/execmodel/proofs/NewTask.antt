@@ -3,12 +3,12 @@
 use Rattle.std.proofs.Common.{inl, inr, ◌≡◌, ◌≢◌, ◌⊎◌, ℕ, zero, suc, ◌+◌, ℤ, Bool, true, false, not, ◌&&◌, ◌||◌, if◌then◌else◌, List, [], ◌∷◌, ◌++◌, Option, None, Some, length, nat_eq, refl, sym, ap, ap₂, ◌∙◌, arith, slice_index_or, slice_set, length-set, length-append, find, cond, subst, int_lt, int_le, ◌==◌}
 use Rattle.std.specs.{List.range_with_len, Option.option_or}
 use Rattle.memlist.proofs.Answered.{cases_eq}
-use Rattle.execlist.specs.{Disciplines.by_arrival, Disciplines.pri_at, Order.chosen, Order.chosen_or, Order.is_lower, Order.without}
+use Rattle.execlist.specs.{Disciplines.by_arrival, Disciplines.pri_at, Order.chosen, Order.chosen_or, Order.is_lower, Order.without_item}
 use Rattle.signals.specs.Signals.{SignalSets, initial_sets, grant, after_grant, after_set, after_take, after_free, after_post, taken_signals}
 use Rattle.forbid.specs.Nesting.{Nesting, initial_nesting}
 use Rattle.taskq.specs.declared.TaskState.TheVariants.{Absent, Ready, Running, Waiting, Removed}
 use Rattle.taskq.specs.{Tasks.state_at, Tasks.is_ready, Tasks.is_live, Tasks.is_live_named, declared.TaskState.TaskState, declared.Why.TheVariants.Signals, declared.Why.TheVariants.Sem}
-use Rattle.scheduler.specs.Schedule.{Schedule, name_of, priority_of, status_of, signals_of, nesting_of, with_status, with_signals, with_priority, is_switching_allowed, is_quantum_over, takes_over, switch_for, renewed, begins, quantum_ticked, ticked_for, is_absent, leaves, departs, removed, found, awaits, waits_for, takes, after_wait, clears_and_waits, allocates, sets_signals, frees, waits_at_semaphore, nested}
+use Rattle.scheduler.specs.Schedule.{Schedule, task_name, priority_of, status_of, signals_of, nesting_of, with_status, with_signals, with_priority, is_switching_allowed, is_quantum_over, takes_over, switch_for, renewed, begins, quantum_ticked, ticked_for, is_absent, leaves, departs, task_removed, found, awaits, waits_for, takes_signals, after_wait, clears_and_waits, allocates_signal, sets_signals, frees_signal, waits_at_semaphore, nested}
 use Rattle.scheduler.specs.{declared.Switch.Switch as Choice, Dispatch.arrives, Dispatch.switch_of, Dispatch.displaced, Dispatch.after_switch, Dispatch.rescheduled, Dispatch.added, Dispatch.reprioritized, Dispatch.signalled}
 use Rattle.scheduler.specs.declared.Switch.TheVariants as switch
 use Rattle.execmodel.specs.Feeding.{joined_by}
@@ -77,7 +77,7 @@ module _ (n : ℕ) (pri : ℤ) (name : List ℕ) where
   apart_from : {A : Type 0} (t : ℕ) (xs : List A) → length xs ≡ n → t ≢ n → t ≢ length xs
   apart_from t xs count apart = λ e. apart (e ∙ count)
 
-  pub name_same : (t : ℕ) (s : Schedule) → Fits n s → t ≢ n → name_of (joined s) t ≡ name_of s t
+  pub name_same : (t : ℕ) (s : Schedule) → Fits n s → t ≢ n → task_name (joined s) t ≡ task_name s t
   name_same t s fits apart = get_last t [] name s.queue.names (apart_from t s.queue.names fits.names apart)
 
   pub pri_same : (t : ℕ) (s : Schedule) → Fits n s → t ≢ n → priority_of (joined s) t ≡ priority_of s t
@@ -144,16 +144,16 @@ module _ (n : ℕ) (pri : ℤ) (name : List ℕ) where
       → Moves s (with_signals t (f (signals_of s t)) s) (with_signals t (f (signals_of (joined s) t)) (joined s))
   signals_moves t f s fits apart = record { same = signals_move t f s fits apart; fits = signals_fit t (f (signals_of s t)) s fits }
 
-  pub allocates_moves : (t : ℕ) (k : ℤ) (s : Schedule) → Fits n s → t ≢ n → Moves s (allocates t k s) (allocates t k (joined s))
-  unfolding allocates
+  pub allocates_moves : (t : ℕ) (k : ℤ) (s : Schedule) → Fits n s → t ≢ n → Moves s (allocates_signal t k s) (allocates_signal t k (joined s))
+  unfolding allocates_signal
   allocates_moves t k s fits apart = signals_moves t (λ sets. after_grant (grant k sets) sets) s fits apart
 
   pub sets_moves : (t new mask : ℕ) (s : Schedule) → Fits n s → t ≢ n → Moves s (sets_signals t new mask s) (sets_signals t new mask (joined s))
   unfolding sets_signals
   sets_moves t new mask s fits apart = signals_moves t (after_set new mask) s fits apart
 
-  takes_moves : (t mask : ℕ) (s : Schedule) → Fits n s → t ≢ n → Moves s (takes t mask s) (takes t mask (joined s))
-  unfolding takes
+  takes_moves : (t mask : ℕ) (s : Schedule) → Fits n s → t ≢ n → Moves s (takes_signals t mask s) (takes_signals t mask (joined s))
+  unfolding takes_signals
   takes_moves t mask s fits apart = signals_moves t (after_take mask) s fits apart
 
   pub stays_moves : (s : Schedule) → Fits n s → Moves s s (joined s)
@@ -170,8 +170,8 @@ module _ (n : ℕ) (pri : ℤ) (name : List ℕ) where
       by_test true one two = one refl
       by_test false one two = two refl
 
-  pub frees_moves : (t k : ℕ) (s : Schedule) → Fits n s → Moves s (frees t k s) (frees t k (joined s))
-  unfolding frees
+  pub frees_moves : (t k : ℕ) (s : Schedule) → Fits n s → Moves s (frees_signal t k s) (frees_signal t k (joined s))
+  unfolding frees_signal
   frees_moves t k s fits =
       either_moves (is_live (status_of s t)) (is_live (status_of (joined s) t)) s _ _ _ _ (ap is_live (status_same t s))
       (λ live. signals_moves t (after_free k) s fits (live_is_other t s fits live)) (λ dead. stays_moves s fits)
@@ -183,8 +183,8 @@ module _ (n : ℕ) (pri : ℤ) (name : List ℕ) where
     fits = regained (set_fits t Removed s fits);
   }
 
-  pub removed_moves : (t : ℕ) (s : Schedule) → Fits n s → t ≢ n → Moves s (removed t s) (removed t (joined s))
-  unfolding removed
+  pub removed_moves : (t : ℕ) (s : Schedule) → Fits n s → t ≢ n → Moves s (task_removed t s) (task_removed t (joined s))
+  unfolding task_removed
   removed_moves t s fits apart = record {
     same = ap (λ (r : Schedule). departs t r) (status_moves t Removed s fits apart);
     fits = regained (set_fits t Removed s fits);
@@ -217,7 +217,7 @@ module _ (n : ℕ) (pri : ℤ) (name : List ℕ) where
   pub clears_moves : (t mask : ℕ) (s : Schedule) → Fits n s → t ≢ n → Moves s (clears_and_waits t mask s) (clears_and_waits t mask (joined s))
   clears_moves t mask s fits apart =
       let one = takes_moves t mask s fits apart in
-      then_moves (waits_for t mask) s (takes t mask s) (takes t mask (joined s)) one (waits_moves t mask (takes t mask s) one.fits apart)
+      then_moves (waits_for t mask) s (takes_signals t mask s) (takes_signals t mask (joined s)) one (waits_moves t mask (takes_signals t mask s) one.fits apart)
 
   pub nested_moves : (t : ℕ) (nesting : Option Nesting) (s : Schedule) → Fits n s → t ≢ n → Moves s (nested t nesting s) (nested t nesting (joined s))
   nested_moves t None s fits apart = stays_moves s fits
@@ -418,7 +418,7 @@ module _ (n : ℕ) (pri : ℤ) (name : List ℕ) where
   begins_moves : (t : ℕ) (s : Schedule) → Fits n s → t ≢ n → Moves s (begins t s) (begins t (joined s))
   unfolding begins
   begins_moves t s fits apart = record {
-    same = ap (λ (r : Schedule). record r { queue = record r.queue { ready = without t s.queue.ready }; running = Some t; left = s.quantum; idle = false })
+    same = ap (λ (r : Schedule). record r { queue = record r.queue { ready = without_item t s.queue.ready }; running = Some t; left = s.quantum; idle = false })
         (status_moves t Running s fits apart);
     fits = record {
       states = length-set s.queue.states t Running ∙ fits.states;
@@ -452,10 +452,10 @@ module _ (n : ℕ) (pri : ℤ) (name : List ℕ) where
   named_by : (k : ℕ) (wanted : List ℕ) (s : Schedule) → Fits n s → (k ≡ n) ⊎ (k ≢ n)
       → is_live_named (joined s).queue wanted k ≡ is_live_named s.queue wanted k
   named_by k wanted s fits (inl here) =
-      ap (λ status. is_live status && pointwise ◌==◌ (name_of (joined s) k) wanted) (status_same k s ∙ ap (status_of s) here ∙ absent_last s fits)
-      ∙ sym (ap (λ status. is_live status && pointwise ◌==◌ (name_of s k) wanted) (ap (status_of s) here ∙ absent_last s fits))
+      ap (λ status. is_live status && pointwise ◌==◌ (task_name (joined s) k) wanted) (status_same k s ∙ ap (status_of s) here ∙ absent_last s fits)
+      ∙ sym (ap (λ status. is_live status && pointwise ◌==◌ (task_name s k) wanted) (ap (status_of s) here ∙ absent_last s fits))
   named_by k wanted s fits (inr apart) =
-      ap (λ status. is_live status && pointwise ◌==◌ (name_of (joined s) k) wanted) (status_same k s)
+      ap (λ status. is_live status && pointwise ◌==◌ (task_name (joined s) k) wanted) (status_same k s)
       ∙ ap (λ own. is_live (status_of s k) && pointwise ◌==◌ own wanted) (name_same k s fits apart)
 
   pub found_same : (wanted : List ℕ) (s : Schedule) → Fits n s → found wanted (joined s) ≡ found wanted s
@@ -474,5 +474,5 @@ module _ (n : ℕ) (pri : ℤ) (name : List ℕ) where
       (λ k. named_by k wanted s fits (cases_eq k n inl inr))
     where
       absent : is_live_named (joined s).queue wanted (length s.queue.states) ≡ false
-      absent = ap (λ status. is_live status && pointwise ◌==◌ (name_of (joined s) (length s.queue.states)) wanted)
+      absent = ap (λ status. is_live status && pointwise ◌==◌ (task_name (joined s) (length s.queue.states)) wanted)
           (status_same (length s.queue.states) s ∙ past_end Absent s.queue.states)

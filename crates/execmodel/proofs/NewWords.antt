@@ -7,7 +7,7 @@ use Rattle.timerdev.specs.Timing.{due_next, looked_at, until_next, Timer as Cloc
 use Rattle.msgport.specs.Ports.{nt_freemsg, nt_message, nt_replymsg}
 use Rattle.forbid.specs.Nesting.{Nesting, after_disable, after_enable, after_forbid, after_permit}
 use Rattle.signals.specs.Signals.{SignalSets, grant, grant_number}
-use Rattle.scheduler.specs.Schedule.{Schedule, come_for, nested, status_of, after_wait, removed, waits_at_semaphore, allocates, frees, sets_signals, clears_and_waits, leaves, is_absent}
+use Rattle.scheduler.specs.Schedule.{Schedule, come_for, nested, status_of, after_wait, task_removed, waits_at_semaphore, allocates_signal, frees_signal, sets_signals, clears_and_waits, leaves, is_absent}
 use Rattle.scheduler.specs.Dispatch.{arrives, added, signalled, reprioritized}
 use Rattle.taskq.specs.Tasks.{is_live}
 use Rattle.sigsem.specs.declared.semaphore.Obtained.TheVariants.{Owner, Waits}
@@ -36,7 +36,7 @@ use Rattle.execmodel.specs.State.{Call, Scripts, Program, Memory, Mark, State, O
 use Rattle.execmodel.specs.Calls.{Caller, ByTask, ByBody, argument, name_argument, done, answered, waiting, silent, alerted, done_by, answered_by, silent_by, unless_by}
 use Rattle.execmodel.proofs.NewTask.{Fits, Moves, name_same, pri_same, status_same, signals_same, nesting_same, allocates_moves, sets_moves, frees_moves, leaves_moves, removed_moves, waits_at_semaphore_moves, after_wait_moves, clears_moves, nested_moves, arrives_moves, added_moves, signalled_moves, reprioritized_moves, found_same, set_last, get_last}
 use Rattle.execmodel.proofs.NewMemory.{IsBlind, placed_blind, place_same, removed_blind, asking_for_object_blind, asking_for_port_blind, opening_same, opened_blind, closed_blind, BlindDeed, list_blind, memory_blind}
-use Rattle.execmodel.proofs.{Heaps.true_is_not_false, Commands.passed_first, Commands.goes_count, Commands.answered_count, Commands.stored_count, Commands.shared_count, Shifts.number_in_range}
+use Rattle.execmodel.proofs.{Heaps.true_is_not_false, Commands.passed_first, Commands.goes_count, Commands.answered_count, Commands.stored_count, Commands.shared_count, StatesAfter.number_in_range}
 use Rattle.std.proofs.lemmas.Bool.Decides.{nat_tests}
 use Rattle.exectrace.specs.Trace.{TraceLine, Done, Answers}
 use Rattle.exectrace.specs.Trace as trace
@@ -46,21 +46,21 @@ use Rattle.execmodel.specs.Pending.{causes}
 use Rattle.execmodel.specs.Plain.{jumps}
 use Rattle.execmodel.specs.Ports.{performed}
 use Rattle.execmodel.specs.Signals.{is_task}
-use Rattle.execmodel.specs.State.{says, with_program}
+use Rattle.execmodel.specs.State.{prints_line, with_program}
 use Rattle.execmodel.specs.Blocks.{Heap, MsgPort, Object, on_heap}
 use Rattle.execmodel.specs.Bodies.{does_in_body, does_interrupts_by, does_plain_by, does_ports_by, does_signals_by, does_word_by}
 use Rattle.execmodel.specs.Causing.{does_cause_by}
 use Rattle.execmodel.specs.Deeds.{Deed, concluded, performs}
-use Rattle.execmodel.specs.GivingWay.{after_asking_for_object}
+use Rattle.execmodel.specs.LowMemory.{after_asking_for_object}
 use Rattle.execmodel.specs.Libraries.{close_alert, closed, does_close_library, does_lib_open_cnt, does_libraries, does_open_library, does_rem_library, library_alert, opened}
 use Rattle.execmodel.specs.{Memory.makes_object, Memory.allocates_block, Loaded.after_expunge}
 use Rattle.msgport.specs.Port.{arrival_action, new_port}
 use Rattle.execmodel.specs.Nesting.{does_disable, does_enable, does_forbid, does_nesting, does_permit, gives_nesting, nest_alert}
 use Rattle.execmodel.specs.Objects.{place_for_object}
-use Rattle.execmodel.specs.Pending.{softint_named}
+use Rattle.execmodel.specs.Pending.{softint_number}
 use Rattle.execmodel.specs.Places.{freed, placed}
 use Rattle.execmodel.specs.Plain.{does_add, does_and, does_jump, does_jump_not_zero, does_jump_zero, does_or, does_plain, does_print, does_set, does_sub}
-use Rattle.execmodel.specs.Ports.{add_port_alert, after_asking_for_port, content_of, delete_alert, delivered, does_add_port, does_create_msg_port, does_delete_msg_port, does_find_port, does_free_msg, does_get_msg, does_get_msg_by, does_msg_type, does_msg_word, does_new_msg, does_port_cause, does_port_ignore, does_port_signal, does_ports, does_put_msg, does_put_msg_by, does_rem_port, does_reply_msg, does_reply_msg_by, does_set_msg_word, does_wait_port, found_port, is_message, is_port, looked, loose_alert, loses, made_private, made_public, makes_port, message_alert, message_size, messages_of, port_alert, port_created, port_of, port_size, posted, put_alert, rem_port_alert, reply_alert, reply_port_alert, taken_by, taken_off, typed, wait_alert, with_action, with_message_word}
+use Rattle.execmodel.specs.Ports.{add_port_alert, after_asking_for_port, content_of, delete_alert, delivered, does_add_port, does_create_msg_port, does_delete_msg_port, does_find_port, does_free_msg, does_get_msg, does_get_msg_by, does_msg_type, does_msg_word, does_new_msg, does_port_cause, does_port_ignore, does_port_signal, does_ports, does_put_msg, does_put_msg_by, does_rem_port, does_reply_msg, does_reply_msg_by, does_set_msg_word, does_wait_port, found_port, is_message, is_port, looked, unqueued_alert, loses, made_private, made_public, makes_port, message_alert, message_size, messages_of, port_alert, port_created, port_of, port_size, posted, put_alert, rem_port_alert, reply_alert, reply_port_alert, taken_by, taken_off, typed, wait_alert, with_action, with_message_word}
 use Rattle.execmodel.specs.Requests.{aborts, acting_at, answering_port, begins_and_looks, begun_at, closed_device, delete_request_alert, do_alert, does_abort_io, does_check_io, does_close_device, does_create_io_request, does_delete_io_request, does_do_io, does_io_error, does_io_flags, does_io_micros, does_io_secs, does_open_device, does_requests, does_send_io, does_set_io, does_wait_io, ended, ends_with, is_request, looks_for, opened_for, reply_taken, replying_port, request_alert, request_of, request_size, resting_alert, send_alert, set_io_alert, timer_unit, wait_io_alert, with_command, with_reply}
 use Rattle.execmodel.specs.Semaphores.{attempted, awaited_by, does_attempt_semaphore, does_free_sem, does_new_sem, does_obtain_semaphore, does_release_semaphore, does_semaphores, dropped, free_sem_alert, heir, is_semaphore, is_tried_again, leaving_queue, obtain_alert, obtained, obtains, passes, release_alert, released, sem_of, semaphore_size}
 use Rattle.execmodel.specs.Signals.{does_alloc_signal, does_free_signal, does_set_signal, does_signal, does_signal_by, does_signals, does_wait, free_signal_alert, mask_alert, signal_alert, waited}
@@ -156,9 +156,9 @@ module _ (n : ℕ) (task : TaskData) where
 
   -- one line is said, and the scripts change
   saying : (s : State) (one other : TraceLine) (scripts changed : Scripts) → one ≡ other → changed ≡ more scripts
-      → says one (record (grown s) { scripts = changed }) ≡ and_grown (says other (record s { scripts = scripts }))
+      → prints_line one (record (grown s) { scripts = changed }) ≡ and_grown (prints_line other (record s { scripts = scripts }))
   saying s one other scripts changed line e =
-      ap (λ said. says said (record (grown s) { scripts = changed })) line ∙ ap (λ (it : Scripts). says other (record (grown s) { scripts = it })) e
+      ap (λ said. prints_line said (record (grown s) { scripts = changed })) line ∙ ap (λ (it : Scripts). prints_line other (record (grown s) { scripts = it })) e
 
   done_here : (t : ℕ) (call : Call) (s : State) → Sized s → t ≢ n → Both (done t call (grown s)) (done t call s)
   unfolding done
@@ -359,7 +359,7 @@ module _ (n : ℕ) (task : TaskData) where
   cause_with : (c : Caller) (call : Call) (s : State) → Sized s → IsOther c → Carries (does_cause_by c call) s
   unfolding causes
   cause_with c call s sized apart going =
-      done_by_with c call _ (causes (softint_named (unwrap_or (name_argument 0 call) []) s.bodies.softints) s) (refl, sized) apart
+      done_by_with c call _ (causes (softint_number (unwrap_or (name_argument 0 call) []) s.bodies.softints) s) (refl, sized) apart
 
   pub quiet_with : (s : State) → Sized s → Both (quiet (grown s)) (quiet s)
   quiet_with s sized = record { same = refl; sized = sized }
@@ -418,13 +418,13 @@ module _ (n : ℕ) (task : TaskData) where
   signals_with signals.AllocSignal t call s sized apart going =
       let k = cast_signed w32 (argument 0 call) in
       answered_with t call _ _ _ _ (ap (λ (sets : SignalSets). cast_unsigned w32 (grant_number (grant k sets))) (signals_same n task.pri task.name t s.schedule))
-      (scheduled (allocates t k) (grown s) s (itself s sized) (allocates_moves n task.pri task.name t k s.schedule sized.0 apart)) apart
+      (scheduled (allocates_signal t k) (grown s) s (itself s sized) (allocates_moves n task.pri task.name t k s.schedule sized.0 apart)) apart
   signals_with signals.FreeSignal t call s sized apart going =
       let k = argument 0 call in
       either_way (nat_eq k 0xffffffff) (nat_eq k 0xffffffff) _ _ _ _ refl (λ on. done_here t call s sized apart)
       (λ on. refused_by (free_signal_alert k) _ (ByTask t) call _ (grown s) s (λ none. none)
       (λ none still. done_with t call _ _
-      (scheduled (frees t k) (grown s) s (itself s sized) (frees_moves n task.pri task.name t k s.schedule sized.0)) apart) on) going
+      (scheduled (frees_signal t k) (grown s) s (itself s sized) (frees_moves n task.pri task.name t k s.schedule sized.0)) apart) on) going
   signals_with signals.SetSignal t call s sized apart going =
       let mask = argument 1 call in
       refused_by (mask_alert mask) _ (ByTask t) call _ (grown s) s (λ none. none)
@@ -455,9 +455,9 @@ module _ (n : ℕ) (task : TaskData) where
 
   -- ---- tasks
 
-  both_true : (a b c d : Bool) → (a ≡ true → c ≡ true) → d ≡ b → (a && b) ≡ true → (c && d) ≡ true
-  both_true true b c d first second is = ap (λ e. e && d) (first refl) ∙ second ∙ is
-  both_true false b c d first second is = true_is_not_false (sym is)
+  both_still : (a b c d : Bool) → (a ≡ true → c ≡ true) → d ≡ b → (a && b) ≡ true → (c && d) ≡ true
+  both_still true b c d first second is = ap (λ e. e && d) (first refl) ∙ second ∙ is
+  both_still false b c d first second is = true_is_not_false (sym is)
 
   first_of_both : (a b : Bool) → (a && b) ≡ true → (a ≡ true) × (b ≡ true)
   first_of_both true b is = (refl, is)
@@ -466,7 +466,7 @@ module _ (n : ℕ) (task : TaskData) where
   live_still : (number : ℕ) (s : State) → is_live_task number s.scripts s.schedule ≡ true
       → is_live_task number (more s.scripts) (joined_by task.pri task.name s.schedule) ≡ true
   live_still number s is =
-      both_true (is_task number s.scripts) (is_live (status_of s.schedule (number - 1))) (is_task number (more s.scripts)) _
+      both_still (is_task number s.scripts) (is_live (status_of s.schedule (number - 1))) (is_task number (more s.scripts)) _
       (task_still number s.scripts) (ap is_live (status_same n task.pri task.name (number - 1) s.schedule)) is
 
   live_other : (number : ℕ) (s : State) → Sized s → is_live_task number s.scripts s.schedule ≡ true → number - 1 ≢ n
@@ -477,7 +477,7 @@ module _ (n : ℕ) (task : TaskData) where
   ends_with_task other t call s sized far apart =
       leaves_queue (awaited_by other s.memory.heap) _ _
       (done_with t call _ _
-      (scheduled (removed other) _ (on_memory (on_heap (dropped other)) s) (remembered (on_heap (dropped other)) (grown s) s (itself s sized) (λ m. refl))
+      (scheduled (task_removed other) _ (on_memory (on_heap (dropped other)) s) (remembered (on_heap (dropped other)) (grown s) s (itself s sized) (λ m. refl))
       (removed_moves n task.pri task.name other s.schedule sized.0 far)) apart)
     where
       leaves_queue : (semaphore : Option ℕ) (o p : Outcome) → Both o p → Both (leaving_queue semaphore other o) (leaving_queue semaphore other p)
@@ -580,7 +580,7 @@ module _ (n : ℕ) (task : TaskData) where
   created_with t call (Some bit) None s sized apart = answered_here t call 0 s sized apart
   created_with t call (Some bit) (Some address) s sized apart =
       answered_with t call address address _ _ refl
-      (scheduled (allocates t (negsuc 0)) _ (on_memory (placed port_size (MsgPort (new_port t bit) []) (Some address)) s)
+      (scheduled (allocates_signal t (negsuc 0)) _ (on_memory (placed port_size (MsgPort (new_port t bit) []) (Some address)) s)
       (remembered (placed port_size (MsgPort (new_port t bit) []) (Some address)) (grown s) s (itself s sized)
       (placed_blind (suc n) port_size (MsgPort (new_port t bit) []) (Some address)))
       (allocates_moves n task.pri task.name t (negsuc 0) s.schedule sized.0 apart)) apart
@@ -615,7 +615,7 @@ module _ (n : ℕ) (task : TaskData) where
       either_way (nat_eq port 0) (nat_eq port 0) _ _ _ _ refl (λ on. done_here t call s sized apart)
       (λ on. refused_by (delete_alert port s.memory) _ (ByTask t) call _ (grown s) s (λ none. none)
       (λ none still. done_with t call _ _
-      (scheduled (frees found.task found.bit) _ (on_memory (freed port) s) (remembered (freed port) (grown s) s (itself s sized) (λ m. refl))
+      (scheduled (frees_signal found.task found.bit) _ (on_memory (freed port) s) (remembered (freed port) (grown s) s (itself s sized) (λ m. refl))
       (frees_moves n task.pri task.name found.task found.bit s.schedule sized.0)) apart) on) going
   ports_with ports.AddPort t call s sized apart going =
       let port = argument 0 call in
@@ -632,7 +632,7 @@ module _ (n : ℕ) (task : TaskData) where
       refused_by (reply_port_alert (argument 0 call) s.memory.heap) _ (ByTask t) call _ (grown s) s (λ none. none)
       (λ none on. made_with t call is_message message_size _ s sized apart) going
   ports_with ports.FreeMsg t call s sized apart going =
-      refused_by (loose_alert (argument 0 call) s.memory.heap) _ (ByTask t) call _ (grown s) s (λ none. none)
+      refused_by (unqueued_alert (argument 0 call) s.memory.heap) _ (ByTask t) call _ (grown s) s (λ none. none)
       (λ none on. done_with t call _ _ (remembered (freed (argument 0 call)) (grown s) s (itself s sized) (λ m. refl)) apart) going
   ports_with ports.MsgWord t call s sized apart going =
       refused_by (message_alert (argument 0 call) s.memory.heap) _ (ByTask t) call _ (grown s) s (λ none. none)
@@ -829,7 +829,7 @@ module _ (n : ℕ) (task : TaskData) where
   unfolding finishes
   finishes_with request s sized =
       let ends = ended_with (pos 0) request s sized in
-      replies (answering_port request s.memory.heap) request _ _ (record { same = ap (says (Timer request)) ends.0; sized = ends.1 })
+      replies (answering_port request s.memory.heap) request _ _ (record { same = ap (prints_line (Timer request)) ends.0; sized = ends.1 })
 
   each_with : (next : Clock → Option ℕ) (m : ℕ) (s : State) → Sized s → Both (finishes_each next m (grown s)) (finishes_each next m s)
   unfolding finishes_each
@@ -890,10 +890,6 @@ module _ (n : ℕ) (task : TaskData) where
           [ None ↦ quiet s | Some request ↦ andthen (finishes request) (finishes_each next m) s ]).state.stopped ≡ s.stopped
       by_found fewer None = refl
       by_found fewer (Some request) = fewer (finishes request s).state ∙ finishes_going request s
-
-  pub all_due_going : (s : State) → (finishes_all_due s).state.stopped ≡ s.stopped
-  unfolding finishes_all_due
-  all_due_going s = each_going due_next (length s.memory.timer.waiting) s
 
   set_going : (s : State) → (finishes_set s).state.stopped ≡ s.stopped
   unfolding finishes_set

@@ -11,8 +11,8 @@ use Rattle.execmodel.specs.State.{Call, Object, ListHead, Message, Library, Requ
 use Rattle.execmodel.specs.Semaphores.{with_semaphore, left_by_task, entered, queued, dropped, handed_on, released_once}
 use Rattle.execmodel.specs.Libraries.{is_library, is_library_at, is_numbered, library_number, library_number_at, with_library, base_of}
 use Rattle.execmodel.specs.{Objects.object_at, Objects.is_kind, Objects.replaced, Memory.extents, Memory.block_at, Bodies.body_step, Requests.finishes, Requests.with_request, Lists.with_nodes, Lists.unlinked, Lists.left_by, Ports.with_port, Ports.with_action, Ports.appended, Ports.taken_off, Step.switches, Step.ends, Step.run, Step.starts, Laws.LibrariesHaveOneBase}
-use Rattle.execmodel.proofs.Moves.{Moves, touches, takes, frees, relists, unlinks, sets, enters, queues, hands, opens, releases, counts, expunges, drops}
-use Rattle.execmodel.proofs.{Heaps.block_remade, Heaps.found_rid, Heaps.rid, Heaps.filled, Heaps.true_is_not_false, Heaps.object_remade, Heaps.object_placed_here, Heaps.object_placed_there, Itself.does_itself, Itself.call_works, Formed.counted_formed, Formed.rid_formed, Stretches.Relation, Stretches.HoldsOfEach, Stretches.of_events, Stretches.of_starts, Stretches.clock_gains, Commands.Touches, Commands.remains, Commands.fills, Commands.puts, Commands.gets, Commands.none_some, Telling.body_alters, Taking.IsNew, Taking.Takes, Taking.nothing, Taking.places, Taking.recounts, Taking.yields, Taking.number_is, Posts.IsTidy, Asking.Asks, Asking.writes, Asking.answers, Asking.written, Asking.without_reply, Asking.finishing, Works.Works, Works.by_moves, Works.by_asking, Works.by_taking, TidyLaw.quietly, TidyLaw.switches_quiet, TidyLaw.tidies, TidyLaw.rescheduled_tidy, TidyLaw.booted_tidy}
+use Rattle.execmodel.proofs.BlocksAfter.{Moves, touches, takes, frees, relists, unlinks, sets, enters, queues, hands, opens, releases, counts, expunges, drops}
+use Rattle.execmodel.proofs.{Heaps.block_remade, Heaps.found_rid, Heaps.rid, Heaps.filled, Heaps.true_is_not_false, Heaps.object_remade, Heaps.object_placed_here, Heaps.object_placed_there, WithoutFinishing.does_itself, WithoutFinishing.call_works, WellFormed.counted_formed, WellFormed.rid_formed, Stretches.Relation, Stretches.HoldsOfEach, Stretches.of_events, Stretches.of_starts, Stretches.clock_gains, Commands.Touches, Commands.remains, Commands.fills, Commands.puts, Commands.gets, Commands.none_some, LinesOf.body_alters, Taking.IsNew, Taking.Takes, Taking.nothing, Taking.places, Taking.recounts, Taking.yields, Taking.number_is, Posts.IsTidy, Asking.Asks, Asking.writes, Asking.answers, Asking.written, Asking.without_reply, Asking.finishing, RequestsAfter.Works, RequestsAfter.by_moves, RequestsAfter.by_asking, RequestsAfter.by_taking, NoStraysLaw.quietly, NoStraysLaw.switches_quiet, NoStraysLaw.tidies, NoStraysLaw.rescheduled_tidy, NoStraysLaw.booted_tidy}
 
 -- library i is what was found
 abbrev Numbered : ℕ → Option Object → Type 0

@@ -6,7 +6,7 @@ use Rattle.memlist.proofs.{Tiling.tiled, Fitting.disjoint}
 use Rattle.script.specs.{File.MachineData, declared.event.Event.Event}
 use Rattle.execmodel.specs.{State.Call, State.Object, State.Plain, State.Block, State.State, State.Outcome, State.booted, State.andthen, State.on_schedule, Calls.argument, Calls.alerted, Calls.unless, Bodies.body_step, Memory.extents, Memory.block_at, Memory.is_plain, Memory.is_named, Memory.memory_deed, Deeds.performs, Step.switches, Step.ends, Step.starts, Step.run, Laws.EachByteHasOneOwner, Laws.FreeMemRefusesObjects, Requests.finishes}
 use Rattle.scheduler.specs.Dispatch.{rescheduled}
-use Rattle.execmodel.proofs.{Heaps.true_is_not_false, Itself.does_itself, Itself.call_works, Stretches.Relation, Stretches.HoldsOfEach, Stretches.of_starts, Stretches.of_events, Commands.none_some, Telling.body_alters, Asking.finishing, TidyLaw.FormedState, TidyLaw.works_regions, TidyLaw.works_formed, TidyLaw.altered_formed, TidyLaw.finished_formed, TidyLaw.booted_formed, TidyLaw.quietly, TidyLaw.switches_quiet}
+use Rattle.execmodel.proofs.{Heaps.true_is_not_false, WithoutFinishing.does_itself, WithoutFinishing.call_works, Stretches.Relation, Stretches.HoldsOfEach, Stretches.of_starts, Stretches.of_events, Commands.none_some, LinesOf.body_alters, Asking.finishing, NoStraysLaw.FormedState, NoStraysLaw.works_regions, NoStraysLaw.works_formed, NoStraysLaw.altered_formed, NoStraysLaw.finished_formed, NoStraysLaw.booted_formed, NoStraysLaw.quietly, NoStraysLaw.switches_quiet}
 use Rattle.script.specs.declared.alert.Alert.TheVariants as an_alert
 
 -- the regions stay, and the blocks stay well formed

@@ -11,9 +11,9 @@ use Rattle.script.specs.declared.word.memory.MemoryWord.TheVariants as memory
 use Rattle.execlib.specs.Libraries.{public_memory}
 use Rattle.execmodel.specs.State.{Call, Object, Plain, Library, Block, Heap, Memory, State, Outcome}
 use Rattle.execmodel.specs.Libraries.{is_library, is_library_at, count_of, is_delayed, with_library, after_expunge, base_of, library_at, library_to_open, entered_or_loaded, library_opened, ready_to_load, ready_to_open, opened, closed, close_alert, library_alert, does_libraries, does_open_library, does_close_library, does_rem_library, does_lib_open_cnt}
-use Rattle.execmodel.specs.{Calls.argument, Calls.name_argument, Calls.answered, Calls.alerted, Calls.done, Calls.unless, Deeds.performs, GivingWay.after_asking, GivingWay.after_asking_for_object, Memory.memory_deed, Memory.is_plain, Memory.is_named, Memory.free_alert, Memory.alloc_alert, Memory.avail_alert, Memory.does_memory, Objects.object_at, Objects.is_kind, Objects.is_allowed, Objects.place_for_object, Places.block_at, Places.extents, Places.freed, Places.place_for, Places.placed, Step.run, OtherBlocks.LeavesOtherBlocks, OtherBlocks.LibraryWordsLeaveOtherBlocks, OtherBlocks.MemoryWordsLeaveOtherBlocks}
+use Rattle.execmodel.specs.{Calls.argument, Calls.name_argument, Calls.answered, Calls.alerted, Calls.done, Calls.unless, Deeds.performs, LowMemory.after_asking, LowMemory.after_asking_for_object, Memory.memory_deed, Memory.is_plain, Memory.is_named, Memory.free_alert, Memory.alloc_alert, Memory.avail_alert, Memory.does_memory, Objects.object_at, Objects.is_kind, Objects.is_allowed, Objects.place_for_object, Places.block_at, Places.extents, Places.freed, Places.place_for, Places.placed, Step.run, OtherBlocks.LeavesOtherBlocks, OtherBlocks.LibraryWordsLeaveOtherBlocks, OtherBlocks.MemoryWordsLeaveOtherBlocks}
 use Rattle.execmodel.proofs.Libraries.{block_elsewhere, block_rid_there, block_placed_there}
-use Rattle.execmodel.proofs.{Heaps.rid, Heaps.true_is_not_false, Heaps.object_placed_here, Commands.none_some, Commands.passed_first, Formed.placed_fresh, Formed.counted_formed, Formed.rid_formed, GivingWay.asking_keeps, GivingWayLaw.asking_leaves_others, Loaded.base_is_loaded, Moves.is_library_there, Posts.IsTidy, Taking.HoldsBefore, Taking.asking_before, TidyLaw.tidy_in_every_state}
+use Rattle.execmodel.proofs.{Heaps.rid, Heaps.true_is_not_false, Heaps.object_placed_here, Commands.none_some, Commands.passed_first, WellFormed.placed_fresh, WellFormed.counted_formed, WellFormed.rid_formed, LowMemory.asking_keeps, LowMemoryLaw.asking_leaves_others, Loaded.base_is_loaded, BlocksAfter.is_library_there, Posts.IsTidy, Taking.HoldsBefore, Taking.asking_before, NoStraysLaw.tidy_in_every_state}
 
 -- ---- an address with another object
 
@@ -42,7 +42,7 @@ placed_leaves kind regions size reqs length address object a heap is formed fits
     ))
     (λ apart. inl (block_placed_there a address _ heap apart))
 
--- ---- the memory once libraries were asked
+-- ---- the memory after libraries were asked
 
 formed_before : (regions : List Region) (new : Heap)
     → HoldsBefore regions (λ heap. IsWellFormed regions (extents heap) → IsWellFormed regions (extents new))
@@ -59,7 +59,7 @@ asking_formed size reqs memory =
 asking_regions : (size reqs : ℕ) (memory : Memory) → (after_asking size reqs memory).regions ≡ memory.regions
 asking_regions size reqs memory = ap (λ (m : Memory). m.regions) (asking_keeps size reqs memory)
 
--- What was asked is formed, has the same regions, and has each block that is no library's.
+-- What was asked is formed, has the same regions, and has each block that is not a library's.
 pub record IsAsked (a : ℕ) (memory asked : Memory) : Type 0 where
   pub regions : asked.regions ≡ memory.regions
   pub formed : IsWellFormed memory.regions (extents asked.heap)
@@ -86,7 +86,7 @@ once_asked : (kind : Object → Bool) (a : ℕ) (old mid new : Heap) → block_a
 once_asked kind a old mid new same (inl e) = inl (e ∙ same)
 once_asked kind a old mid new same (inr (none, is)) = inr (sym same ∙ none, is)
 
--- an object takes memory once libraries were asked
+-- an object takes memory after libraries were asked
 pub allotted_leaves : (kind : Object → Bool) (size reqs : ℕ) (object : Object) (place : Option ℕ) (a : ℕ) (memory asked : Memory) → IsAsked a memory asked
     → kind object ≡ true → place_for size reqs asked ≡ place → Becomes kind a memory.heap (placed size object place asked).heap
 allotted_leaves kind size reqs object None a memory asked is of_kind fits = inl is.same
@@ -115,7 +115,7 @@ module _ (s : State) (tidy : IsTidy s) (a : ℕ) (none : is_library_at a s.memor
   either_leaves kind true o p one other = one
   either_leaves kind false o p one other = other
 
-  -- an object is made once libraries were asked, if the pool allows one more
+  -- an object is made after libraries were asked, if the pool allows one more
   either_asked : (test : Bool) (m : Memory) → IsAsked a s.memory m → IsAsked a s.memory (if test then m else s.memory)
   either_asked true m asked = asked
   either_asked false m asked = record { regions = refl; formed = tidy.formed; same = refl }

@@ -7,7 +7,7 @@ use Rattle.execmodel.specs.State.{Call, Object, ListHead, Node, Block, State}
 use Rattle.execmodel.specs.{Calls.argument, Calls.name_argument, Calls.answered, Calls.done, Deeds.performs, Libraries.is_library_at, Lists.is_list, Lists.is_node, Lists.is_list_at, Lists.is_node_at, Lists.list_size, Lists.node_size, Lists.left_by, Lists.with_nodes, Lists.new_node_alert, Lists.free_list_alert, Lists.free_node_alert, Lists.link_alert, Lists.linked_alert, Lists.list_alert, Lists.insert_alert, Lists.find_alert, Lists.does_lists, Lists.list_rules, Objects.object_at, Objects.is_kind, Places.block_at, Step.run, OtherBlocks.is_of_lists, OtherBlocks.ListWordsLeaveOtherBlocks}
 use Rattle.execmodel.proofs.Libraries.{block_elsewhere, block_rid_there}
 use Rattle.execmodel.proofs.OtherBlocks.{apart_by, Becomes, BecomesIn, refused_leaves, made_leaves}
-use Rattle.execmodel.proofs.{Heaps.block_remade, Heaps.true_is_not_false, Commands.passed_first, Posts.IsTidy, TidyLaw.tidy_in_every_state}
+use Rattle.execmodel.proofs.{Heaps.block_remade, Heaps.true_is_not_false, Commands.passed_first, Posts.IsTidy, NoStraysLaw.tidy_in_every_state}
 
 list_is : (found : Option Object) → is_kind is_list found ≡ true → is_kind is_of_lists found ≡ true
 list_is None is = is

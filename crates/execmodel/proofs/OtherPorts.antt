@@ -9,11 +9,11 @@ use Rattle.signals.specs.Signals.{grant}
 use Rattle.script.specs.declared.word.ports.PortWord.{PortWord}
 use Rattle.script.specs.declared.word.ports.PortWord.TheVariants as ports
 use Rattle.execmodel.specs.State.{Call, Object, MsgPort, Message, Heap, Memory, State, put, leaving, on_memory, on_heap, on_schedule}
-use Rattle.execmodel.specs.Ports.{is_port, is_message, is_port_at, is_message_at, port_of, messages_of, content_of, with_port, with_content, port_alert, message_alert, is_queued, made_public, made_private, port_size, message_size, port_created, after_asking_for_port, makes_port, does_create_msg_port, delete_alert, does_delete_msg_port, add_port_alert, does_add_port, rem_port_alert, does_rem_port, does_find_port, with_action, does_port_signal, does_port_cause, does_port_ignore, reply_port_alert, does_new_msg, loose_alert, does_free_msg, does_msg_word, with_message_word, does_set_msg_word, does_msg_type, typed, appended, posted, delivered, put_alert, does_put_msg, reply_alert, does_reply_msg, taken_off, does_get_msg, wait_alert, loses, looked, does_wait_port, replied, taken, does_ports}
+use Rattle.execmodel.specs.Ports.{is_port, is_message, is_port_at, is_message_at, port_of, messages_of, content_of, with_port, with_content, port_alert, message_alert, is_queued, made_public, made_private, port_size, message_size, port_created, after_asking_for_port, makes_port, does_create_msg_port, delete_alert, does_delete_msg_port, add_port_alert, does_add_port, rem_port_alert, does_rem_port, does_find_port, with_action, does_port_signal, does_port_cause, does_port_ignore, reply_port_alert, does_new_msg, unqueued_alert, does_free_msg, does_msg_word, with_message_word, does_set_msg_word, does_msg_type, typed, appended, posted, delivered, put_alert, does_put_msg, reply_alert, does_reply_msg, taken_off, does_get_msg, wait_alert, loses, looked, does_wait_port, replied, taken, does_ports}
 use Rattle.execmodel.specs.{Calls.argument, Calls.done, Calls.answered, Calls.waiting, Libraries.is_library_at, Memory.placed, Objects.object_at, Objects.is_kind, Objects.replaced, Objects.place_for_object, Places.block_at, Step.run, OtherBlocks.is_of_ports, OtherBlocks.PortWordsLeaveOtherBlocks}
 use Rattle.execmodel.proofs.Libraries.{block_elsewhere, block_rid_there}
 use Rattle.execmodel.proofs.OtherBlocks.{apart_by, Becomes, BecomesIn, refused_leaves, either_leaves, asked_for, placed_object_leaves, made_leaves}
-use Rattle.execmodel.proofs.{Heaps.true_is_not_false, Commands.passed_first, Commands.passed_other, Commands.is_port_there, Commands.is_loose_there, Commands.performed_memory, Posts.IsTidy, TidyLaw.tidy_in_every_state}
+use Rattle.execmodel.proofs.{Heaps.true_is_not_false, Commands.passed_first, Commands.passed_other, Commands.is_port_there, Commands.is_loose_there, Commands.performed_memory, Posts.IsTidy, NoStraysLaw.tidy_in_every_state}
 
 port_is : (found : Option Object) → is_kind is_port found ≡ true → is_kind is_of_ports found ≡ true
 port_is None is = is
@@ -170,7 +170,7 @@ module _ (s : State) (tidy : IsTidy s) (a : ℕ) (none : is_library_at a s.memor
       (Message (new_message (argument 0 call) (argument 1 call))) refl)
   port_leaves ports.FreeMsg t call =
       let message = argument 0 call in
-      refused_leaves s tidy a none is_of_ports (loose_alert message s.memory.heap) t call _
+      refused_leaves s tidy a none is_of_ports (unqueued_alert message s.memory.heap) t call _
       (λ passes. inl
       (block_rid_there a message s.memory.heap (apart_message message (is_loose_there message s.memory.heap passes).0)))
   port_leaves ports.MsgWord t call =

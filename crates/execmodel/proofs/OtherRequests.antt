@@ -10,14 +10,14 @@ use Rattle.script.specs.declared.alert.Alert.{Alert}
 use Rattle.script.specs.declared.word.requests.RequestWord.{RequestWord}
 use Rattle.script.specs.declared.word.requests.RequestWord.TheVariants as requests
 use Rattle.timerdev.specs.Timing.{until_next, looked_at}
-use Rattle.execmodel.specs.State.{Call, Object, MsgPort, Request, Heap, Memory, Timer as Clock, State, Outcome, quiet, says, andthen, on_memory, on_schedule, on_timer}
+use Rattle.execmodel.specs.State.{Call, Object, MsgPort, Request, Heap, Memory, Timer as Clock, State, Outcome, quiet, prints_line, andthen, on_memory, on_schedule, on_timer}
 use Rattle.execmodel.specs.Ports.{is_port, is_port_at, is_queued, port_alert, with_port, appended, performed, loses}
 use Rattle.execmodel.specs.Semaphores.{is_tried_again}
 use Rattle.execmodel.specs.Requests.{is_request, is_request_at, request_of, with_request, request_alert, resting_alert, delete_request_alert, send_alert, do_alert, wait_io_alert, state_alert, set_io_alert, answering_port, appended_at, finished_at, acting_at, with_reply, ended, ends_with, under_way, heap_begun, outcome_at, begun_at, replying_port, request_size, does_create_io_request, does_delete_io_request, opened_for, does_open_device, closed_device, does_close_device, with_command, does_set_io, does_send_io, reply_taken, looks_for, does_wait_io, begins_and_looks, does_do_io, does_check_io, aborts, does_abort_io, does_io_secs, does_io_micros, does_io_error, does_io_flags, does_requests, finishes, finishes_each, finishes_set}
 use Rattle.execmodel.specs.{Calls.argument, Calls.done, Calls.answered, Calls.waiting, Calls.unless, Libraries.is_library_at, Objects.object_at, Objects.is_kind, Objects.replaced, Step.run, OtherBlocks.is_of_requests, OtherBlocks.RequestWordsLeaveOtherBlocks}
 use Rattle.execmodel.proofs.Libraries.{block_elsewhere, block_rid_there}
 use Rattle.execmodel.proofs.OtherBlocks.{alike_kind, apart_by, Becomes, BecomesIn, refused_leaves, either_leaves, made_leaves}
-use Rattle.execmodel.proofs.{Heaps.instead, Heaps.object_replaced, Heaps.true_is_not_false, Asking.written, Asking.ports_written, Asking.answering, Commands.passed_first, Commands.performed_memory, Posts.IsTidy, TidyLaw.tidy_in_every_state, Works.MayBegin, Works.may_do, Works.queued_lives, Works.replied_there, Works.never_replied}
+use Rattle.execmodel.proofs.{Heaps.instead, Heaps.object_replaced, Heaps.true_is_not_false, Asking.written, Asking.ports_written, Asking.answering, Commands.passed_first, Commands.performed_memory, Posts.IsTidy, NoStraysLaw.tidy_in_every_state, RequestsAfter.MayBegin, RequestsAfter.may_do, RequestsAfter.queued_lives, RequestsAfter.replied_there, RequestsAfter.never_replied}
 
 request_is : (found : Option Object) → is_kind is_request found ≡ true → is_kind is_of_requests found ≡ true
 request_is None is = is
@@ -119,7 +119,7 @@ module _ (a : ℕ) (old : Heap) (apart : IsApart a old) where
   finishes_left : (request : ℕ) (s : State) → IsLeft s.memory.heap → IsLeft (finishes request s).state.memory.heap
   unfolding finishes
   finishes_left request s left =
-      reply_left (answering_port request s.memory.heap) request (says (TimerLine request) (ends_with (pos 0) request s))
+      reply_left (answering_port request s.memory.heap) request (prints_line (TimerLine request) (ends_with (pos 0) request s))
       (ends_left (pos 0) request s left)
 
   abbrev Leaves : (State → Outcome) → Type 0

@@ -9,7 +9,7 @@ use Rattle.execmodel.specs.Semaphores.{is_semaphore, is_semaphore_at, sem_of, wi
 use Rattle.execmodel.specs.{Calls.argument, Calls.done, Calls.answered, Calls.waiting, Libraries.is_library_at, Objects.object_at, Objects.is_kind, Step.run, OtherBlocks.SemaphoreWordsLeaveOtherBlocks}
 use Rattle.execmodel.proofs.Libraries.{block_elsewhere, block_rid_there}
 use Rattle.execmodel.proofs.OtherBlocks.{apart_by, Becomes, BecomesIn, refused_leaves, either_leaves, made_leaves}
-use Rattle.execmodel.proofs.{Commands.passed_first, Moves.is_semaphore_there, Moves.is_released_there, Posts.IsTidy, TidyLaw.tidy_in_every_state}
+use Rattle.execmodel.proofs.{Commands.passed_first, BlocksAfter.is_semaphore_there, BlocksAfter.is_released_there, Posts.IsTidy, NoStraysLaw.tidy_in_every_state}
 
 module _ (s : State) (tidy : IsTidy s) (a : ℕ) (none : is_library_at a s.memory.heap ≡ false)
     (apart : is_kind is_semaphore (object_at a s.memory.heap) ≡ false) where

@@ -1,7 +1,7 @@
 -- Words on tasks leave the blocks as they are, but for the tasks that wait for semaphores.
 use Rattle.std.proofs.Common.{◌≡◌, ℕ, Bool, true, false, [], ◌∷◌, Option, None, Some, refl, ap, ◌∙◌, ◌-◌, if◌then◌else◌}
 use Rattle.std.specs.Int.{cast_signed, w32}
-use Rattle.scheduler.specs.Schedule.{removed}
+use Rattle.scheduler.specs.Schedule.{task_removed}
 use Rattle.script.specs.declared.alert.Alert.{Alert}
 use Rattle.script.specs.declared.word.tasks.TaskWord.{TaskWord}
 use Rattle.script.specs.declared.word.tasks.TaskWord.TheVariants as tasks
@@ -46,7 +46,7 @@ module _ (s : State) where
   unfolding done
   ended_alike other t call =
       leaving_alike (awaited_by other s.memory.heap) other
-      (done t call (on_schedule (removed other) (on_memory (on_heap (dropped other)) s)))
+      (done t call (on_schedule (task_removed other) (on_memory (on_heap (dropped other)) s)))
       (dropped_alike other s.memory.heap)
 
   task_alike : (word : TaskWord) (t : ℕ) (call : Call) → IsAlike (does_tasks word t call s).state

@@ -2,13 +2,13 @@
 use Rattle.std.proofs.Common.{◌⊎◌, inl, inr, ◌≡◌, ◌≢◌, ℕ, Bool, true, false, List, [], ◌∷◌, Option, None, Some, refl, sym, ap, ◌∙◌, subst, not, if◌then◌else◌, nat_eq, map, drop, is_some, ◌==◌, ◌||◌, option_map}
 use Rattle.memlist.specs.{declared.region.Region.Region, Memory.IsWellFormed, Fit.round}
 use Rattle.memlist.proofs.Answered.{nat_eq-same, nat_eq-other, cases_eq}
-use Rattle.execlist.specs.{Order.first, Order.without, Lists.is_at}
+use Rattle.execlist.specs.{Order.first, Order.without_item, Lists.is_at}
 use Rattle.sigsem.specs.{declared.semaphore.Sem.Sem, Semaphores.is_free_for, Semaphores.is_owned, Semaphores.owned_next}
 use Rattle.iorequest.specs.declared.request.Request.{Request as TimerRequest}
 use Rattle.execmodel.specs.Semaphores.{sem_in, sem_of, sem_of_object, waiters_of, waiters_of_object, with_semaphore, left_by_task, entered, queued, dropped, handed_on, released_once}
 use Rattle.execmodel.specs.{State.Call, State.Object, State.Plain, State.ListHead, State.Semaphore, State.Library, State.Request, State.Block, State.Heap, State.Waiting as Queued, State.Mark, State.State, Requests.is_request, Requests.is_request_at, Requests.with_request, Objects.object_at, Objects.is_kind, Objects.replaced, Memory.extents, Lists.is_list, Lists.is_list_at, Lists.with_nodes, Lists.unlinked, Lists.left_by, Ports.is_port, Ports.is_message, Ports.is_port_at, Ports.is_message_at, Ports.with_port, Ports.with_action, Ports.appended, Ports.taken_off, Libraries.is_library, Libraries.is_library_at, Libraries.with_library}
-use Rattle.execmodel.proofs.Moves.{IsRelease, MayGo, Moves, touches, takes, frees, relists, unlinks, sets, enters, queues, hands, opens, releases, counts, expunges, drops}
-use Rattle.execmodel.proofs.{Heaps.rid, Heaps.filled, Heaps.instead, Heaps.object_replaced, Heaps.object_remade, Heaps.object_placed_here, Heaps.object_placed_there, Heaps.object_rid_here, Heaps.object_rid_there, Heaps.true_is_not_false, Formed.placed_fresh, Formed.counted_formed, Formed.rid_formed, Fifo.port_stays, Commands.Touches, Commands.remains, Commands.fills, Commands.puts, Commands.gets, Commands.none_some, Asking.Asks, Asking.writes, Asking.answers, Asking.written, Asking.ports_written, Asking.without_reply, Taking.IsNew, Taking.Takes, Taking.nothing, Taking.places, Taking.recounts, Taking.yields}
+use Rattle.execmodel.proofs.BlocksAfter.{IsRelease, MayGo, Moves, touches, takes, frees, relists, unlinks, sets, enters, queues, hands, opens, releases, counts, expunges, drops}
+use Rattle.execmodel.proofs.{Heaps.rid, Heaps.filled, Heaps.instead, Heaps.object_replaced, Heaps.object_remade, Heaps.object_placed_here, Heaps.object_placed_there, Heaps.object_rid_here, Heaps.object_rid_there, Heaps.true_is_not_false, WellFormed.placed_fresh, WellFormed.counted_formed, WellFormed.rid_formed, Fifo.port_stays, Commands.Touches, Commands.remains, Commands.fills, Commands.puts, Commands.gets, Commands.none_some, Asking.Asks, Asking.writes, Asking.answers, Asking.written, Asking.ports_written, Asking.without_reply, Taking.IsNew, Taking.Takes, Taking.nothing, Taking.places, Taking.recounts, Taking.yields}
 
 -- nobody waits for what begins at an address, unless a task owns it
 abbrev pub Idle : Option Object → Type 0
@@ -43,7 +43,7 @@ left_idle node (ListHead nodes) idle = λ e. refl
 left_idle node _ idle = idle
 
 task_left_idle : (t : ℕ) (object : Object) → Idle (Some object) → Idle (Some (left_by_task t object))
-task_left_idle t (Semaphore sem waiters) idle = λ e. ap (λ q. without t q) (idle e)
+task_left_idle t (Semaphore sem waiters) idle = λ e. ap (λ q. without_item t q) (idle e)
 task_left_idle t _ idle = idle
 
 new_idle : (heap : Heap) (object : Object) → IsNew heap object → Idle (Some object)

@@ -3,11 +3,11 @@ use Rattle.std.proofs.Common.{◌⊎◌, inl, inr, ◌≡◌, ℕ, Bool, true, f
 use Rattle.execlist.specs.{Lists.is_at, Disciplines.by_arrival}
 use Rattle.memlist.proofs.Answered.{nat_eq-other, cases_eq}
 use Rattle.script.specs.File.{MachineData}
-use Rattle.execmodel.specs.{State.Call, State.State, State.Outcome, State.Memory, State.quiet, State.booted, State.andthen, State.on_schedule, Calls.next_call, Pending.next_softint, Bodies.body_step, Objects.object_at, Semaphores.sem_of, Semaphores.waiters_of, Step.switches, Step.settle, Step.ends, Step.call_step, Step.task_step, Step.softint_or_task_step, Step.acting, Step.acts, Step.step, Step.tick, Step.starts, Step.run, Laws.Action, Laws.OneStep, Laws.OneTick, Laws.OneRequest, Laws.outcome_of, Laws.IsLastRelease, Laws.OwnersChangeAtTheLastRelease, Laws.FreeSemaphoresHaveNoWaiters, Requests.finishes}
+use Rattle.execmodel.specs.{State.Call, State.State, State.Outcome, State.Memory, State.quiet, State.booted, State.andthen, State.on_schedule, Calls.next_call, Pending.next_softint, Bodies.body_step, Objects.object_at, Semaphores.sem_of, Semaphores.waiters_of, Step.switches, Step.settle, Step.ends, Step.call_step, Step.task_step, Step.softint_or_task_step, Step.step_action, Step.acts, Step.step, Step.tick, Step.starts, Step.run, Laws.Action, Laws.OneStep, Laws.OneTick, Laws.OneRequest, Laws.outcome_of, Laws.IsLastRelease, Laws.OwnersChangeAtTheLastRelease, Laws.FreeSemaphoresHaveNoWaiters, Requests.finishes}
 use Rattle.scheduler.specs.Dispatch.{rescheduled}
 use Rattle.execmodel.proofs.Stretches.{Relation, HoldsOfInterrupts, HoldsOfEach, of_softint, of_set, of_settle, of_request, ticked, of_starts, of_events}
 use Rattle.execmodel.proofs.Owners.{AllIdle, Owns, owner_in, touched_idle, moves_idle, asked_idle, taken_idle, touched_own, moves_own, asked_own, taken_own}
-use Rattle.execmodel.proofs.{Heaps.true_is_not_false, Itself.does_itself, Itself.ends_followed, Itself.call_works, Telling.body_alters, Posts.IsTidy, Asking.finishing, Works.Works, Works.by_moves, Works.by_asking, Works.by_taking, TidyLaw.quietly, TidyLaw.switches_quiet, TidyLaw.tidy_in_every_state}
+use Rattle.execmodel.proofs.{Heaps.true_is_not_false, WithoutFinishing.does_itself, WithoutFinishing.ends_followed, WithoutFinishing.call_works, LinesOf.body_alters, Posts.IsTidy, Asking.finishing, RequestsAfter.Works, RequestsAfter.by_moves, RequestsAfter.by_asking, RequestsAfter.by_taking, NoStraysLaw.quietly, NoStraysLaw.switches_quiet, NoStraysLaw.tidy_in_every_state}
 
 -- ---- nobody waits for a free semaphore
 
@@ -120,8 +120,8 @@ unfolding Changes
 chosen None a s tidy first = tried s.schedule.running a s tidy first refl
 chosen (Some i) a s tidy first = inl (of_softint (Kept a) (kept a) i s)
 
-acted : (test : Bool) (a : ℕ) (s : State) → IsTidy s → Changes a s (if test then quiet s else acting s).state.memory
-unfolding Changes acting
+acted : (test : Bool) (a : ℕ) (s : State) → IsTidy s → Changes a s (if test then quiet s else step_action s).state.memory
+unfolding Changes step_action
 acted true a s tidy = inl refl
 acted false a s tidy = chosen (next_softint s) a s tidy refl
 

@@ -3,13 +3,13 @@
 use Rattle.std.proofs.Common.{◌≡◌, ◌≢◌, ℕ, Bool, true, false, List, [], ◌∷◌, ◌++◌, Option, None, Some, refl, sym, ap, ◌∙◌, subst, not, cond, if◌then◌else◌, nat_eq, map, drop, option_map}
 use Rattle.memlist.specs.{declared.region.Region.Region, Memory.IsWellFormed, Fit.round}
 use Rattle.memlist.proofs.Answered.{nat_eq-same, nat_eq-other, cases_eq}
-use Rattle.execlist.specs.Order.{without}
+use Rattle.execlist.specs.Order.{without_item}
 use Rattle.iorequest.specs.declared.request.Request.{Request as TimerRequest}
 use Rattle.execmodel.specs.State.{Call, Object, Plain, ListHead, MsgPort, Message, Semaphore, Library, Request, Block, Heap, Waiting as Queued, Mark, out, State}
 use Rattle.execmodel.specs.Semaphores.{is_semaphore, is_semaphore_at, waiters_in, waiters_of, waiters_of_object, awaited_by, with_semaphore, left_by_task, entered, queued, dropped, handed_on, released_once}
 use Rattle.execmodel.specs.{Requests.is_request, Requests.is_request_at, Requests.with_request, Objects.object_at, Objects.is_kind, Objects.replaced, Memory.extents, Lists.is_list, Lists.is_list_at, Lists.with_nodes, Lists.unlinked, Lists.left_by, Ports.is_port, Ports.is_message, Ports.is_port_at, Ports.is_message_at, Ports.with_port, Ports.with_action, Ports.appended, Ports.taken_off, Libraries.is_library, Libraries.is_library_at, Libraries.with_library, Queues.Came, Queues.Served, Queues.Left, Marks.turns_at_semaphore}
-use Rattle.execmodel.proofs.Moves.{MayGo, leaving_marks, Moves, touches, takes, frees, relists, unlinks, sets, enters, queues, hands, opens, releases, counts, expunges, drops}
-use Rattle.execmodel.proofs.{Queues.Follows, Queues.IsAway, Heaps.rid, Heaps.filled, Heaps.instead, Heaps.object_replaced, Heaps.object_remade, Heaps.object_placed_here, Heaps.object_placed_there, Heaps.object_rid_here, Heaps.object_rid_there, Heaps.true_is_not_false, Formed.placed_fresh, Formed.counted_formed, Formed.rid_formed, Owners.Idle, Owners.AllIdle, Owners.free_owner, Fifo.turned, Fifo.first_is, Fifo.first_none, Fifo.port_stays, Commands.Touches, Commands.remains, Commands.fills, Commands.puts, Commands.gets, Asking.Asks, Asking.writes, Asking.answers, Asking.written, Asking.ports_written, Asking.without_reply, Taking.IsNew, Taking.Takes, Taking.nothing, Taking.places, Taking.recounts, Taking.yields}
+use Rattle.execmodel.proofs.BlocksAfter.{MayGo, leaving_marks, Moves, touches, takes, frees, relists, unlinks, sets, enters, queues, hands, opens, releases, counts, expunges, drops}
+use Rattle.execmodel.proofs.{Queues.Follows, Queues.IsAway, Heaps.rid, Heaps.filled, Heaps.instead, Heaps.object_replaced, Heaps.object_remade, Heaps.object_placed_here, Heaps.object_placed_there, Heaps.object_rid_here, Heaps.object_rid_there, Heaps.true_is_not_false, WellFormed.placed_fresh, WellFormed.counted_formed, WellFormed.rid_formed, Owners.Idle, Owners.AllIdle, Owners.free_owner, Fifo.turned, Fifo.first_is, Fifo.first_none, Fifo.port_stays, Commands.Touches, Commands.remains, Commands.fills, Commands.puts, Commands.gets, Asking.Asks, Asking.writes, Asking.answers, Asking.written, Asking.ports_written, Asking.without_reply, Taking.IsNew, Taking.Takes, Taking.nothing, Taking.places, Taking.recounts, Taking.yields}
 use Rattle.msgport.specs.{Port.Port, declared.message.Message.Message as Content}
 use Rattle.sigsem.specs.declared.semaphore.Sem.{Sem}
 
@@ -87,17 +87,17 @@ left_same node _ = refl
 
 -- ---- tasks that leave
 
-without_away : (t : ℕ) (q : List ℕ) → IsAway t q → without t q ≡ q
+without_away : (t : ℕ) (q : List ℕ) → IsAway t q → without_item t q ≡ q
 without_away t [] away = refl
 without_away t (x ∷ q) away =
-    ap (λ test. cond (not test) (x ∷ without t q) (without t q)) (nat_eq-other x t (λ e. away.0 (sym e))) ∙ ap (λ r. x ∷ r) (without_away t q away.1)
+    ap (λ test. cond (not test) (x ∷ without_item t q) (without_item t q)) (nat_eq-other x t (λ e. away.0 (sym e))) ∙ ap (λ r. x ∷ r) (without_away t q away.1)
 
-task_left : (t : ℕ) (found : Option Object) → waiters_of_object (option_map (left_by_task t) found) ≡ without t (waiters_of_object found)
+task_left : (t : ℕ) (found : Option Object) → waiters_of_object (option_map (left_by_task t) found) ≡ without_item t (waiters_of_object found)
 task_left t (Some Plain) = refl
 task_left t None = refl
 task_left t (Some _) = refl
 
-pub dropped_left : (t p : ℕ) (heap : Heap) → waiters_of p (dropped t heap) ≡ without t (waiters_of p heap)
+pub dropped_left : (t p : ℕ) (heap : Heap) → waiters_of p (dropped t heap) ≡ without_item t (waiters_of p heap)
 unfolding waiters_of dropped
 dropped_left t p heap = ap (λ found. waiters_of_object found) (object_remade (left_by_task t) p heap) ∙ task_left t (object_at p heap)
 

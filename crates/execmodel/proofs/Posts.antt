@@ -51,15 +51,15 @@ is_mail (ARequest content) = true
 is_mail _ = false
 
 -- it may be in the port of an address: a message in any, a request that is not in progress in its reply port
-abbrev pub may_stand : ℕ → Post → Bool
-may_stand port AMessage = true
-may_stand port (ARequest content) = not (is_under_way content) && nat_eq port content.port
-may_stand port _ = false
+abbrev pub may_be_in : ℕ → Post → Bool
+may_be_in port AMessage = true
+may_be_in port (ARequest content) = not (is_under_way content) && nat_eq port content.port
+may_be_in port _ = false
 
 -- The requests are in order: what is in a port may be there; the reply port of a request that is in progress lives; and exactly those that are
 -- in progress wait for the timer, each once.
 pub record AreInOrder (post : ℕ → Post) (waiting : List Queued) : Type 0 where
-  pub stands : (who port : ℕ) → may_stand port (post who) ≡ false → IsAway who (messages_at (post port))
+  pub stands : (who port : ℕ) → may_be_in port (post who) ≡ false → IsAway who (messages_at (post port))
   pub lives : (request : ℕ) → is_under_way (asked_at (post request)) ≡ true → is_a_port (post (asked_at (post request)).port) ≡ true
   pub waits : (request : ℕ) → times_waiting request waiting ≡ once_if (is_under_way (asked_at (post request)))
 
@@ -181,9 +181,9 @@ and_false false c e = refl
 
 module _ (old new : ℕ → Post) (waiting : List Queued) (order : AreInOrder old waiting) where
   -- if requests ask the same, and ports are the same, and nothing is in a port that did not, but what may
-  alike : ((who port : ℕ) → may_stand port (new who) ≡ may_stand port (old who)) → ((request : ℕ) → asked_at (new request) ≡ asked_at (old request))
+  alike : ((who port : ℕ) → may_be_in port (new who) ≡ may_be_in port (old who)) → ((request : ℕ) → asked_at (new request) ≡ asked_at (old request))
       → ((port : ℕ) → is_a_port (new port) ≡ is_a_port (old port))
-      → ((who port : ℕ) → may_stand port (old who) ≡ false → IsAway who (messages_at (old port)) → IsAway who (messages_at (new port)))
+      → ((who port : ℕ) → may_be_in port (old who) ≡ false → IsAway who (messages_at (old port)) → IsAway who (messages_at (new port)))
       → AreInOrder new waiting
   alike tests asked ports away = record {
     stands = λ who port e. let was = sym (tests who port) ∙ e in away who port was (order.stands who port was);
@@ -197,7 +197,7 @@ module _ (old new : ℕ → Post) (waiting : List Queued) (order : AreInOrder ol
   -- nothing changes
   pub unchanged : ((a : ℕ) → new a ≡ old a) → AreInOrder new waiting
   unchanged same =
-      alike (λ who port. ap (may_stand port) (same who)) (λ request. ap asked_at (same request)) (λ port. ap is_a_port (same port))
+      alike (λ who port. ap (may_be_in port) (same who)) (λ request. ap asked_at (same request)) (λ port. ap is_a_port (same port))
       (λ who port barred away. subst (λ x. IsAway who (messages_at x)) (sym (same port)) away)
 
   -- a port has other messages
@@ -208,13 +208,13 @@ module _ (old new : ℕ → Post) (waiting : List Queued) (order : AreInOrder ol
         (λ same. ap f (ap new same ∙ is) ∙ e ∙ sym (ap f (ap old same ∙ was)))
         (λ apart. ap f (there a apart))
 
-    pub queue_changes : ((who : ℕ) → may_stand port (old who) ≡ false → IsAway who before → IsAway who after) → AreInOrder new waiting
+    pub queue_changes : ((who : ℕ) → may_be_in port (old who) ≡ false → IsAway who before → IsAway who after) → AreInOrder new waiting
     queue_changes keeps =
-        alike (λ who a. seen (may_stand a) refl who) (seen asked_at refl) (seen is_a_port refl)
+        alike (λ who a. seen (may_be_in a) refl who) (seen asked_at refl) (seen is_a_port refl)
         (λ who a barred away.
         cases_eq a port
         (λ same. subst (λ x. IsAway who (messages_at x)) (sym (ap new same ∙ is))
-        (keeps who (ap (λ k. may_stand k (old who)) (sym same) ∙ barred) (subst (λ x. IsAway who (messages_at x)) (ap old same ∙ was) away)))
+        (keeps who (ap (λ k. may_be_in k (old who)) (sym same) ∙ barred) (subst (λ x. IsAway who (messages_at x)) (ap old same ∙ was) away)))
         (λ apart. subst (λ x. IsAway who (messages_at x)) (sym (there a apart)) away))
 
   -- a request asks something else, with the same reply port, and other requests wait
@@ -229,12 +229,12 @@ module _ (old new : ℕ → Post) (waiting : List Queued) (order : AreInOrder ol
         (λ same. ap f (ap new same ∙ is) ∙ e ∙ sym (ap f (ap old same ∙ was)))
         (λ apart. ap f (there a apart))
 
-    itself : (test : Bool) (a : ℕ) → is_under_way after ≡ test → may_stand a (ARequest after) ≡ false → IsAway request (messages_at (old a))
+    itself : (test : Bool) (a : ℕ) → is_under_way after ≡ test → may_be_in a (ARequest after) ≡ false → IsAway request (messages_at (old a))
     itself true a e barred = (begins e).0 a
     itself false a e barred =
         let apart : nat_eq a after.port ≡ false = ap (λ b. not b && nat_eq a after.port) (sym e) ∙ barred in
         order.stands request a
-        (ap (may_stand a) was ∙ and_false (not (is_under_way before)) (nat_eq a before.port) (ap (λ k. nat_eq a k) (sym port) ∙ apart))
+        (ap (may_be_in a) was ∙ and_false (not (is_under_way before)) (nat_eq a before.port) (ap (λ k. nat_eq a k) (sym port) ∙ apart))
 
     pub content_changes : AreInOrder new later
     content_changes = record {
@@ -242,8 +242,8 @@ module _ (old new : ℕ → Post) (waiting : List Queued) (order : AreInOrder ol
           subst (λ ms. IsAway who ms) (sym (read messages_at refl a))
           (cases_eq who request
           (λ same. subst (λ k. IsAway k (messages_at (old a))) (sym same)
-          (itself (is_under_way after) a refl (ap (may_stand a) (sym (ap new same ∙ is)) ∙ e)))
-          (λ apart. order.stands who a (ap (may_stand a) (sym (there who apart)) ∙ e)));
+          (itself (is_under_way after) a refl (ap (may_be_in a) (sym (ap new same ∙ is)) ∙ e)))
+          (λ apart. order.stands who a (ap (may_be_in a) (sym (there who apart)) ∙ e)));
       lives = λ q e.
           cases_eq q request
           (λ same. ap (λ x. is_a_port (new (asked_at x).port)) (ap new same ∙ is) ∙ read is_a_port refl after.port
@@ -280,7 +280,7 @@ module _ (old new : ℕ → Post) (waiting : List Queued) (order : AreInOrder ol
           subst (λ ms. IsAway who ms) (sym (same_messages a))
           (cases_eq who address
           (λ same. subst (λ k. IsAway k (messages_at (old a))) (sym same) (away a))
-          (λ apart. order.stands who a (ap (may_stand a) (sym (there who apart)) ∙ e)));
+          (λ apart. order.stands who a (ap (may_be_in a) (sym (there who apart)) ∙ e)));
       lives = λ r e.
           cases_eq r address
           (λ same. true_is_not_false (sym e ∙ ap (λ y. is_under_way (asked_at y)) (ap new same ∙ is) ∙ idle))

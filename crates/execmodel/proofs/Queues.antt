@@ -2,7 +2,7 @@
 use Rattle.std.proofs.Common.{◌≡◌, ◌≢◌, ℕ, Bool, true, false, List, [], ◌∷◌, ◌++◌, refl, sym, ap, ◌∙◌, subst, append-nil, append_assoc, not, cond, if◌then◌else◌, nat_eq, filter, drop}
 use Rattle.memlist.proofs.Answered.{nat_eq-same, nat_eq-other}
 use Rattle.std.proofs.lemmas.List.Elements.{filter-append}
-use Rattle.execlist.specs.Order.{without}
+use Rattle.execlist.specs.Order.{without_item}
 use Rattle.execmodel.specs.Queues.{Turn, Came, Served, Left, is_to_leave, staying, comers, IsInOrder}
 
 -- one is not in a queue
@@ -19,7 +19,7 @@ IsOnce (who ∷ rest) = IsAway who rest × IsOnce rest
 abbrev pub Turns : Turn → List ℕ → List ℕ → Type 0
 Turns (Came who) old new = IsAway who old × (new ≡ old ++ who ∷ [])
 Turns (Served who) old new = old ≡ who ∷ new
-Turns (Left who) old new = new ≡ without who old
+Turns (Left who) old new = new ≡ without_item who old
 
 -- what turns make of a queue, one after another
 abbrev pub Follows : List ℕ → List Turn → List ℕ → Type 0
@@ -45,9 +45,9 @@ away_cond : (b : Bool) (who x : ℕ) (q : List ℕ) → who ≢ x → IsAway who
 away_cond true who x q apart away = (apart, away)
 away_cond false who x q apart away = away
 
-pub away_without : (who other : ℕ) (q : List ℕ) → IsAway who q → IsAway who (without other q)
+pub away_without : (who other : ℕ) (q : List ℕ) → IsAway who q → IsAway who (without_item other q)
 away_without who other [] away = tt
-away_without who other (x ∷ q) away = away_cond (not (nat_eq x other)) who x (without other q) away.0 (away_without who other q away.1)
+away_without who other (x ∷ q) away = away_cond (not (nat_eq x other)) who x (without_item other q) away.0 (away_without who other q away.1)
 
 once_cond : (b : Bool) (x : ℕ) (q : List ℕ) → IsAway x q → IsOnce q → IsOnce (cond b (x ∷ q) q)
 once_cond true x q away once = (away, once)
@@ -57,9 +57,9 @@ pub away_drop : (who : ℕ) (q : List ℕ) → IsAway who q → IsAway who (drop
 away_drop who [] away = tt
 away_drop who (x ∷ q) away = away.1
 
-pub once_without : (other : ℕ) (q : List ℕ) → IsOnce q → IsOnce (without other q)
+pub once_without : (other : ℕ) (q : List ℕ) → IsOnce q → IsOnce (without_item other q)
 once_without other [] once = tt
-once_without other (x ∷ q) once = once_cond (not (nat_eq x other)) x (without other q) (away_without x other q once.0) (once_without other q once.1)
+once_without other (x ∷ q) once = once_cond (not (nat_eq x other)) x (without_item other q) (away_without x other q once.0) (once_without other q once.1)
 
 turns_once : (turn : Turn) (old new : List ℕ) → IsOnce old → Turns turn old new → IsOnce new
 turns_once (Came who) old new once t = subst (λ q. IsOnce q) (sym t.1) (once_more who old once t.0)
@@ -96,11 +96,11 @@ filter_cond : (p : ℕ → Bool) (b : Bool) (x : ℕ) (q : List ℕ) → filter 
 filter_cond p true x q = refl
 filter_cond p false x q = refl
 
-leaver_goes : (who : ℕ) (turns : List Turn) (q : List ℕ) → staying (Left who ∷ turns) q ≡ staying turns (without who q)
+leaver_goes : (who : ℕ) (turns : List Turn) (q : List ℕ) → staying (Left who ∷ turns) q ≡ staying turns (without_item who q)
 leaver_goes who turns [] = refl
 leaver_goes who turns (x ∷ q) =
-    leaver_tested (nat_eq x who) x (is_to_leave x turns) (staying (Left who ∷ turns) q) (staying turns (without who q)) (leaver_goes who turns q)
-    ∙ sym (filter_cond (λ other. not (is_to_leave other turns)) (not (nat_eq x who)) x (without who q))
+    leaver_tested (nat_eq x who) x (is_to_leave x turns) (staying (Left who ∷ turns) q) (staying turns (without_item who q)) (leaver_goes who turns q)
+    ∙ sym (filter_cond (λ other. not (is_to_leave other turns)) (not (nat_eq x who)) x (without_item who q))
 
 turn_in_order : (turn : Turn) (turns : List Turn) (old mid last : List ℕ) → IsOnce old → Turns turn old mid
     → IsInOrder mid turns last → IsInOrder old (turn ∷ turns) last

@@ -5,13 +5,13 @@ use Rattle.memlist.proofs.Answered.{nat_eq-other, cases_eq}
 use Rattle.signals.specs.Signals.{SignalSets, initial_sets, after_post, has_signal}
 use Rattle.taskq.specs.declared.TaskState.TheVariants.{Ready, Running, Waiting, Removed}
 use Rattle.taskq.specs.{Tasks.state_at, Tasks.is_live, declared.TaskState.TaskState, declared.Why.TheVariants.Signals, declared.Why.TheVariants.Sem}
-use Rattle.scheduler.specs.Schedule.{Schedule, status_of, signals_of, is_absent, awaits, begins, renewed, is_switching_allowed, is_quantum_over, leaves as leaves_for_good, removed, quantum_ticked, ticked_for, waits_for, waits_at_semaphore, with_signals}
+use Rattle.scheduler.specs.Schedule.{Schedule, status_of, signals_of, is_absent, awaits, begins, renewed, is_switching_allowed, is_quantum_over, leaves as leaves_for_good, task_removed, quantum_ticked, ticked_for, waits_for, waits_at_semaphore, with_signals}
 use Rattle.scheduler.specs.{declared.Switch.Switch, declared.Switch.TheVariants.To, declared.Switch.TheVariants.Idle, Dispatch.arrives, Dispatch.added, Dispatch.displaced, Dispatch.after_switch, Dispatch.rescheduled, Dispatch.switch_of, Dispatch.signalled}
 use Rattle.script.specs.File.{MachineData}
-use Rattle.execmodel.specs.{State.Call, State.Mark, State.State, State.Outcome, State.quiet, State.booted, State.andthen, State.on_schedule, Calls.next_call, Pending.next_softint, Bodies.body_step, Step.switches, Step.ends, Step.call_step, Step.task_step, Step.softint_or_task_step, Step.acting, Step.acts, Step.step, Step.tick, Step.starts, Step.run, Laws.OneStep, Laws.OneTick, Laws.OneRequest, Laws.IsToCall, Laws.is_own_taking, Laws.WaitersHaveReceivedNone, Laws.ReceivedSignalsStay, Requests.finishes}
+use Rattle.execmodel.specs.{State.Call, State.Mark, State.State, State.Outcome, State.quiet, State.booted, State.andthen, State.on_schedule, Calls.next_call, Pending.next_softint, Bodies.body_step, Step.switches, Step.ends, Step.call_step, Step.task_step, Step.softint_or_task_step, Step.step_action, Step.acts, Step.step, Step.tick, Step.starts, Step.run, Laws.OneStep, Laws.OneTick, Laws.OneRequest, Laws.IsToCall, Laws.is_own_taking, Laws.WaitersHaveReceivedNone, Laws.ReceivedSignalsStay, Requests.finishes}
 use Rattle.execmodel.proofs.Stretches.{Relation, HoldsOfInterrupts, HoldsOfEach, of_softint, of_set, of_settle, of_request, ticked as ticked_stretch, of_starts, of_events}
 use Rattle.execmodel.proofs.Agreement.{running_state, set_there, set_here, in_range, set_state, all_absent, got}
-use Rattle.execmodel.proofs.{Bits.signal_joined, Heaps.true_is_not_false, Itself.does_itself, Itself.ends_followed, Itself.call_shifts, TidyLaw.quietly, TidyLaw.switches_quiet, Asking.finishing, Commands.Reaches, Commands.rests, Commands.posts, Telling.body_alters, Shifts.Shifts, Shifts.reaches, Shifts.rearrives, Shifts.adds, Shifts.takes, Shifts.sleeps, Shifts.asks, Shifts.wakes, Shifts.leaves, Shifts.removes, WaitingLaw.IsSound, WaitingLaw.waits, WaitingLaw.clocked, WaitingLaw.booted_sound}
+use Rattle.execmodel.proofs.{Bits.signal_joined, Heaps.true_is_not_false, WithoutFinishing.does_itself, WithoutFinishing.ends_followed, WithoutFinishing.call_shifts, NoStraysLaw.quietly, NoStraysLaw.switches_quiet, Asking.finishing, Commands.Reaches, Commands.rests, Commands.posts, LinesOf.body_alters, StatesAfter.Shifts, StatesAfter.reaches, StatesAfter.rearrives, StatesAfter.adds, StatesAfter.takes, StatesAfter.sleeps, StatesAfter.asks, StatesAfter.wakes, StatesAfter.leaves, StatesAfter.removes, WaitingLaw.IsSoundState, WaitingLaw.waits, WaitingLaw.clocked, WaitingLaw.booted_sound}
 
 -- ---- what a task has received
 
@@ -104,9 +104,9 @@ leaves_none : (t : ℕ) (s : Schedule) → AllHaveNone s → AllHaveNone (leaves
 unfolding leaves_for_good is_listening
 leaves_none t s old = set_silent t Removed s (leaves_for_good t s) refl refl (λ j apart. refl) old
 
-removed_none : (k : ℕ) (s : Schedule) → AllHaveNone s → AllHaveNone (removed k s)
-unfolding removed is_listening
-removed_none k s old = set_silent k Removed s (removed k s) refl refl (λ j apart. refl) old
+removed_none : (k : ℕ) (s : Schedule) → AllHaveNone s → AllHaveNone (task_removed k s)
+unfolding task_removed is_listening
+removed_none k s old = set_silent k Removed s (task_removed k s) refl refl (λ j apart. refl) old
 
 asks_none : (t : ℕ) (s : Schedule) → AllHaveNone s → AllHaveNone (waits_at_semaphore t s)
 unfolding waits_at_semaphore is_listening
@@ -193,7 +193,7 @@ ticked_none s old = by_running s.running
 
 -- the state stays sound, and those who wait have received none of what they wait for
 abbrev Sleeps : Relation
-Sleeps old marks new = IsSound old × AllHaveNone old.schedule → IsSound new × AllHaveNone new.schedule
+Sleeps old marks new = IsSoundState old × AllHaveNone old.schedule → IsSoundState new × AllHaveNone new.schedule
 
 sleep : HoldsOfEach Sleeps
 unfolding ends
@@ -300,7 +300,7 @@ reached_keeps t n marks s r (posts k mask calm e) h = ap (λ q. has_signal (rece
 -- what a call of task t does to what another has received, or to its own
 shifts_keep : (j n t : ℕ) (call : Call) (s : State) (o : Outcome) → Shifts t call s o → has_signal (received j s.schedule) n ≡ true
     → (has_signal (received j o.state.schedule) n ≡ true) ⊎ ((j ≡ t) × (is_own_taking call.word ≡ true))
-unfolding waits_for waits_at_semaphore leaves_for_good removed arrives
+unfolding waits_for waits_at_semaphore leaves_for_good task_removed arrives
 shifts_keep j n t call s o (reaches how) h = inl (reached_keeps j n o.marks s.schedule o.state.schedule how h)
 shifts_keep j n t call s o (rearrives k calm e same) h = inl (same_keeps j n s.schedule o.state.schedule (same.received j) h)
 shifts_keep j n t call s o (adds k calm range absent e) h = inl (ap (λ r. has_signal (received j r) n) e ∙ h)
@@ -368,8 +368,8 @@ chosen : (found : Option ℕ) (t n : ℕ) (s : State) → next_softint s ≡ fou
 chosen None t n s first = tried s.schedule.running t n s first refl
 chosen (Some i) t n s first = λ h. inl (of_softint (Still t n) (still t n) i s h)
 
-acted : (test : Bool) (t n : ℕ) (s : State) → KeepsOrTakes t n s (if test then quiet s else acting s).state
-unfolding acting
+acted : (test : Bool) (t n : ℕ) (s : State) → KeepsOrTakes t n s (if test then quiet s else step_action s).state
+unfolding step_action
 acted true t n s = λ h. inl h
 acted false t n s = chosen (next_softint s) t n s refl
 

@@ -2,7 +2,7 @@
 use Rattle.std.proofs.Common.{sym, ap, ◌∙◌}
 use Rattle.iorequest.specs.{declared.request.Request.Request as TimerRequest, Request.is_under_way}
 use Rattle.execmodel.specs.{Agreement.once_if, Step.run, Laws.ReplyPortsLive, Laws.RequestsUnderWayWait, Requests.request_of}
-use Rattle.execmodel.proofs.{Posts.post_at, Posts.is_a_port, Posts.request_is, Posts.port_is, TidyLaw.tidy_in_every_state}
+use Rattle.execmodel.proofs.{Posts.post_at, Posts.is_a_port, Posts.request_is, Posts.port_is, NoStraysLaw.tidy_in_every_state}
 
 pub reply_ports_live : ReplyPortsLive
 reply_ports_live request machine list is under =

@@ -1,7 +1,7 @@
 -- After an action the machine is settled: the highest ready task runs, and a request is left only if interrupts are not allowed.
 use Rattle.std.proofs.Common.{◌≡◌, ℕ, zero, suc, ℤ, Bool, true, false, List, [], ◌∷◌, Option, None, Some, MatchOption, All, int_eq, refl, sym, ap, ◌∙◌, subst, arith, if◌then◌else◌, ◌&&◌, ◌||◌, ◌≤ℤ◌, int_lt, int_le, length}
 use Rattle.std.proofs.lemmas.{Option.none-some, Int.ints, List.Elements.All-append, List.Elements.All-filter, List.Elements.All-nil}
-use Rattle.execlist.specs.{Order.chosen, Order.chosen_or, Order.is_lower, Order.without, Order.IsEarliestGreatest, Disciplines.pri_at, Disciplines.by_arrival}
+use Rattle.execlist.specs.{Order.chosen, Order.chosen_or, Order.is_lower, Order.without_item, Order.IsEarliestGreatest, Disciplines.pri_at, Disciplines.by_arrival}
 use Rattle.execlist.proofs.OrderLaws.{chosen_is_earliest}
 use Rattle.forbid.specs.Nesting.{Nesting, may_switch, may_interrupt, not_nested}
 use Rattle.scheduler.specs.Schedule.{Schedule, priority_of, nesting_of, switch_for, renewed, begins, is_switching_allowed, is_interrupting_allowed, is_quantum_over, takes_over}
@@ -9,9 +9,9 @@ use Rattle.scheduler.specs.{declared.Switch.Switch, declared.Switch.TheVariants.
 use Rattle.script.specs.declared.event.Event.TheVariants.{Run, Tick, Irq}
 use Rattle.script.specs.declared.event.Event.{Event}
 use Rattle.execmodel.specs.{State.State, State.Outcome, State.quiet, State.on_schedule, State.on_memory, State.on_timer, State.on_pending, State.andthen, State.unless_stopped, State.booted, Pending.with_latch_of, Pending.allows_interrupts, Interrupts.interrupts, Step.announced, Step.switches, Step.settle, Step.acts, Step.step, Step.steps, Step.request, Step.tick, Step.ticks, Step.starts, Step.all_added, Step.event, Step.events, Step.run, Laws.IsSettled, Laws.EachStateIsSettled}
-use Rattle.timerdev.specs.Timing.{ticked}
+use Rattle.timerdev.specs.Timing.{clock_ticked}
 use Rattle.softint.specs.{declared.source.Source.Source, declared.source.Source.TheVariants.Vertb, Sources.is_latched}
-use Rattle.execmodel.proofs.{Heaps.true_is_not_false, TidyLaw.switches_quiet, Servings.interrupts_blocked}
+use Rattle.execmodel.proofs.{Heaps.true_is_not_false, Heaps.both_true, NoStraysLaw.switches_quiet, Servings.interrupts_blocked}
 
 announced_state : (c : Option Switch) (s : State) → (announced c s).state ≡ s
 announced_state None s = refl
@@ -90,10 +90,6 @@ one_below : (key : ℕ → ℤ) (bound : ℤ) (r : ℕ) → key r ≤ℤ bound �
 one_below key bound r h zero d l = h
 one_below key bound r h (suc k) d l = absurd (omega (arith, l))
 
-both_true : {A : Type 0} (b c : Bool) → (b && c) ≡ true → (b ≡ true → c ≡ true → A) → A
-both_true true c e f = f refl e
-both_true false c e f = true_is_not_false (sym e)
-
 -- who takes over is not below
 taken_over : (p q : ℤ) (over : Bool) → (int_lt p q || (int_le p q && over)) ≡ true → p ≤ℤ q
 taken_over p q true e = grind (arith, ints)
@@ -130,7 +126,7 @@ begins_high : (t : ℕ) (s : Schedule) → NoneAbove (pri_at s.queue.pris) (prio
 unfolding begins
 begins_high t s none r is allowed =
     let same : t ≡ r = some_same_task is in
-    subst (λ k. NoneAbove (pri_at s.queue.pris) (priority_of s k) (without t s.queue.ready)) same
+    subst (λ k. NoneAbove (pri_at s.queue.pris) (priority_of s k) (without_item t s.queue.ready)) same
     (All-filter _ (λ k. pri_at s.queue.pris k ≤ℤ priority_of s t) s.queue.ready none)
   where
     some_same_task : {x y : ℕ} → Some x ≡ Some y → x ≡ y
@@ -272,7 +268,7 @@ request_rests asks s =
 tick_rests : (s : State) → Rests (tick s).state
 unfolding tick
 tick_rests s =
-    either_rests s.stopped s (request Vertb (on_memory (on_timer ticked) s)) refl (λ going. request_rests Vertb (on_memory (on_timer ticked) s))
+    either_rests s.stopped s (request Vertb (on_memory (on_timer clock_ticked) s)) refl (λ going. request_rests Vertb (on_memory (on_timer clock_ticked) s))
 
 ticks_rest : (n : ℕ) (s : State) → Rests s → Rests (ticks n s).state
 unfolding ticks andthen

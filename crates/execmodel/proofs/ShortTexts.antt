@@ -4,9 +4,9 @@ use Rattle.std.proofs.lemmas.List.Elements.{All-nil, All-cons, All-head, All-tai
 use Rattle.exectrace.specs.Trace.{TraceLine, Timer}
 use Rattle.script.specs.{Alerts.alert_text, Words.word_text, Commands.CommandData, declared.word.Word.Word}
 use Rattle.execlist.specs.Order.{first}
-use Rattle.scheduler.specs.Schedule.{name_of, Schedule}
-use Rattle.execmodel.specs.{State.Call, State.Scripts, State.Bodies, State.State, State.Outcome, State.quiet, State.says, State.andthen, State.unless_stopped, State.program_of, State.on_schedule, State.on_memory, Calls.call_at, Calls.call_after, Calls.call_in_body, Calls.next_call, Ports.performed, Bodies.body_step, Requests.answering_port, Requests.acting_at, Requests.with_reply, Requests.ended, Requests.finishes, Interrupts.softint_at, Interrupts.server_at}
-use Rattle.execmodel.proofs.{Itself.word_itself, Itself.does_itself, Itself.word_keeps, Itself.word_tells, Commands.performed_scripts, Commands.performed_fixed, ShortLines.IsShort, ShortLines.IsShortText, ShortLines.AreShort, ShortLines.timer_short, ShortLines.call_short, ShortLines.alert_short, ShortWords.code_short, ShortWords.word_short, ShortCalls.IsBrief, ShortCalls.HasArguments, ShortCalls.task_call_has, ShortCalls.body_call_has, Telling.AreBriefPrograms, Telling.IsOwn, Telling.own, Telling.refusing, Telling.body_commanded}
+use Rattle.scheduler.specs.Schedule.{task_name, Schedule}
+use Rattle.execmodel.specs.{State.Call, State.Scripts, State.Bodies, State.State, State.Outcome, State.quiet, State.prints_line, State.andthen, State.unless_stopped, State.program_of, State.on_schedule, State.on_memory, Calls.call_at, Calls.call_after, Calls.call_in_body, Calls.next_call, Ports.performed, Bodies.body_step, Requests.answering_port, Requests.acting_at, Requests.with_reply, Requests.ended, Requests.finishes, Interrupts.softint_at, Interrupts.server_at}
+use Rattle.execmodel.proofs.{WithoutFinishing.word_itself, WithoutFinishing.does_itself, WithoutFinishing.word_keeps, WithoutFinishing.word_tells, Commands.performed_scripts, Commands.performed_fixed, ShortLines.IsShort, ShortLines.IsShortText, ShortLines.AreShort, ShortLines.timer_short, ShortLines.call_short, ShortLines.alert_short, ShortWords.code_short, ShortWords.word_short, ShortCalls.IsBrief, ShortCalls.HasArguments, ShortCalls.task_call_has, ShortCalls.body_call_has, LinesOf.AreBriefPrograms, LinesOf.IsOwn, LinesOf.own, LinesOf.refusing, LinesOf.body_commanded}
 use Rattle.forbid.specs.Nesting.{Nesting}
 use Rattle.softint.specs.declared.latches.Latches.{Latches}
 
@@ -53,7 +53,7 @@ named_alike f s same = ap (λ names. (names, s.bodies)) same
 pub quiet_says : (s : State) → Says s (quiet s)
 quiet_says s has = (has, All-nil IsShort)
 
-pub line_says : (line : TraceLine) (s : State) → IsShort line → Says s (says line s)
+pub line_says : (line : TraceLine) (s : State) → IsShort line → Says s (prints_line line s)
 line_says line s short has = (has, All-cons IsShort line [] short (All-nil IsShort))
 
 pub then_says : (first next : State → Outcome) (s : State) → Says s (first s) → ((r : State) → Says r (next r))
@@ -93,7 +93,7 @@ itself_says t call s given has =
     let tells = word_tells call.word t call s in
     let texts = texts_stay s (does_itself t call s).state (word_texts call.word t call s) has.texts in (
       record { texts = texts; programs = tells.programs given has.programs },
-      all_short (name_of (does_itself t call s).state.schedule t) call (does_itself t call s).lines (texts.tasks t) given.short tells.lines,
+      all_short (task_name (does_itself t call s).state.schedule t) call (does_itself t call s).lines (texts.tasks t) given.short tells.lines,
     )
 
 -- the call that is next has its arguments
@@ -152,7 +152,7 @@ finished_says request s =
     let found = answering_port request s.memory.heap in
     let act = acting_at found s.memory.heap in
     let next = on_memory (ended (pos 0) request) s in
-    reply_says found request s (says (Timer request) (performed act next))
+    reply_says found request s (prints_line (Timer request) (performed act next))
     (λ has.
     line_says (Timer request) (performed act next) (timer_short request)
     (all_stays s (performed act next) (ap texts_fixed (performed_fixed act next)) (performed_scripts act next) has))

@@ -7,13 +7,13 @@ use Rattle.script.specs.{Commands.CommandData, declared.event.Event.Event}
 use Rattle.scheduler.specs.{Schedule.quantum_ticked, Dispatch.added}
 use Rattle.softint.specs.declared.source.Source.{Source}
 use Rattle.softint.specs.declared.source.Source.TheVariants as source
-use Rattle.execmodel.specs.State.{Call, Pending, Timer as Clock, State, Mark, Outcome, quiet, says, andthen, unless_stopped, on_schedule, on_memory, on_timer, on_pending}
+use Rattle.execmodel.specs.State.{Call, Pending, Timer as Clock, State, Mark, Outcome, quiet, prints_line, andthen, unless_stopped, on_schedule, on_memory, on_timer, on_pending}
 use Rattle.softint.specs.Sources.{source_text}
 use Rattle.execmodel.specs.Interrupts.{softint_at, runs_softint, server_at, chain_of, runs_server, runs_chain, serving_counted, finishes_for, serves, servings, interrupts}
-use Rattle.execmodel.specs.Step.{switches, settle, does, ends, task_step, call_step, softint_or_task_step, acting, acts, step, steps, request, tick, ticks, all_added, starts, event, events}
+use Rattle.execmodel.specs.Step.{switches, settle, does, ends, task_step, call_step, softint_or_task_step, step_action, acts, step, steps, request, tick, ticks, all_added, starts, event, events}
 use Rattle.execmodel.specs.{Calls.next_call, Pending.caused_no_more, Pending.with_latch_of, Pending.next_softint, Pending.next_source, Bodies.body_step, Bodies.runs_body, Requests.does_requests, Requests.finishes, Requests.finishes_each, Requests.finishes_all_due, Requests.finishes_set, Laws.times_waiting}
-use Rattle.timerdev.specs.Timing.{ticked as clock_ticked, due_next, looked_at, until_next}
-use Rattle.execmodel.proofs.{Asking.due_stands, Asking.until_stands, Keeping.finishes_found, Itself.does_itself, Itself.followed}
+use Rattle.timerdev.specs.Timing.{clock_ticked, due_next, looked_at, until_next}
+use Rattle.execmodel.proofs.{Asking.due_stands, Asking.until_stands, Keeping.finishes_found, WithoutFinishing.does_itself, WithoutFinishing.followed}
 
 -- a relation of the state before, the marks that are left, and the state after
 abbrev pub Relation : Type 1
@@ -65,7 +65,7 @@ module _ (R : Relation) (each : HoldsOfInterrupts R) where
       by_test true = each.nothing s
       by_test false = holds s
 
-  of_saying : (line : TraceLine) → HoldsOf R (says line)
+  of_saying : (line : TraceLine) → HoldsOf R (prints_line line)
   of_saying line s = each.nothing s
 
   of_body : (name : List ℕ) (code : List CommandData) → HoldsOf R (runs_body name code)
@@ -80,14 +80,14 @@ module _ (R : Relation) (each : HoldsOfInterrupts R) where
   of_softint i s =
       let softint = softint_at i s.bodies in
       each.joined s [] (on_pending (caused_no_more i) s) _ _ (each.pending (caused_no_more i) s)
-      (both (says (Softint softint.name)) (runs_body softint.name softint.code) (of_saying (Softint softint.name))
+      (both (prints_line (Softint softint.name)) (runs_body softint.name softint.code) (of_saying (Softint softint.name))
       (of_body softint.name softint.code) (on_pending (caused_no_more i) s))
 
   of_server : (k : ℕ) → HoldsOf R (runs_server k)
   unfolding runs_server
   of_server k s =
       let server = server_at k s.bodies in
-      both (says (Server server.name)) (runs_body server.name server.code) (of_saying (Server server.name)) (of_body server.name server.code) s
+      both (prints_line (Server server.name)) (runs_body server.name server.code) (of_saying (Server server.name)) (of_body server.name server.code) s
 
   unless_claimed : (claim : Bool) (next : State → Outcome) → HoldsOf R next → HoldsOf R (if claim then quiet else next)
   unless_claimed true next holds s = each.nothing s
@@ -152,7 +152,7 @@ module _ (R : Relation) (each : HoldsOfInterrupts R) where
       let chain = chain_of asks s.bodies.servers in
       each.joined s [] begun _ _
       (each.joined s [] cleared [] begun (each.pending (with_latch_of asks false) s) (of_counting asks cleared))
-      (both (says (Serve (source_text asks))) (andthen (finishes_for asks) (runs_chain chain)) (of_saying (Serve (source_text asks)))
+      (both (prints_line (Serve (source_text asks))) (andthen (finishes_for asks) (runs_chain chain)) (of_saying (Serve (source_text asks)))
       (both (finishes_for asks) (runs_chain chain) (of_finishing asks) (of_chain chain)) begun)
 
   serving : (next : State → Outcome) → HoldsOf R next → (found : Option Source) → HoldsOf R (serves_found next found)
@@ -213,13 +213,13 @@ module _ (R : Relation) (each : HoldsOfEach R) where
   either None s = tasks s.schedule.running s refl
   either (Some i) s = of_softint R each.interrupting i s
 
-  of_acting : HoldsOf R acting
-  unfolding acting
+  of_acting : HoldsOf R step_action
+  unfolding step_action
   of_acting s = either (next_softint s) s
 
   pub of_acts : HoldsOf R acts
   unfolding acts
-  of_acts s = unless R each.interrupting acting of_acting s
+  of_acts s = unless R each.interrupting step_action of_acting s
 
   pub of_step : HoldsOf R step
   unfolding step

@@ -4,10 +4,10 @@ use Rattle.std.proofs.lemmas.{Option.none-some, Int.ints}
 use Rattle.exectrace.specs.Trace.{TraceLine}
 use Rattle.exectrace.specs.Trace as trace
 use Rattle.execlist.specs.{Disciplines.pri_at, Disciplines.by_arrival, Order.chosen, Order.chosen_or}
-use Rattle.scheduler.specs.Schedule.{Schedule, name_of, priority_of, begins, switch_for, is_switching_allowed, is_quantum_over, takes_over}
+use Rattle.scheduler.specs.Schedule.{Schedule, task_name, priority_of, begins, switch_for, is_switching_allowed, is_quantum_over, takes_over}
 use Rattle.scheduler.specs.{declared.Switch.Switch, declared.Switch.TheVariants.To, declared.Switch.TheVariants.Idle, Dispatch.arrives, Dispatch.displaced, Dispatch.after_switch, Dispatch.switch_of, Dispatch.rescheduled}
 use Rattle.execmodel.specs.{State.State, State.on_schedule, Step.announced, Step.switches, Laws.SwitchesGoToTheChosen}
-use Rattle.execmodel.proofs.{Heaps.true_is_not_false, TidyLaw.switches_quiet}
+use Rattle.execmodel.proofs.{Heaps.true_is_not_false, NoStraysLaw.switches_quiet}
 use Rattle.memlist.proofs.Answered.{nat_eq-other, cases_eq}
 
 -- the chosen of two sequences, one after the other, from the chosen of each
@@ -53,18 +53,18 @@ name_in_line _ = []
 
 -- a line of a switch is one to a task of that name
 toward : (c : Option Switch) (s : State) (name : List ℕ) → (announced c s).lines ≡ trace.Switch name ∷ []
-    → (t : ℕ) × (c ≡ Some (To t)) × (name ≡ name_of s.schedule t)
+    → (t : ℕ) × (c ≡ Some (To t)) × (name ≡ task_name s.schedule t)
 unfolding is_switch name_in_line
 toward None s name e = true_is_not_false (sym (ap is_switch e))
 toward (Some (To t)) s name e = (t, refl, sym (ap name_in_line e))
 toward (Some Idle) s name e = true_is_not_false (sym (ap is_switch e))
 
-displaced_names : (o : Option ℕ) (s : Schedule) (t : ℕ) → name_of (displaced by_arrival o s) t ≡ name_of s t
+displaced_names : (o : Option ℕ) (s : Schedule) (t : ℕ) → task_name (displaced by_arrival o s) t ≡ task_name s t
 unfolding arrives
 displaced_names None s t = refl
 displaced_names (Some r) s t = refl
 
-begun_names : (o : Option ℕ) (t k : ℕ) (s : Schedule) → name_of (begins t (displaced by_arrival o s)) k ≡ name_of s k
+begun_names : (o : Option ℕ) (t k : ℕ) (s : Schedule) → task_name (begins t (displaced by_arrival o s)) k ≡ task_name s k
 unfolding begins
 begun_names o t k s = displaced_names o s k
 
@@ -148,7 +148,7 @@ switches_go_to_the_chosen s name e =
     let c = switch_for s.schedule.running (chosen (pri_at s.schedule.queue.pris) s.schedule.queue.ready) s.schedule in
     let to = toward c (on_schedule (rescheduled by_arrival) s) name e in (
       to.0,
-      to.2 ∙ ap (λ d. name_of (after_switch by_arrival d s.schedule) to.0) to.1 ∙ begun_names s.schedule.running to.0 to.0 s.schedule,
+      to.2 ∙ ap (λ d. task_name (after_switch by_arrival d s.schedule) to.0) to.1 ∙ begun_names s.schedule.running to.0 to.0 s.schedule,
       elected s.schedule.running (chosen (pri_at s.schedule.queue.pris) s.schedule.queue.ready) s.schedule to.0 refl refl to.1,
       ap (λ (r : State). r.schedule.running) (switches_quiet s).1
           ∙ ap (λ d. (after_switch by_arrival d s.schedule).running) to.1 ∙ begun_running to.0 (displaced by_arrival s.schedule.running s.schedule),

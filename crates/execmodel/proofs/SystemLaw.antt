@@ -8,10 +8,10 @@ use Rattle.script.specs.{declared.word.Word.Word, declared.word.requests.Request
 use Rattle.script.specs.declared.word.Word.TheVariants as group
 use Rattle.script.specs.declared.word.requests.RequestWord.TheVariants as requests
 use Rattle.timerdev.specs.Timing.{offset}
-use Rattle.execmodel.specs.{State.Call, State.Timer, State.State, State.quiet, State.andthen, State.on_schedule, Calls.argument, Calls.next_call, Pending.next_softint, Requests.request_of, Requests.finishes_set, Requests.does_requests, Step.switches, Step.settle, Step.ends, Step.call_step, Step.task_step, Step.softint_or_task_step, Step.acting, Step.acts, Step.step, Step.tick, Step.request, Step.run, Laws.Action as Act, Laws.OneStep, Laws.OneTick, Laws.OneRequest, Laws.outcome_of, Laws.IsSetting, Laws.SystemTimeGoesWithTheClock}
+use Rattle.execmodel.specs.{State.Call, State.Timer, State.State, State.quiet, State.andthen, State.on_schedule, Calls.argument, Calls.next_call, Pending.next_softint, Requests.request_of, Requests.finishes_set, Requests.does_requests, Step.switches, Step.settle, Step.ends, Step.call_step, Step.task_step, Step.softint_or_task_step, Step.step_action, Step.acts, Step.step, Step.tick, Step.request, Step.run, Laws.Action as Act, Laws.OneStep, Laws.OneTick, Laws.OneRequest, Laws.outcome_of, Laws.IsSetting, Laws.SystemTimeGoesWithTheClock}
 use Rattle.scheduler.specs.Dispatch.{rescheduled}
 use Rattle.execmodel.proofs.Stretches.{Relation, HoldsOfInterrupts, clock_gains, of_softint, of_set, of_settle, of_request}
-use Rattle.execmodel.proofs.{Setting.Leaves, Setting.system_of, Words.requests_facts, Itself.word_itself, Itself.word_keeps, Itself.ends_followed, Telling.body_alters, Asking.finishing, ClockLaw.word_stands, TidyLaw.quietly, TidyLaw.switches_quiet}
+use Rattle.execmodel.proofs.{Setting.Leaves, Setting.system_of, Words.requests_facts, WithoutFinishing.word_itself, WithoutFinishing.word_keeps, WithoutFinishing.ends_followed, LinesOf.body_alters, Asking.finishing, ClockLaw.word_stands, NoStraysLaw.quietly, NoStraysLaw.switches_quiet}
 
 -- ---- but for ticks, and requests that set it, system time is
 
@@ -106,8 +106,8 @@ chosen : (found : Option ℕ) (s : State) → next_softint s ≡ found → Goes 
 chosen None s first = tried s.schedule.running s first refl
 chosen (Some i) s first = same_goes s _ (of_softint Stands stands i s)
 
-acted : (test : Bool) (s : State) → Goes s (if test then quiet s else acting s).state
-unfolding acting
+acted : (test : Bool) (s : State) → Goes s (if test then quiet s else step_action s).state
+unfolding step_action
 acted true s = record { clock = refl; system = inl refl }
 acted false s = chosen (next_softint s) s refl
 

@@ -1,14 +1,14 @@
--- What a call that takes memory makes of the blocks: libraries are expunged under low memory, one after another, and then an object is placed, or an opening of a
--- library is counted, or nothing.
+-- What a call that takes memory makes of the blocks: libraries are asked for memory, one after another, and then an
+-- object is placed, or an opening of a library is counted, or nothing.
 use Rattle.std.proofs.Common.{◌⊎◌, inl, ◌≡◌, ℕ, ◌≤◌, Bool, true, false, List, [], ◌∷◌, Option, None, Some, refl, sym, ap, ◌∙◌, subst, arith, not, ◌&&◌, if◌then◌else◌, nat_eq, is_some, length, nat_cmp}
 use Rattle.std.specs.{List.range_with_len, FinMap.put as put_entry}
 use Rattle.memlist.specs.{declared.region.Region.Region, Fit.fit, Fit.round, Memory.IsWellFormed}
 use Rattle.memlist.proofs.Answered.{nat_eq-other, cases_eq}
 use Rattle.sigsem.specs.Semaphores.{free_sem}
 use Rattle.iorequest.specs.Request.{is_under_way}
-use Rattle.execmodel.specs.{State.Object, State.ListHead, State.MsgPort, State.Semaphore, State.Library, State.Request, State.Heap, State.Memory, State.State, State.Outcome, State.on_memory, Places.extents, Places.place_for, Places.freed, Objects.is_allowed, Loaded.is_library_at, Loaded.count_of, Loaded.with_library, Loaded.base_of, Loaded.after_expunge, GivingWay.gives_way_at, GivingWay.gives_way, GivingWay.asked_one, GivingWay.asked_each, GivingWay.after_asking, GivingWay.after_asking_for_object, Ports.is_port, Ports.port_size, Ports.after_asking_for_port, Libraries.library_at, Libraries.ready_to_load, Libraries.ready_to_open, Keeping.without_blocks}
+use Rattle.execmodel.specs.{State.Object, State.ListHead, State.MsgPort, State.Semaphore, State.Library, State.Request, State.Heap, State.Memory, State.State, State.Outcome, State.on_memory, Places.extents, Places.place_for, Places.freed, Objects.is_allowed, Loaded.is_library_at, Loaded.count_of, Loaded.with_library, Loaded.base_of, Loaded.after_expunge, LowMemory.gives_way_at, LowMemory.gives_way, LowMemory.asked_one, LowMemory.asked_each, LowMemory.after_asking, LowMemory.after_asking_for_object, Ports.is_port, Ports.port_size, Ports.after_asking_for_port, Libraries.library_at, Libraries.ready_to_load, Libraries.ready_to_open, Keeping.without_blocks}
 use Rattle.execlib.specs.Libraries.{public_memory}
-use Rattle.execmodel.proofs.{Heaps.rid, Heaps.true_is_not_false, Loaded.base_is_loaded, GivingWay.asking_keeps, GivingWay.asking_for_object_keeps}
+use Rattle.execmodel.proofs.{Heaps.rid, Heaps.true_is_not_false, Loaded.base_is_loaded, LowMemory.asking_keeps, LowMemory.asking_for_object_keeps}
 
 -- a new object: an empty list or port, a semaphore that no task owns and none waits for, a library that was at no base, a request that is not
 -- in progress, or what has no queue
@@ -39,7 +39,7 @@ pub record IsTaking (may_count : Bool) (s : State) (o : Outcome) : Type 0 where
   pub silent : o.marks ≡ []
   pub blocks : Takes s.memory.asks may_count s.memory.regions s.memory.heap o.state.memory.heap
 
--- ---- libraries are expunged under low memory
+-- ---- libraries are asked for memory
 
 pub number_is : (n k : ℕ) → nat_eq n k ≡ true → n ≡ k
 number_is n k e = cases_eq n k (λ same. same) (λ apart. true_is_not_false (sym e ∙ nat_eq-other n k apart))
@@ -106,7 +106,7 @@ takes_before asks may_count regions new asked = record {
   freeing = λ base heap there none rest. yields base there none asked rest;
 }
 
--- ---- what a call takes once libraries were asked, it takes
+-- ---- what a call takes after libraries were asked, it takes
 
 once_asked : {may_count : Bool} (asked : Memory) (s : State) (o : Outcome) → without_blocks asked ≡ without_blocks s.memory
     → (Takes s.memory.asks may_count s.memory.regions asked.heap o.state.memory.heap → Takes s.memory.asks may_count s.memory.regions s.memory.heap o.state.memory.heap)

@@ -10,11 +10,11 @@ use Rattle.script.specs.declared.word.libraries.LibraryWord.TheVariants as libra
 use Rattle.execlib.specs.Libraries.{public_memory}
 use Rattle.execmodel.specs.State.{Call, Library, Heap, Memory, State, Outcome, quiet, andthen, on_heap}
 use Rattle.execmodel.specs.Libraries.{is_library_at, count_of, is_delayed, with_library, after_expunge, base_of, library_at, library_to_open, base_opened, base_or_place, entered_or_loaded, library_opened, opening, opened, ready_to_open, closed, close_alert, library_alert, does_libraries, does_open_library, does_close_library, does_rem_library, does_lib_open_cnt}
-use Rattle.execmodel.specs.{Calls.argument, Calls.name_argument, Calls.answered, Calls.alerted, Calls.done, Calls.unless, Calls.next_call, Pending.next_softint, Places.block_at, Places.extents, Places.freed, Places.place_for, Places.placed, Step.does, Step.does_word, Step.ends, Step.settle, Step.call_step, Step.task_step, Step.softint_or_task_step, Step.acting, Step.acts, Step.step, Step.tick, Step.run, Laws.Action, Laws.OneStep, Laws.OneTick, Laws.OneRequest, Laws.outcome_of, Laws.IsToCall}
+use Rattle.execmodel.specs.{Calls.argument, Calls.name_argument, Calls.answered, Calls.alerted, Calls.done, Calls.unless, Calls.next_call, Pending.next_softint, Places.block_at, Places.extents, Places.freed, Places.place_for, Places.placed, Step.does, Step.does_word, Step.ends, Step.settle, Step.call_step, Step.task_step, Step.softint_or_task_step, Step.step_action, Step.acts, Step.step, Step.tick, Step.run, Laws.Action, Laws.OneStep, Laws.OneTick, Laws.OneRequest, Laws.outcome_of, Laws.IsToCall}
 use Rattle.execmodel.specs.VersionOne.{StaysCounted, ChangesByItsCall, opens, closes, removes, goes_by_removal, goes_by_last_close, UnaskedLibrariesStay}
-use Rattle.execmodel.proofs.Moves.{is_of_libraries, both_true}
+use Rattle.execmodel.proofs.BlocksAfter.{is_of_libraries}
 use Rattle.execmodel.proofs.Libraries.{Meets, untouched, taken, recounted_at, expunged_at, moves_meet, Kept, kept, further, same_count, same_mark, counted, counted_open, counted_mark, still_library, block_elsewhere, block_rid_there, block_placed_there, fresh_there, asked_keep, taken_keep}
-use Rattle.execmodel.proofs.{Heaps.rid, Heaps.true_is_not_false, Itself.does_itself, Itself.ends_followed, Itself.call_works, Moves.MayExpunge, Posts.IsTidy, Stretches.of_softint, Stretches.of_set, Stretches.of_settle, Stretches.of_request, Stretches.ticked, Taking.Takes, Taking.nothing, Taking.places, Taking.recounts, Taking.yields, Taking.number_is, TidyLaw.tidy_in_every_state, Versions.not_asked_to_open, Works.Works, Works.by_moves, Works.by_asking, Works.by_taking}
+use Rattle.execmodel.proofs.{Heaps.rid, Heaps.true_is_not_false, Heaps.both_true, WithoutFinishing.does_itself, WithoutFinishing.ends_followed, WithoutFinishing.call_works, BlocksAfter.MayExpunge, Posts.IsTidy, Stretches.of_softint, Stretches.of_set, Stretches.of_settle, Stretches.of_request, Stretches.ticked, Taking.Takes, Taking.nothing, Taking.places, Taking.recounts, Taking.yields, Taking.number_is, NoStraysLaw.tidy_in_every_state, Versions.not_asked_to_open, RequestsAfter.Works, RequestsAfter.by_moves, RequestsAfter.by_asking, RequestsAfter.by_taking}
 
 -- ---- words that are not on libraries
 
@@ -250,8 +250,8 @@ module _ (base : ℕ) (s : State) (tidy : IsTidy s) (is : is_library_at base s.m
   chosen None first = tried s.schedule.running first refl
   chosen (Some i) first = inl (of_softint (Kept base) (kept base) i s is)
 
-  acted : (test : Bool) → Stays base s (if test then quiet s else acting s).state.memory.heap
-  unfolding acting
+  acted : (test : Bool) → Stays base s (if test then quiet s else step_action s).state.memory.heap
+  unfolding step_action
   acted true = inl refl
   acted false = chosen (next_softint s) refl
 

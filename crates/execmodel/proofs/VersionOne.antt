@@ -5,7 +5,7 @@ use Rattle.signals.specs.Signals.{grant}
 use Rattle.scheduler.specs.Schedule.{signals_of}
 use Rattle.script.specs.declared.alert.Alert.{Alert}
 use Rattle.execmodel.specs.State.{Call, Object, ListHead, Memory, State, Outcome, andthen, on_memory}
-use Rattle.execmodel.specs.{Calls.argument, Calls.name_argument, Calls.answered, Calls.unless, Deeds.performs, Deeds.allots, GivingWay.after_asking, GivingWay.after_asking_for_object, Libraries.library_to_open, Libraries.base_opened, Libraries.library_opened, Libraries.opening, Libraries.opened, Libraries.does_open_library, Lists.is_list, Lists.is_node, Lists.list_size, Lists.node_size, Lists.new_node_alert, Lists.list_deed, Memory.alloc_alert, Memory.allocates_block, Memory.makes_object, Memory.memory_deed, Memory.place_for, Memory.placed, Objects.place_for_object, Ports.is_message, Ports.message_size, Ports.port_alert, Ports.reply_port_alert, Ports.makes_port, Ports.does_create_msg_port, Ports.does_new_msg, Semaphores.is_semaphore, Semaphores.semaphore_size, Semaphores.does_new_sem, Requests.is_request, Requests.request_size, Requests.does_create_io_request, Requests.finishes_set, Step.run, VersionOne.UnaskedWordsTakeMemoryAsItIs, VersionOne.VersionOneTakesMemoryAsItIs}
+use Rattle.execmodel.specs.{Calls.argument, Calls.name_argument, Calls.answered, Calls.unless, Deeds.performs, Deeds.allots, LowMemory.after_asking, LowMemory.after_asking_for_object, Libraries.library_to_open, Libraries.base_opened, Libraries.library_opened, Libraries.opening, Libraries.opened, Libraries.does_open_library, Lists.is_list, Lists.is_node, Lists.list_size, Lists.node_size, Lists.new_node_alert, Lists.list_deed, Memory.alloc_alert, Memory.allocates_block, Memory.makes_object, Memory.memory_deed, Memory.place_for, Memory.placed, Objects.place_for_object, Ports.is_message, Ports.message_size, Ports.port_alert, Ports.reply_port_alert, Ports.makes_port, Ports.does_create_msg_port, Ports.does_new_msg, Semaphores.is_semaphore, Semaphores.semaphore_size, Semaphores.does_new_sem, Requests.is_request, Requests.request_size, Requests.does_create_io_request, Requests.finishes_set, Step.run, VersionOne.UnaskedWordsTakeMemoryAsItIs, VersionOne.VersionOneTakesMemoryAsItIs}
 use Rattle.execmodel.proofs.Versions.{not_asked, not_asked_for_object, not_asked_for_port, not_asked_to_open, libraries_are_asked_in_version_two}
 
 same_unless : (alert : Option Alert) (t : ℕ) (call : Call) (f g : State → Outcome) (s : State) → f s ≡ g s

@@ -3,10 +3,10 @@ use Rattle.std.proofs.Common.{◌≡◌, ℕ, Bool, true, false, List, [], ◌�
 use Rattle.std.specs.List.{range_with_len}
 use Rattle.execlist.specs.Disciplines.{by_arrival}
 use Rattle.script.specs.{declared.word.Word.Word, File.MachineData}
-use Rattle.execmodel.specs.{State.Call, State.Object, State.Memory, State.State, State.andthen, State.on_schedule, State.booted, Objects.is_allowed, Loaded.base_of, GivingWay.asked_each, GivingWay.after_asking, GivingWay.after_asking_for_object, Memory.place_for, Ports.is_port, Ports.port_size, Ports.after_asking_for_port, Libraries.library_at, Libraries.ready_to_load, Libraries.ready_to_open, Step.ends, Step.switches, Step.starts, Step.run, Laws.LibrariesAreAskedInVersionTwo, Laws.UnaskedMemoryStays, Laws.AskingChangesTheBlocks}
+use Rattle.execmodel.specs.{State.Call, State.Object, State.Memory, State.State, State.andthen, State.on_schedule, State.booted, Objects.is_allowed, Loaded.base_of, LowMemory.asked_each, LowMemory.after_asking, LowMemory.after_asking_for_object, Memory.place_for, Ports.is_port, Ports.port_size, Ports.after_asking_for_port, Libraries.library_at, Libraries.ready_to_load, Libraries.ready_to_open, Step.ends, Step.switches, Step.starts, Step.run, Laws.LibrariesAreAskedInVersionTwo, Laws.UnaskedMemoryStays, Laws.AskingChangesTheBlocks}
 use Rattle.scheduler.specs.Dispatch.{rescheduled}
 use Rattle.execlib.specs.Libraries.{public_memory}
-use Rattle.execmodel.proofs.{Heaps.true_is_not_false, Itself.word_itself, Itself.word_keeps, Stretches.Relation, Stretches.HoldsOfEach, Stretches.of_events, Stretches.of_starts, Commands.settings_of, Telling.body_alters, Asking.finishing, GivingWay.asking_keeps, GivingWay.asking_for_object_keeps, GivingWay.ready_keeps, TidyLaw.quietly, TidyLaw.switches_quiet}
+use Rattle.execmodel.proofs.{Heaps.true_is_not_false, WithoutFinishing.word_itself, WithoutFinishing.word_keeps, Stretches.Relation, Stretches.HoldsOfEach, Stretches.of_events, Stretches.of_starts, Commands.settings_of, LinesOf.body_alters, Asking.finishing, LowMemory.asking_keeps, LowMemory.asking_for_object_keeps, LowMemory.ready_keeps, NoStraysLaw.quietly, NoStraysLaw.switches_quiet}
 
 -- ---- nothing is asked
 

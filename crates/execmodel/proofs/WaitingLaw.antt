@@ -4,13 +4,13 @@ use Rattle.std.proofs.lemmas.{List.length-replicate, Grind.flat_map-append}
 use Rattle.signals.specs.Signals.{after_post}
 use Rattle.taskq.specs.declared.TaskState.TheVariants.{Absent, Running, Removed, Waiting}
 use Rattle.taskq.specs.{Tasks.Tasks, Tasks.is_live, declared.TaskState.TaskState, declared.Why.TheVariants.Signals}
-use Rattle.scheduler.specs.Schedule.{Schedule, status_of, signals_of, is_absent, awaits, begins, renewed, is_switching_allowed, is_quantum_over, leaves as leaves_for_good, removed, departs, quantum_ticked, ticked_for, waits_for, waits_at_semaphore, with_signals}
+use Rattle.scheduler.specs.Schedule.{Schedule, status_of, signals_of, is_absent, awaits, begins, renewed, is_switching_allowed, is_quantum_over, leaves as leaves_for_good, task_removed, departs, quantum_ticked, ticked_for, waits_for, waits_at_semaphore, with_signals}
 use Rattle.scheduler.specs.{declared.Switch.Switch, declared.Switch.TheVariants.To, declared.Switch.TheVariants.Idle, Dispatch.arrives, Dispatch.added, Dispatch.displaced, Dispatch.after_switch, Dispatch.rescheduled, Dispatch.switch_of, Dispatch.signalled}
 use Rattle.script.specs.{File.MachineData, Machines.IsMachine, declared.event.Event.Event, Commands.CommandData}
 use Rattle.execmodel.specs.{State.Call, State.Mark, State.State, State.Outcome, State.on_schedule, State.new_program, State.booted, State.andthen, Calls.next_call, Bodies.body_step, Semaphores.waiters_of, Step.switches, Step.ends, Step.starts, Step.events, Step.run, Marks.semaphore_turn, Marks.turns_at_semaphore, Laws.QueuesAgreeWithTheSchedule, Laws.SemaphoresPassInOrder, Laws.times_waiting, Requests.finishes}
 use Rattle.execlist.specs.{Lists.times, Disciplines.by_arrival}
 use Rattle.execmodel.proofs.Agreement.{AllAgree, all_absent, absent_agrees, alike_agrees, rearrives_agrees, added_agrees, signalled_agrees, stops_agrees, asks_agrees, wakes_agrees, removed_agrees, rescheduled_agrees, waits_at, running_state}
-use Rattle.execmodel.proofs.{Queues.Follows, Queues.IsOnce, Queues.follows_more, Queues.follows_once, Queues.in_order, Itself.does_itself, Itself.call_works, Itself.call_shifts, Stretches.Relation, Stretches.HoldsOfEach, Stretches.clock_gains, Stretches.of_starts, Stretches.of_events, Commands.IsCalm, Commands.Reaches, Commands.rests, Commands.posts, Telling.body_alters, Posts.IsTidy, Asking.finishing, Asking.without_reply, Works.Works, Works.by_moves, Works.by_asking, Works.by_taking, TidyLaw.tidies, TidyLaw.rescheduled_tidy, TidyLaw.booted_tidy, TidyLaw.quietly, TidyLaw.switches_quiet, OwnersLaw.called_idle, Owners.AllIdle, Owners.touched_idle, Owners.asked_idle, Passing.dropped_left, Passing.touched_pass, Passing.moves_pass, Passing.asked_pass, Passing.taken_pass, Shifts.Shifts, Shifts.reaches, Shifts.rearrives, Shifts.adds, Shifts.takes, Shifts.sleeps, Shifts.asks, Shifts.wakes, Shifts.leaves, Shifts.removes, Waiting.waits_at_one, Waiting.runs_nowhere, Versions.word_settings}
+use Rattle.execmodel.proofs.{Queues.Follows, Queues.IsOnce, Queues.follows_more, Queues.follows_once, Queues.in_order, WithoutFinishing.does_itself, WithoutFinishing.call_works, WithoutFinishing.call_shifts, Stretches.Relation, Stretches.HoldsOfEach, Stretches.clock_gains, Stretches.of_starts, Stretches.of_events, Commands.IsCalm, Commands.Reaches, Commands.rests, Commands.posts, LinesOf.body_alters, Posts.IsTidy, Asking.finishing, Asking.without_reply, RequestsAfter.Works, RequestsAfter.by_moves, RequestsAfter.by_asking, RequestsAfter.by_taking, NoStraysLaw.tidies, NoStraysLaw.rescheduled_tidy, NoStraysLaw.booted_tidy, NoStraysLaw.quietly, NoStraysLaw.switches_quiet, OwnersLaw.called_idle, Owners.AllIdle, Owners.touched_idle, Owners.asked_idle, Passing.dropped_left, Passing.touched_pass, Passing.moves_pass, Passing.asked_pass, Passing.taken_pass, StatesAfter.Shifts, StatesAfter.reaches, StatesAfter.rearrives, StatesAfter.adds, StatesAfter.takes, StatesAfter.sleeps, StatesAfter.asks, StatesAfter.wakes, StatesAfter.leaves, StatesAfter.removes, Waiting.waits_at_one, Waiting.runs_nowhere, Versions.word_settings}
 
 -- ---- there are as many states as programs
 
@@ -69,7 +69,7 @@ reached_count marks s r (posts k mask calm e) = ap (λ q. length (states_of q)) 
 
 shifts_count : (t : ℕ) (call : Call) (s : State) (o : Outcome) → Shifts t call s o
     → length o.state.schedule.queue.states ≡ length s.schedule.queue.states
-unfolding waits_for waits_at_semaphore leaves_for_good removed
+unfolding waits_for waits_at_semaphore leaves_for_good task_removed
 shifts_count t call s o (reaches how) = reached_count o.marks s.schedule o.state.schedule how
 shifts_count t call s o (rearrives k calm e alike) = ap (λ l. length l) alike.states ∙ arrives_count k (departs k s.schedule)
 shifts_count t call s o (adds k calm range absent e) = ap (λ r. length (states_of r)) e ∙ arrives_count k s.schedule
@@ -157,7 +157,7 @@ shifts_agree t call s o (removes other apart heap e) runs count follows old =
 
 -- what holds in every state: the blocks are well formed and the requests in order, nobody waits for a free semaphore, each program has a task,
 -- as many tasks may wait as there are, and the queues agree with the schedule
-pub record IsSound (s : State) : Type 0 where
+pub record IsSoundState (s : State) : Type 0 where
   pub tidy : IsTidy s
   pub idle : AllIdle s.memory.heap
   pub counted : length s.scripts.programs ≡ length s.schedule.queue.states
@@ -171,8 +171,8 @@ how_many p = p.1
 -- the state stays so, and each queue follows its marks
 abbrev pub Waits : Relation
 Waits old marks new =
-    IsSound old
-    → IsSound new × ((a : ℕ) → Follows (waiters_of a old.memory.heap) (turns_at_semaphore a marks) (waiters_of a new.memory.heap))
+    IsSoundState old
+    → IsSoundState new × ((a : ℕ) → Follows (waiters_of a old.memory.heap) (turns_at_semaphore a marks) (waiters_of a new.memory.heap))
 
 pub joined : (s : State) (some : List Mark) (r : State) (more : List Mark) (q : State) → Waits s some r → Waits r more q → Waits s (some ++ more) q
 joined s some r more q first next sound =
@@ -187,7 +187,7 @@ joined s some r more q first next sound =
 
 -- only the schedule changes, and there are as many tasks as before
 pub rescheduling : (s : State) (f : Schedule → Schedule) → length (f s.schedule).queue.states ≡ length s.schedule.queue.states
-    → (IsSound s → AllAgree (f s.schedule) (λ a. waiters_of a s.memory.heap)) → Waits s [] (on_schedule f s)
+    → (IsSoundState s → AllAgree (f s.schedule) (λ a. waiters_of a s.memory.heap)) → Waits s [] (on_schedule f s)
 rescheduling s f count agrees sound = (
   record {
     tidy = rescheduled_tidy s (on_schedule f s) refl sound.tidy;
@@ -200,7 +200,7 @@ rescheduling s f count agrees sound = (
 )
 
 -- each queue follows the marks of a call
-called_pass : (t : ℕ) (call : Call) (s : State) (o : Outcome) → Works t call s o → s.schedule.running ≡ Some t → IsSound s
+called_pass : (t : ℕ) (call : Call) (s : State) (o : Outcome) → Works t call s o → s.schedule.running ≡ Some t → IsSoundState s
     → (a : ℕ) → Follows (waiters_of a s.memory.heap) (turns_at_semaphore a o.marks) (waiters_of a o.state.memory.heap)
 called_pass t call s o (by_moves makes same) runs sound =
     moves_pass s.memory.regions t call s.memory.heap o.marks o.state.memory.heap makes.1 sound.tidy.formed sound.idle
@@ -263,7 +263,7 @@ finished request s waits sound =
     )
 
 -- a task ends whose commands are used up
-ended_agrees : (t : ℕ) (s : State) → s.schedule.running ≡ Some t → IsSound s → AllAgree (leaves_for_good t s.schedule) (λ a. waiters_of a s.memory.heap)
+ended_agrees : (t : ℕ) (s : State) → s.schedule.running ≡ Some t → IsSoundState s → AllAgree (leaves_for_good t s.schedule) (λ a. waiters_of a s.memory.heap)
 unfolding leaves_for_good
 ended_agrees t s runs sound =
     stops_agrees t Removed s.schedule (leaves_for_good t s.schedule) (queues_of s) (queues_of s) runs refl refl refl refl refl
@@ -330,7 +330,7 @@ pub as_many : {A B : Type 0} (f : A → B) (x : TaskState) (xs : List A) → len
 as_many f x [] = refl
 as_many f x (y ∷ ys) = ap suc (as_many f x ys)
 
-pub booted_sound : (machine : MachineData) → IsMachine machine → IsSound (booted machine)
+pub booted_sound : (machine : MachineData) → IsMachine machine → IsSoundState (booted machine)
 unfolding booted waiters_of
 booted_sound machine is = record {
   tidy = booted_tidy machine is;

@@ -5,7 +5,7 @@ use Rattle.execlist.specs.{Disciplines.by_arrival, Order.first}
 use Rattle.signals.specs.Signals.{grant, taken_signals}
 use Rattle.forbid.specs.Nesting.{Nesting, after_disable, after_enable, after_forbid, after_permit}
 use Rattle.taskq.specs.Tasks.{is_ready}
-use Rattle.scheduler.specs.Schedule.{after_wait, allocates as allocates_signal, come_for, frees as frees_signal, is_absent, leaves as leaves_for_good, nesting_of, sets_signals, signals_of, status_of}
+use Rattle.scheduler.specs.Schedule.{after_wait, allocates_signal, come_for, frees_signal, is_absent, leaves as leaves_for_good, nesting_of, sets_signals, signals_of, status_of}
 use Rattle.scheduler.specs.Dispatch.{added, reprioritized, signalled}
 use Rattle.sigsem.specs.Semaphores.{free_sem, is_last, is_free_for, outcome_for}
 use Rattle.iorequest.specs.Request.{idle_request, is_under_way}
@@ -13,18 +13,18 @@ use Rattle.script.specs.{declared.word.Word.Word, declared.word.interrupts.Inter
 use Rattle.exectrace.specs.Trace.{TraceLine}
 use Rattle.execmodel.specs.Keeping.{and_progress_of, without_progress_of, beside_interrupts, beside_memory, beside_nestings, beside_plain, beside_ports, beside_requests, beside_semaphores, beside_signals, beside_tasks, clock_alone, without_blocks, PlainWordsChangeScripts, SignalWordsChangeSignalsAndStates, NestingWordsChangeNestings, TaskWordsChangeStatesPrioritiesAndObjects, ListWordsChangeTheMemory, MemoryWordsChangeTheMemory, PortWordsChangePortsSignalsAndStates, SemaphoreWordsChangeStatesAndObjects, InterruptWordsChangeWhatIsCaused, LibraryWordsChangeTheMemory, RequestWordsChangeRequestsPortsSignalsAndStates}
 use Rattle.execmodel.specs.Libraries.{opening, close_alert, closed, count_of, does_libraries, is_delayed, is_library_at, library_alert, after_expunge, library_to_open, opened, ready_to_open, library_rules}
-use Rattle.execmodel.specs.Ports.{add_port_alert, after_asking_for_port, content_of, delete_alert, does_get_msg, does_ports, does_put_msg, does_reply_msg, is_message, is_port, loose_alert, loses, message_alert, message_size, messages_of, performed, port_alert, port_of, port_size, put_alert, rem_port_alert, reply_alert, reply_port_alert, wait_alert, port_rules}
+use Rattle.execmodel.specs.Ports.{add_port_alert, after_asking_for_port, content_of, delete_alert, does_get_msg, does_ports, does_put_msg, does_reply_msg, is_message, is_port, unqueued_alert, loses, message_alert, message_size, messages_of, performed, port_alert, port_of, port_size, put_alert, rem_port_alert, reply_alert, reply_port_alert, wait_alert, port_rules}
 use Rattle.execmodel.specs.Requests.{finishes, begins_and_looks, acting_at, begun_at, delete_request_alert, do_alert, does_requests, does_wait_io, is_request, is_request_at, replying_port, request_alert, request_of, request_size, resting_alert, send_alert, set_io_alert, wait_io_alert, request_rules}
 use Rattle.execmodel.specs.Semaphores.{awaited_by, does_semaphores, free_sem_alert, heir, is_semaphore, is_tried_again, obtain_alert, passes, release_alert, sem_of, semaphore_size, semaphore_rules}
-use Rattle.execmodel.specs.State.{Scripts, Timer, Call, ListHead, Memory, Node, Object, Outcome, Pending, Plain, Request, Semaphore, State, on_memory, on_schedule, says, andthen}
-use Rattle.execmodel.specs.{Calls.ByTask, Calls.alerted, Calls.answered, Calls.argument, Calls.done, Calls.keeps, Calls.name_argument, Calls.silent, Calls.unless, Causing.does_cause, Causing.does_interrupts, Deeds.Deed, Deeds.concluded, Deeds.performs, GivingWay.after_asking, GivingWay.after_asking_for_object, Laws.is_own_taking, Lists.does_lists, Lists.is_list, Lists.is_list_at, Lists.is_node, Lists.is_node_at, Lists.list_size, Lists.node_size, Lists.list_rules, Memory.block_at, Memory.does_memory, Memory.makes_object, Memory.memory_deed, Memory.place_for, Nesting.does_nesting, Nesting.gives_nesting, Nesting.nesting_rules, Objects.object_at, Objects.place_for_object, Pending.causes, Pending.softint_named, Plain.does_plain, Plain.plain_rules, Signals.does_signal, Signals.does_signals, Signals.free_signal_alert, Signals.is_task, Signals.mask_alert, Signals.signal_alert, Signals.signal_rules, Tasks.add_task_alert, Tasks.does_tasks, Tasks.is_caller, Tasks.live_task_alert, Tasks.set_task_pri_alert, Tasks.task_rules}
+use Rattle.execmodel.specs.State.{Scripts, Timer, Call, ListHead, Memory, Node, Object, Outcome, Pending, Plain, Request, Semaphore, State, on_memory, on_schedule, prints_line, andthen}
+use Rattle.execmodel.specs.{Calls.ByTask, Calls.alerted, Calls.answered, Calls.argument, Calls.done, Calls.keeps, Calls.name_argument, Calls.silent, Calls.unless, Causing.does_cause, Causing.does_interrupts, Deeds.Deed, Deeds.concluded, Deeds.performs, LowMemory.after_asking, LowMemory.after_asking_for_object, Laws.is_own_taking, Lists.does_lists, Lists.is_list, Lists.is_list_at, Lists.is_node, Lists.is_node_at, Lists.list_size, Lists.node_size, Lists.list_rules, Memory.block_at, Memory.does_memory, Memory.makes_object, Memory.memory_deed, Memory.place_for, Nesting.does_nesting, Nesting.gives_nesting, Nesting.nesting_rules, Objects.object_at, Objects.place_for_object, Pending.causes, Pending.softint_number, Plain.does_plain, Plain.plain_rules, Signals.does_signal, Signals.does_signals, Signals.free_signal_alert, Signals.is_task, Signals.mask_alert, Signals.signal_alert, Signals.signal_rules, Tasks.add_task_alert, Tasks.does_tasks, Tasks.is_caller, Tasks.live_task_alert, Tasks.set_task_pri_alert, Tasks.task_rules}
 use Rattle.execmodel.proofs.Commands.{IsAltered, answered_count, cause_alters, get_alters, gives, goes_count, is_message_there, is_port_there, passed_first, performed_scripts, put_alters, reply_alters, same, signal_alters}
 use Rattle.execmodel.proofs.Keeping.{finish_keeps, finish_scripts, aborts_keeps, acted_keeps, added_keeps, after_wait_keeps, allocates_signal_keeps, begun_keeps, blocks_change, caused_keeps, concluded_keeps, counted_keeps, ended_keeps, frees_keeps, goes_keeps, looked_keeps, looks_keeps, obtains_keeps, opened_keeps, passes_keeps, performed_keeps, port_blocks_change, port_created_keeps, port_signals_change, replied_keeps, reply_keeps, reprioritized_keeps, request_signals_change, sets_keeps, signalled_keeps, signals_change, silent_keeps, states_and_priorities_change, taken_keeps, unless_keeps, waited_keeps, waiting_change, set_keeps}
-use Rattle.execmodel.proofs.Moves.{Makes, Moves, allocates_taking, any_makes, attempting, closed_makes, concluded_makes, counted_makes, deletes, ended_makes, frees, frees_message, frees_semaphore, is_library_there, is_of_libraries, is_owned_there, is_released_there, is_semaphore_there, list_goes, list_other, looked_makes, no_caller, node_goes, node_other, object_makes, obtaining, opened_makes, other_unneeded, plain_goes, plain_other, port_makes, releasing, relists, removed_makes, sets, stays, taking_makes, touches, unlinks, unneeded_message, unneeded_port, unneeded_semaphore, waited_makes}
-use Rattle.execmodel.proofs.Shifts.{Shifted, aborts_shift, added_shifts, answered_stays, any_shifts, counted_shifts, created_shifts, done_stays, freed_alike, jumps_stays, leaves, left_shifts, looked_shifts, looks_shift, obtains_shift, own as own_schedule, own_signals, passes_shift, reprioritized_shifts, sends_shift, silent_stays, stays as stays_alike, takes as takes_own, waited_shifts}
-use Rattle.execmodel.proofs.Telling.{Tells, aborts_tells, alerted_tells, answered_tells, cause_tells, counted_tells, created_tells, done_tells, ended_tells, get_tells, jumps_tells, looked_tells, looks_tells, obtains_tells, passes_tells, put_tells, reply_tells, replying_tells, signal_tells, silent_tells, waited_tells}
-use Rattle.execmodel.proofs.Works.{Works, aborts_works, begins_works, by_asking, by_moves, created_works, goes_there, is_resting_there, is_settable_there, may_do, may_send, resting_rewritten, sends_works, waits_works}
-use Rattle.execmodel.proofs.{Asking.writes, Deeds.placed_same, GivingWay.asking_for_object_keeps, GivingWay.asking_for_port_keeps, GivingWay.either_memory, GivingWay.ready_keeps, GivingWay.removed_keeps, Setting.Leaves, Setting.aborts_same, Setting.begun_leaves, Setting.looks_same, Setting.sends_leaves, Taking.after_asking_taking}
+use Rattle.execmodel.proofs.BlocksAfter.{Makes, Moves, allocates_taking, any_makes, attempting, closed_makes, concluded_makes, counted_makes, deletes, ended_makes, frees, frees_message, frees_semaphore, is_library_there, is_of_libraries, is_owned_there, is_released_there, is_semaphore_there, list_goes, list_other, looked_makes, no_caller, node_goes, node_other, object_makes, obtaining, opened_makes, other_unneeded, plain_goes, plain_other, port_makes, releasing, relists, removed_makes, sets, stays, taking_makes, touches, unlinks, unneeded_message, unneeded_port, unneeded_semaphore, waited_makes}
+use Rattle.execmodel.proofs.StatesAfter.{Shifted, aborts_shift, added_shifts, answered_stays, any_shifts, counted_shifts, created_shifts, done_stays, freed_alike, jumps_stays, leaves, left_shifts, looked_shifts, looks_shift, obtains_shift, own as own_schedule, own_signals, passes_shift, reprioritized_shifts, sends_shift, silent_stays, stays as stays_alike, takes as takes_own, waited_shifts}
+use Rattle.execmodel.proofs.LinesOf.{Tells, aborts_tells, alerted_tells, answered_tells, cause_tells, counted_tells, created_tells, done_tells, ended_tells, get_tells, jumps_tells, looked_tells, looks_tells, obtains_tells, passes_tells, put_tells, reply_tells, replying_tells, signal_tells, silent_tells, waited_tells}
+use Rattle.execmodel.proofs.RequestsAfter.{Works, aborts_works, begins_works, by_asking, by_moves, created_works, goes_there, is_resting_there, is_settable_there, may_do, may_send, resting_rewritten, sends_works, waits_works}
+use Rattle.execmodel.proofs.{Asking.writes, Deeds.placed_same, LowMemory.asking_for_object_keeps, LowMemory.asking_for_port_keeps, LowMemory.either_memory, LowMemory.ready_keeps, LowMemory.removed_keeps, Setting.Leaves, Setting.aborts_same, Setting.begun_leaves, Setting.looks_same, Setting.sends_leaves, Taking.after_asking_taking}
 use Rattle.script.specs.declared.word.Word.TheVariants as group
 use Rattle.script.specs.declared.word.plain.PlainWord.TheVariants as plain
 use Rattle.script.specs.declared.word.task_signals.SignalWord.TheVariants as signals
@@ -64,7 +64,7 @@ either_facts false o p one other = other refl
 -- an alert refuses the call, or it has its effect
 refused_or : {Blocks : Outcome → Type 0} {rest : State → State} {word : Word} {t : ℕ} {call : Call} {s : State} (alert : Option Alert)
     (effect : State → Outcome) → rest (record s { stopped = true }) ≡ rest s
-    → ((line : TraceLine) → Blocks (says line (record s { stopped = true })))
+    → ((line : TraceLine) → Blocks (prints_line line (record s { stopped = true })))
     → (alert ≡ None → Facts Blocks rest word t call s (effect s)) → Facts Blocks rest word t call s (unless alert t call effect s)
 unfolding alerted
 refused_or None effect stops refused passes = passes refl
@@ -293,7 +293,7 @@ ports_facts ports.NewMsg t call s =
     (λ value memory keeps. port_blocks_change (λ m. memory) s keeps))
 ports_facts ports.FreeMsg t call s =
     let message = argument 0 call in
-    unless_facts (loose_alert message s.memory.heap) _ refl
+    unless_facts (unqueued_alert message s.memory.heap) _ refl
     (λ none. concluded_facts None _
     (λ is. (refl, frees message (frees_message message s.memory.heap none) (unneeded_message message s.memory.heap none))) refl)
 ports_facts ports.SetMsgWord t call s =
@@ -372,7 +372,7 @@ unfolding does_cause done causes
 interrupts_facts interrupts.Cause t call s =
     altered_facts (does_cause t call s) (cause_alters (ByTask t) call s) (cause_tells (ByTask t) call s)
     (ap (λ (pending : Pending). record (beside_interrupts s) { pending = pending })
-    (caused_keeps (softint_named (unwrap_or (name_argument 0 call) []) s.bodies.softints) s))
+    (caused_keeps (softint_number (unwrap_or (name_argument 0 call) []) s.bodies.softints) s))
 
 -- ---- libraries
 

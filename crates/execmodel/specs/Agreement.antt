@@ -10,18 +10,18 @@ abbrev pub once_if : Bool → ℕ
 once_if test = if test then 1 else 0
 
 -- A task that waits for a semaphore is once in the queue of one, and in that of no other; any other task is in none.
-abbrev pub StandsInOne : Bool → ℕ → (ℕ → List ℕ) → Type 0
-StandsInOne true t waiters = (semaphore : ℕ) × ((other : ℕ) → times t (waiters other) ≡ once_if (nat_eq other semaphore))
-StandsInOne false t waiters = (other : ℕ) → times t (waiters other) ≡ 0
+abbrev pub IsInOneQueue : Bool → ℕ → (ℕ → List ℕ) → Type 0
+IsInOneQueue true t waiters = (semaphore : ℕ) × ((other : ℕ) → times t (waiters other) ≡ once_if (nat_eq other semaphore))
+IsInOneQueue false t waiters = (other : ℕ) → times t (waiters other) ≡ 0
 
 -- a task waits for no semaphore
 abbrev pub WaitsForNone : ℕ → Heap → Type 0
-WaitsForNone t heap = StandsInOne false t (λ semaphore. waiters_of semaphore heap)
+WaitsForNone t heap = IsInOneQueue false t (λ semaphore. waiters_of semaphore heap)
 
--- The state of a task agrees with where it is: exactly the running task has the state Running; just a ready one is among the ready
--- tasks, and once; and exactly one that waits for a semaphore is in the queue of one. The queues are given by the addresses of their
--- semaphores.
+-- The state of a task agrees with where it is: exactly the running task has the state Running; exactly a ready one is
+-- among the ready tasks, once; and exactly one that waits for a semaphore is in the queue of one. The queues are given
+-- by the addresses of their semaphores.
 pub record Agrees (t : ℕ) (s : Schedule) (waiters : ℕ → List ℕ) : Type 0 where
   pub runs : is_at s.running t ≡ is_running (status_of s t)
   pub ready : times t s.queue.ready ≡ once_if (is_ready (status_of s t))
-  pub waits : StandsInOne (is_at_semaphore (status_of s t)) t waiters
+  pub waits : IsInOneQueue (is_at_semaphore (status_of s t)) t waiters

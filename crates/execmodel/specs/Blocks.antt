@@ -47,10 +47,10 @@ pub record PublicPort : Type 0 where
   pub port : ℕ
   pub key : KeyData
 
--- the regions of memory and the libraries, both in the order of the file; whether libraries are expunged under low
--- memory; how many objects of each kind may live; how many tasks there are, each of which may wait for a semaphore; the
--- blocks that are allocated; the public ports in order of arrival; and the timer (RKM Libraries, Exec Memory
--- Allocation; RKM Libraries, Exec Messages and Ports; RKM Devices, Timer Device)
+-- the regions of memory and the libraries, both in the order of the file; whether libraries are asked for memory; how
+-- many objects of each kind may live; how many tasks there are, each of which may wait for a semaphore; the blocks that
+-- are allocated; the public ports in order of arrival; and the timer (RKM Libraries, Exec Memory Allocation; RKM
+-- Libraries, Exec Messages and Ports; RKM Devices, Timer Device)
 pub record Memory : Type 0 where
   pub regions : List Region
   pub libraries : List LibraryData

@@ -6,8 +6,8 @@ use Rattle.exectrace.specs.Trace as trace
 use Rattle.script.specs.Alerts.{alert_text}
 use Rattle.script.specs.declared.variable.Variable.TheVariants.{Private, Shared}
 use Rattle.script.specs.{declared.variable.Variable.Variable, Commands.ArgumentData, Commands.number, Commands.variable, Commands.quoted, Commands.place, Commands.CommandData, Words.word_text}
-use Rattle.scheduler.specs.Schedule.{name_of}
-use Rattle.execmodel.specs.State.{Call, Scripts, State, Outcome, quiet, says, program_of, with_program, on_scripts}
+use Rattle.scheduler.specs.Schedule.{task_name}
+use Rattle.execmodel.specs.State.{Call, Scripts, State, Outcome, quiet, prints_line, program_of, with_program, on_scripts}
 use Rattle.script.specs.declared.alert.Alert.{Alert}
 
 -- ---- variables
@@ -90,21 +90,21 @@ keeps t call scripts = with_program t (record (program_of scripts t) { kept = So
 
 -- the line of a call of task t
 abbrev pub line_of_call : ℕ → Call → trace.CallEnd → State → trace.TraceLine
-line_of_call t call outcome s = trace.Call (name_of s.schedule t) (word_text call.word) call.arguments outcome
+line_of_call t call outcome s = trace.Call (task_name s.schedule t) (word_text call.word) call.arguments outcome
 
 -- a call of task t is done, and returns nothing: its line is printed, and the task goes on with its next command
 unfoldable pub done : ℕ → Call → State → Outcome
-done t call s = says (line_of_call t call Done s) (on_scripts (goes_on t call.next) s)
+done t call s = prints_line (line_of_call t call Done s) (on_scripts (goes_on t call.next) s)
 
 -- a call of task t is done, and returns a value: its line is printed, the value is stored in its target, if it has one,
 -- and the task goes on with its next command
 unfoldable pub answered : ℕ → Call → ℕ → State → Outcome
 answered t call value s =
-    says (line_of_call t call (Answers value) s) (on_scripts (λ scripts. goes_on t call.next (stored t call.target value scripts)) s)
+    prints_line (line_of_call t call (Answers value) s) (on_scripts (λ scripts. goes_on t call.next (stored t call.target value scripts)) s)
 
 -- a call of task t waits: its line is printed, and it is kept, to be tried again
 unfoldable pub waiting : ℕ → Call → State → Outcome
-waiting t call s = says (line_of_call t call Waits s) (on_scripts (keeps t call) s)
+waiting t call s = prints_line (line_of_call t call Waits s) (on_scripts (keeps t call) s)
 
 -- a word that is not a call of Exec is done, for task t: the value is stored in its target, if it has one, and no line
 -- is printed
@@ -114,7 +114,7 @@ silent t call value s = quiet (on_scripts (λ scripts. goes_on t call.next (stor
 -- A call of task t is refused by an alert: its line is printed, and the machine stops for good. Nothing else changes
 -- (project rule).
 unfoldable pub alerted : Alert → ℕ → Call → State → Outcome
-alerted code t call s = says (trace.Alert (alert_text code) (name_of s.schedule t) (word_text call.word)) (record s { stopped = true })
+alerted code t call s = prints_line (trace.Alert (alert_text code) (task_name s.schedule t) (word_text call.word)) (record s { stopped = true })
 
 -- ---- who makes a call
 
@@ -133,13 +133,13 @@ stored_shared (Some (Shared k)) value scripts = record scripts { shared = slice_
 -- a call that returns nothing is done, for either caller; its line has the name of the task or the body
 abbrev pub done_by : Caller → Call → State → Outcome
 done_by (ByTask t) call s = done t call s
-done_by (ByBody name) call s = says (trace.Call name (word_text call.word) call.arguments Done) s
+done_by (ByBody name) call s = prints_line (trace.Call name (word_text call.word) call.arguments Done) s
 
 -- a call that returns a value is done, for either caller; a body stores the value in a shared variable
 abbrev pub answered_by : Caller → Call → ℕ → State → Outcome
 answered_by (ByTask t) call value s = answered t call value s
 answered_by (ByBody name) call value s =
-    says (trace.Call name (word_text call.word) call.arguments (Answers value)) (on_scripts (stored_shared call.target value) s)
+    prints_line (trace.Call name (word_text call.word) call.arguments (Answers value)) (on_scripts (stored_shared call.target value) s)
 
 -- a word that is not a call of Exec is done, for either caller: the value is stored in its target, if it has one, and
 -- no line is printed
@@ -150,7 +150,7 @@ silent_by (ByBody name) call value s = quiet (on_scripts (stored_shared call.tar
 -- a call is refused by an alert, for either caller, and the machine stops for good
 abbrev pub alerted_by : Alert → Caller → Call → State → Outcome
 alerted_by code (ByTask t) call s = alerted code t call s
-alerted_by code (ByBody name) call s = says (trace.Alert (alert_text code) name (word_text call.word)) (record s { stopped = true })
+alerted_by code (ByBody name) call s = prints_line (trace.Alert (alert_text code) name (word_text call.word)) (record s { stopped = true })
 
 -- the value of an argument in a body; a place in the code is its number, and a task's own variable, which no body has,
 -- is 0

@@ -1,7 +1,7 @@
 -- A call as a value: the alert that refuses it, how it changes the blocks of memory, and what it returns. It changes
 -- nothing else, except that its caller goes on. Each call on lists is such a value, and each call on memory.
 use Rattle.std.specs.Prelude.{ℕ, Bool, List, Option, None, Some, unwrap_or}
-use Rattle.execmodel.specs.{State.Call, State.Object, State.Heap, State.Memory, State.State, State.Outcome, State.on_memory, Calls.done, Calls.answered, Calls.unless, Places.placed, Places.freed, Objects.place_for_object, GivingWay.after_asking_for_object}
+use Rattle.execmodel.specs.{State.Call, State.Object, State.Heap, State.Memory, State.State, State.Outcome, State.on_memory, Calls.done, Calls.answered, Calls.unless, Places.placed, Places.freed, Objects.place_for_object, LowMemory.after_asking_for_object}
 use Rattle.script.specs.declared.alert.Alert.{Alert}
 
 -- what a call does, as functions of the memory before it: the alert that refuses it, if one does; the blocks after it;
@@ -43,8 +43,8 @@ abbrev pub frees_block : (Heap → Option Alert) → ℕ → Deed
 frees_block alert address =
     record { alert = λ memory. alert memory.heap; heap = λ memory. (freed address memory).heap; answer = λ memory. None }
 
--- Libraries are expunged under low memory, and then an object gets a block of that many bytes, if there is a place for
--- it. The block's address is returned, or 0 if there is no place.
+-- Libraries are asked for memory, and then an object gets a block of that many bytes, if there is a place for it. The
+-- block's address is returned, or 0 if there is no place.
 abbrev pub allots : Option Alert → (asked : Memory → Memory) → (place : Memory → Option ℕ) → ℕ → Object → Deed
 allots alert asked place size object = record {
   alert = λ memory. alert;

@@ -4,12 +4,12 @@ use Rattle.std.specs.Prelude.{ℕ, ℤ, zero, suc, pos, false, if◌then◌else�
 use Rattle.std.specs.List.{range_with_len}
 use Rattle.softint.specs.Sources.{source_text}
 use Rattle.exectrace.specs.Trace.{Serve, Server, Softint}
-use Rattle.execlist.specs.{Order.chosen, Order.without, Disciplines.pri_at}
+use Rattle.execlist.specs.{Order.chosen, Order.without_item, Disciplines.pri_at}
 use Rattle.softint.specs.{Sources.is_source, declared.source.Source.Source}
 use Rattle.softint.specs.declared.source.Source.TheVariants as source
 use Rattle.script.specs.{File.SoftintData, File.ServerData}
 use Rattle.scheduler.specs.Schedule.{Schedule, quantum_ticked}
-use Rattle.execmodel.specs.{State.Bodies, State.State, State.Outcome, State.quiet, State.says, State.andthen, State.unless_stopped, State.on_schedule, State.on_pending, Pending.caused_no_more, Pending.with_latch_of, Pending.next_source, Bodies.runs_body, Requests.finishes_all_due}
+use Rattle.execmodel.specs.{State.Bodies, State.State, State.Outcome, State.quiet, State.prints_line, State.andthen, State.unless_stopped, State.on_schedule, State.on_pending, Pending.caused_no_more, Pending.with_latch_of, Pending.next_source, Bodies.runs_body, Requests.finishes_all_due}
 
 -- ---- software interrupts
 
@@ -26,7 +26,7 @@ softint_at i bodies = slice_index_or bodies.softints i no_softint
 unfoldable pub runs_softint : ℕ → State → Outcome
 runs_softint i s =
     let softint = softint_at i s.bodies in
-    andthen (says (Softint softint.name)) (runs_body softint.name softint.code) (on_pending (caused_no_more i) s)
+    andthen (prints_line (Softint softint.name)) (runs_body softint.name softint.code) (on_pending (caused_no_more i) s)
 
 -- ---- servers
 
@@ -51,7 +51,7 @@ servers_for asks servers =
 unfoldable pub by_choice : ℕ → (ℕ → ℤ) → List ℕ → List ℕ
 by_choice zero key left = []
 by_choice (suc n) key left =
-    elim (chosen key left) as (λ (x : Option ℕ). List ℕ) [ None ↦ [] | Some k ↦ k ∷ by_choice n key (without k left) ]
+    elim (chosen key left) as (λ (x : Option ℕ). List ℕ) [ None ↦ [] | Some k ↦ k ∷ by_choice n key (without_item k left) ]
 
 -- the numbers of the servers of a source, in the order in which they run: by priority, and those of one priority in the
 -- order of the file (autodoc exec.library/AddIntServer)
@@ -62,7 +62,7 @@ chain_of asks servers = by_choice (length servers) (server_pri servers) (servers
 unfoldable pub runs_server : ℕ → State → Outcome
 runs_server k s =
     let server = server_at k s.bodies in
-    andthen (says (Server server.name)) (runs_body server.name server.code) s
+    andthen (prints_line (Server server.name)) (runs_body server.name server.code) s
 
 -- the servers run one after another, until one claims the interrupt, or an alert stops the machine
 unfoldable pub runs_chain : List ℕ → State → Outcome
@@ -88,7 +88,7 @@ finishes_for source.Exter s = quiet s
 -- the requests finish that are due, and then its servers run. (RKM Libraries, Exec Interrupts)
 unfoldable pub serves : Source → State → Outcome
 serves asks s =
-    andthen (says (Serve (source_text asks))) (andthen (finishes_for asks) (runs_chain (chain_of asks s.bodies.servers)))
+    andthen (prints_line (Serve (source_text asks))) (andthen (finishes_for asks) (runs_chain (chain_of asks s.bodies.servers)))
     (on_schedule (serving_counted asks) (on_pending (with_latch_of asks false) s))
 
 -- at most that many servings: while interrupts are allowed and a source asks to be served, the one of highest level is

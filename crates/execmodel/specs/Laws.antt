@@ -8,16 +8,16 @@ use Rattle.memlist.specs.{declared.region.Region.Region, Pieces.AreDisjoint, Pie
 use Rattle.execlist.specs.{Order.chosen, Disciplines.pri_at, Lists.times}
 use Rattle.signals.specs.Signals.{has_signal}
 use Rattle.taskq.specs.{declared.TaskState.TheVariants.Waiting, declared.Why.TheVariants.Signals}
-use Rattle.scheduler.specs.Schedule.{Schedule, name_of, priority_of, status_of, signals_of, is_switching_allowed}
+use Rattle.scheduler.specs.Schedule.{Schedule, task_name, priority_of, status_of, signals_of, is_switching_allowed}
 use Rattle.softint.specs.{declared.source.Source.Source, declared.source.Source.TheVariants.Vertb, Sources.is_latched}
 use Rattle.script.specs.declared.word.Word.TheVariants as group
 use Rattle.script.specs.declared.word.task_signals.SignalWord.TheVariants as signals
 use Rattle.script.specs.declared.word.ports.PortWord.TheVariants as ports
 use Rattle.script.specs.declared.word.requests.RequestWord.TheVariants as requests
 use Rattle.execmodel.specs.State.{Call, Scripts, Object, Plain, Block, Heap, Memory, Waiting as Queued, Mark, State, Outcome, on_schedule, on_memory, on_pending, on_timer, booted}
-use Rattle.execmodel.specs.{Calls.argument, Calls.alerted, Calls.next_call, Calls.call_in_body, Keeping.without_blocks, GivingWay.gives_way, GivingWay.after_asking, GivingWay.after_asking_for_object, Libraries.is_library_at, Libraries.library_number_at, Libraries.count_of, Libraries.is_delayed, Libraries.ready_to_open, Memory.block_at, Memory.extents, Memory.place_for, Memory.does_memory, Objects.object_at, Ports.is_port_at, Ports.messages_of, Ports.after_asking_for_port, Requests.request_of, Semaphores.sem_of, Semaphores.waiters_of, Pending.allows_interrupts, Pending.next_softint, Pending.with_latch_of, Interrupts.interrupts, Interrupts.runs_softint, Interrupts.softint_at, Interrupts.server_at, Step.does, Step.ends, Step.acts, Step.step, Step.tick, Step.request, Step.settle, Step.switches, Step.all_added, Step.starts, Step.events, Step.run, Agreement.Agrees, Agreement.once_if, Queues.IsInOrder, Marks.turns_at_port, Marks.turns_at_semaphore}
+use Rattle.execmodel.specs.{Calls.argument, Calls.alerted, Calls.next_call, Calls.call_in_body, Keeping.without_blocks, LowMemory.gives_way, LowMemory.after_asking, LowMemory.after_asking_for_object, Libraries.is_library_at, Libraries.library_number_at, Libraries.count_of, Libraries.is_delayed, Libraries.ready_to_open, Memory.block_at, Memory.extents, Memory.place_for, Memory.does_memory, Objects.object_at, Ports.is_port_at, Ports.messages_of, Ports.after_asking_for_port, Requests.request_of, Semaphores.sem_of, Semaphores.waiters_of, Pending.allows_interrupts, Pending.next_softint, Pending.with_latch_of, Interrupts.interrupts, Interrupts.runs_softint, Interrupts.softint_at, Interrupts.server_at, Step.does, Step.ends, Step.acts, Step.step, Step.tick, Step.request, Step.settle, Step.switches, Step.all_added, Step.starts, Step.events, Step.run, Agreement.Agrees, Agreement.once_if, Queues.IsInOrder, Marks.turns_at_port, Marks.turns_at_semaphore}
 use Rattle.iorequest.specs.Request.{is_under_way, sets_time, time_of}
-use Rattle.timerdev.specs.Timing.{offset, ticked}
+use Rattle.timerdev.specs.Timing.{offset, clock_ticked}
 use Rattle.script.specs.declared.alert.Alert.TheVariants as an_alert
 
 -- Something holds in every state that a run comes to. A state in the midst of an event is the last one of the run of other events: of those
@@ -177,12 +177,12 @@ EachStateIsSettled = InEveryState (λ s. s.stopped ≡ false → IsSettled s)
 abbrev pub candidates : Schedule → List ℕ
 candidates s = s.queue.ready ++ (elim s.running as (λ x. List ℕ) [ None ↦ [] | Some r ↦ r ∷ [] ])
 
--- A switch to a task is to the earliest among those of greatest priority, of the ready tasks and the one that ran until then, which comes
--- last; and a task that runs leaves for one of its own priority only if its quantum has ended.
+-- A switch to a task is to the earliest among those of highest priority, of the ready tasks and the one that ran until
+-- then, which comes last; and a task that runs leaves for one of its own priority only if its quantum has ended.
 abbrev pub SwitchesGoToTheChosen : Type 0
 SwitchesGoToTheChosen =
     (s : State) (name : List ℕ) → (switches s).lines ≡ Switch name ∷ []
-    → (t : ℕ) × (name ≡ name_of s.schedule t) × (chosen (pri_at s.schedule.queue.pris) (candidates s.schedule) ≡ Some t)
+    → (t : ℕ) × (name ≡ task_name s.schedule t) × (chosen (pri_at s.schedule.queue.pris) (candidates s.schedule) ≡ Some t)
     × ((switches s).state.schedule.running ≡ Some t)
     × ((r : ℕ) → s.schedule.running ≡ Some r → priority_of s.schedule t ≡ priority_of s.schedule r → s.schedule.left ≡ 0)
 
@@ -207,7 +207,7 @@ pub data ComesTo (machine : MachineData) : State → Type 0 where
 -- the state in which an action ends but for its switch
 abbrev pub before_switch : Action → State → State
 before_switch OneStep s = (interrupts (acts s).state).state
-before_switch OneTick s = (interrupts (on_pending (with_latch_of Vertb true) (on_memory (on_timer ticked) s))).state
+before_switch OneTick s = (interrupts (on_pending (with_latch_of Vertb true) (on_memory (on_timer clock_ticked) s))).state
 before_switch (OneRequest asks) s = (interrupts (on_pending (with_latch_of asks true) s)).state
 
 -- a run switches to a task of that name: at its start, or by an action in a state that it comes to
@@ -307,7 +307,7 @@ LibrariesHaveOneBase =
 
 -- ---- versions of the rules
 
--- In every state libraries are expunged under low memory just in version 2 of the rules.
+-- In every state libraries are asked for memory exactly in version 2 of the rules.
 abbrev pub LibrariesAreAskedInVersionTwo : Type 0
 LibrariesAreAskedInVersionTwo =
     (machine : MachineData) (list : List Event) → IsMachine machine → (run machine list).state.memory.asks ≡ nat_eq machine.version 2
@@ -319,7 +319,7 @@ pub record UnaskedMemoryStays : Type 0 where
   pub for_a_port : (bit : Option ℕ) (memory : Memory) → memory.asks ≡ false → after_asking_for_port bit memory ≡ memory
   pub for_a_library : (found : Option ℕ) (memory : Memory) → memory.asks ≡ false → ready_to_open found memory ≡ memory
 
--- In any version, asking libraries to be expunged under low memory changes the blocks alone; and nothing, if the block has a place already.
+-- In any version, asking libraries for memory changes the blocks alone; and nothing, if the block has a place already.
 pub record AskingChangesTheBlocks : Type 0 where
   pub for_a_block : (size reqs : ℕ) (memory : Memory) → without_blocks (after_asking size reqs memory) ≡ without_blocks memory
   pub for_an_object : (kind : Object → Bool) (size : ℕ) (memory : Memory)
@@ -327,15 +327,15 @@ pub record AskingChangesTheBlocks : Type 0 where
   pub for_a_library : (found : Option ℕ) (memory : Memory) → without_blocks (ready_to_open found memory) ≡ without_blocks memory
   pub where_it_fits : (size reqs : ℕ) (memory : Memory) → is_some (place_for size reqs memory) ≡ true → after_asking size reqs memory ≡ memory
 
--- ---- libraries are expunged under low memory
+-- ---- libraries are asked for memory
 
--- the first that many libraries of the file were expunged under low memory, one after another
+-- the first libraries of the file, that many, were asked for memory, one after another
 abbrev pub first_gave_way : ℕ → Memory → Memory
 first_gave_way zero memory = memory
 first_gave_way (suc k) memory = gives_way k (first_gave_way k memory)
 
--- A block of that many bytes was asked for: the first that many libraries of the file were expunged under low memory, no fewer were enough for the block, and after that
--- it has a place, or all of them were expunged under low memory.
+-- A block of that many bytes was asked for: the first libraries of the file, that many, were asked for memory, no fewer
+-- were enough for the block, and after that it has a place, or all of them were asked for memory.
 pub record AsksAsFarAsNeeded (size reqs : ℕ) (memory asked : Memory) : Type 0 where
   pub count : ℕ
   pub first : asked ≡ first_gave_way count memory
@@ -343,7 +343,7 @@ pub record AsksAsFarAsNeeded (size reqs : ℕ) (memory asked : Memory) : Type 0 
   pub enough : (is_some (place_for size reqs asked) ≡ true) ⊎ (count ≡ length memory.libraries)
   pub within : count ≤ length memory.libraries
 
--- Libraries are expunged under low memory as far as a block needs it, and no further.
+-- Libraries are asked for memory as far as a block needs it, and no further.
 abbrev pub LibrariesGiveWayAsFarAsNeeded : Type 0
 LibrariesGiveWayAsFarAsNeeded =
     (size reqs : ℕ) (memory : Memory) → memory.asks ≡ true → size ≢ 0 → AsksAsFarAsNeeded size reqs memory (after_asking size reqs memory)

@@ -8,7 +8,7 @@ pub mod Tasks
 pub mod Places
 pub mod Objects
 pub mod Loaded
-pub mod GivingWay
+pub mod LowMemory
 pub mod Deeds
 pub mod Memory
 pub mod Semaphores

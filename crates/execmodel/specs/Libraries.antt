@@ -5,7 +5,7 @@ use Rattle.std.specs.Prelude.{ℕ, ◌+◌, ◌-◌, Bool, false, not, ◌&&◌,
 use Rattle.std.specs.{List.position_from, Option.option_map_or}
 use Rattle.script.specs.{File.LibraryData, declared.word.libraries.LibraryWord.LibraryWord}
 use Rattle.script.specs.declared.word.libraries.LibraryWord.TheVariants as word
-use Rattle.execmodel.specs.{State.Call, State.Library, State.Heap, State.Memory, State.State, State.Outcome, State.on_memory, State.on_heap, Calls.argument, Calls.name_argument, Calls.done, Calls.answered, Calls.unless, Places.freed, Places.place_for, Places.placed, GivingWay.after_asking}
+use Rattle.execmodel.specs.{State.Call, State.Library, State.Heap, State.Memory, State.State, State.Outcome, State.on_memory, State.on_heap, Calls.argument, Calls.name_argument, Calls.done, Calls.answered, Calls.unless, Places.freed, Places.place_for, Places.placed, LowMemory.after_asking}
 use Rattle.execlib.specs.Libraries.{public_memory, most_openings, only_if}
 use Rattle.script.specs.declared.alert.Alert.TheVariants as an_alert
 use Rattle.script.specs.declared.alert.Alert.{Alert}
@@ -43,13 +43,13 @@ can_open version memory i = nat_le version (library_at i memory).version && not 
 abbrev pub library_to_open : List ℕ → ℕ → Memory → Option ℕ
 library_to_open name version memory = option_and_then (only_if (can_open version memory)) (library_named name memory)
 
--- the memory before library i is opened: if it has to be loaded, libraries are expunged under low memory for it
+-- the memory before library i is opened: if it has to be loaded, the others are asked for memory
 abbrev pub ready_to_load : Option ℕ → ℕ → Memory → Memory
 ready_to_load (Some base) i memory = memory
 ready_to_load None i memory = after_asking (library_at i memory).size public_memory memory
 
--- the memory before a library is opened: libraries were expunged under low memory if it has to be loaded; unchanged if
--- there is none to open
+-- the memory before a library is opened: the others were asked for memory if it has to be loaded; unchanged if there is
+-- none to open
 unfoldable pub ready_to_open : Option ℕ → Memory → Memory
 ready_to_open None memory = memory
 ready_to_open (Some i) memory = ready_to_load (base_of i memory.heap) i memory
@@ -84,7 +84,7 @@ abbrev pub library_opened : Option ℕ → Memory → Memory
 library_opened None memory = memory
 library_opened (Some i) memory = entered_or_loaded (base_of i memory.heap) i memory
 
--- The memory after OpenLibrary: libraries were expunged under low memory if the library had to be loaded, and it is
+-- The memory after OpenLibrary: the other libraries were asked for memory if the library had to be loaded, and it is
 -- open once more. Nothing else changes if there is none to open or no place for it (autodoc OpenLibrary).
 unfoldable pub opened : List ℕ → ℕ → Memory → Memory
 opened name version memory =

@@ -4,7 +4,7 @@
 -- is the alert LINK (project rule).
 use Rattle.std.specs.Prelude.{ℕ, zero, suc, ℤ, Bool, true, false, not, ◌-◌, ◌==◌, if◌then◌else◌, nat_eq, is_some, length, map, take, drop, find, unwrap_or, codes, List, [], ◌∷◌, ◌++◌, Option, None, Some, ⊤}
 use Rattle.std.specs.{List.list_any, Int.cast_signed, Int.w32}
-use Rattle.execlist.specs.{Order.enqueue, Order.first, Order.without, Lists.KeyData, Lists.blank, Lists.last, Lists.name_is, Lists.part_after, Lists.part_before, Lists.put_after}
+use Rattle.execlist.specs.{Order.enqueue, Order.first, Order.without_item, Lists.KeyData, Lists.blank, Lists.last, Lists.name_is, Lists.part_after, Lists.part_before, Lists.put_after}
 use Rattle.script.specs.declared.word.lists.ListWord.{ListWord}
 use Rattle.script.specs.declared.word.lists.ListWord.TheVariants as word
 use Rattle.execmodel.specs.{State.Call, State.Object, State.ListHead, State.Node, State.Block, State.Heap, State.State, State.Outcome, Calls.argument, Calls.name_argument, Deeds.Deed, Deeds.performs, Deeds.changes, Deeds.answers_and_changes, Deeds.reads, Deeds.frees_block, Deeds.makes, Objects.object_at, Objects.is_kind, Tasks.is_priority}
@@ -60,18 +60,18 @@ unfoldable pub key_of : ℕ → Heap → KeyData
 key_of node heap = key_of_object (object_at node heap)
 
 -- a node is in a sequence
-abbrev pub stands_in : ℕ → List ℕ → Bool
-stands_in node nodes = list_any (λ other. other == node) nodes
+abbrev pub is_in_nodes : ℕ → List ℕ → Bool
+is_in_nodes node nodes = list_any (λ other. other == node) nodes
 
 -- the nodes of the list that a node is in, none if it is in no list
 unfoldable pub sequence_with : ℕ → Heap → List ℕ
 sequence_with node [] = []
 sequence_with node (entry ∷ rest) =
-    if stands_in node (nodes_in entry.1.object) then nodes_in entry.1.object else sequence_with node rest
+    if is_in_nodes node (nodes_in entry.1.object) then nodes_in entry.1.object else sequence_with node rest
 
 -- a node is linked: it is in a list
 abbrev pub is_linked : ℕ → Heap → Bool
-is_linked node heap = stands_in node (sequence_with node heap)
+is_linked node heap = is_in_nodes node (sequence_with node heap)
 
 -- an entry of the heap, which gets these nodes if it is the list at that address
 abbrev pub relisted : ℕ → List ℕ → ℕ × Block → ℕ × Block
@@ -83,7 +83,7 @@ with_nodes list nodes heap = map (relisted list nodes) heap
 
 -- a list without that node; another object stays as it is
 abbrev pub left_by : ℕ → Object → Object
-left_by node (ListHead nodes) = ListHead (without node nodes)
+left_by node (ListHead nodes) = ListHead (without_item node nodes)
 left_by node object = object
 
 -- a node leaves the list that it is in; the lists keep their other nodes in their order
@@ -159,7 +159,7 @@ pred_alert pred heap = if not (is_pred_at pred heap) then Some an_alert.Handle e
 -- a predecessor is in the list, or there is none
 abbrev pub is_pred_in : Option ℕ → ℕ → Heap → Bool
 is_pred_in None list heap = true
-is_pred_in (Some pred) list heap = stands_in pred (nodes_of list heap)
+is_pred_in (Some pred) list heap = is_in_nodes pred (nodes_of list heap)
 
 -- the alert of Insert: HANDLE if the list, the node or the predecessor is not there, LINK if the node is linked or the
 -- predecessor is not in the list

@@ -3,7 +3,7 @@ use Rattle.std.specs.Prelude.{ℕ, Bool, true, false, not, ◌&&◌, if◌then�
 use Rattle.memlist.specs.Fit.{avail, asks, round}
 use Rattle.script.specs.declared.word.memory.MemoryWord.{MemoryWord}
 use Rattle.script.specs.declared.word.memory.MemoryWord.TheVariants as word
-use Rattle.execmodel.specs.{State.Call, State.Object, State.Plain, State.Block, State.Heap, State.State, State.Outcome, State.on_memory, Calls.argument, Calls.answered, Deeds.Deed, Deeds.performs, Deeds.allots, Deeds.frees_block, Objects.place_for_object, GivingWay.after_asking}
+use Rattle.execmodel.specs.{State.Call, State.Object, State.Plain, State.Block, State.Heap, State.State, State.Outcome, State.on_memory, Calls.argument, Calls.answered, Deeds.Deed, Deeds.performs, Deeds.allots, Deeds.frees_block, Objects.place_for_object, LowMemory.after_asking}
 pub use Rattle.execmodel.specs.Places.{block_at, extents, place_for, placed, freed}
 use Rattle.script.specs.declared.alert.Alert.TheVariants as an_alert
 use Rattle.script.specs.declared.alert.Alert.{Alert}
@@ -67,9 +67,9 @@ avail_alert reqs = if not (can_be_asked reqs) then Some an_alert.Value else None
 -- what a call on memory does: the alert that refuses it, how it changes the blocks, and what it returns
 unfoldable pub memory_deed : MemoryWord → Call → Deed
 -- AllocMem size reqs: returns the address of a new plain block, or 0 if there is no place for it or the size is 0. It
--- is placed in a suitable region with room for it, the earliest of greatest priority, at the front of the lowest gap
--- that is large enough. If no region has room, libraries are first expunged under low memory, in version 2 of the rules
--- (autodoc exec.library/AllocMem; size 0, the order of asking, and the alert: project rule).
+-- is placed in a suitable region with room for it, the earliest of highest priority, at the front of the lowest gap
+-- that is large enough. If no region has room, libraries are first asked for memory, in version 2 of the rules (autodoc
+-- exec.library/AllocMem; size 0, the order of asking, and the alert: project rule).
 memory_deed word.AllocMem call =
     let size = argument 0 call in
     let reqs = argument 1 call in

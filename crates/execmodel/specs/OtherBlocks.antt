@@ -10,7 +10,8 @@ pub record LeavesOtherBlocks (kind : Object → Bool) (old new : Heap) : Type 0 
   pub others : (a : ℕ) → is_kind kind (object_at a old) ≡ false → is_library_at a old ≡ false
       → (block_at a new ≡ block_at a old) ⊎ ((block_at a old ≡ None) × (is_kind kind (object_at a new) ≡ true))
 
--- Words on libraries leave every block that is no library's: no list, port, message, semaphore, request or plain block changes, or is freed.
+-- Words on libraries leave every block that is not a library's: no list, port, message, semaphore, request or plain
+-- block changes, or is freed.
 abbrev pub LibraryWordsLeaveOtherBlocks : Type 0
 LibraryWordsLeaveOtherBlocks =
     (word : LibraryWord) (t : ℕ) (call : Call)

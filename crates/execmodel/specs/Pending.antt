@@ -1,10 +1,10 @@
 -- Pending interrupts (RKM Libraries, Exec Interrupts). The abstract machine keeps the software interrupts that are
--- caused in order of arrival, and never sorts them: the one that runs next is the earliest among those of greatest
+-- caused in order of arrival, and never sorts them: the one that runs next is the earliest among those of highest
 -- priority. How one arrives, and which is next, is defined for either discipline of a queue. A source asks to be served
 -- by its latch: more requests before it is served change nothing.
 use Rattle.std.specs.Prelude.{ℕ, ℤ, Bool, not, ◌&&◌, ◌==◌, if◌then◌else◌, nat_lt, bytes_eq, length, map, List, Option, None}
 use Rattle.std.specs.List.{list_any, position_or_len}
-use Rattle.execlist.specs.{Order.without, Disciplines.Discipline, Disciplines.by_arrival, Disciplines.pri_at}
+use Rattle.execlist.specs.{Order.without_item, Disciplines.Discipline, Disciplines.by_arrival, Disciplines.pri_at}
 use Rattle.softint.specs.{Sources.with_latch, Sources.highest, declared.source.Source.Source}
 use Rattle.script.specs.File.{SoftintData}
 use Rattle.scheduler.specs.Schedule.{Schedule, is_interrupting_allowed}
@@ -21,8 +21,8 @@ abbrev pub softint_pri : List SoftintData → ℕ → ℤ
 softint_pri softints i = pri_at (map (λ (s : SoftintData). s.pri) softints) i
 
 -- the number of the software interrupt of that name; if none has the name, a number that none has
-abbrev pub softint_named : List ℕ → List SoftintData → ℕ
-softint_named name softints = position_or_len (bytes_eq name) (map (λ (s : SoftintData). s.name) softints)
+abbrev pub softint_number : List ℕ → List SoftintData → ℕ
+softint_number name softints = position_or_len (bytes_eq name) (map (λ (s : SoftintData). s.name) softints)
 
 -- software interrupt i was caused and has not run since
 abbrev pub is_caused : ℕ → Pending → Bool
@@ -44,13 +44,13 @@ causes i s = on_pending (with_caused by_arrival i s.bodies.softints) s
 
 -- software interrupt i is no longer caused (RKM Libraries, Exec Interrupts: software interrupts)
 abbrev pub caused_no_more : ℕ → Pending → Pending
-caused_no_more i pending = record pending { caused = without i pending.caused }
+caused_no_more i pending = record pending { caused = without_item i pending.caused }
 
 -- the software interrupt of the list that runs next, if interrupts are allowed and one is caused
 abbrev pub softint_next : Discipline → List SoftintData → Schedule → Pending → Option ℕ
 softint_next d softints schedule pending = if allows_interrupts schedule then d.choice (softint_pri softints) pending.caused else None
 
--- the software interrupt that runs next, if interrupts are allowed and one is caused: of those of greatest priority the
+-- the software interrupt that runs next, if interrupts are allowed and one is caused: of those of highest priority the
 -- one that was caused first (RKM Libraries, Exec Interrupts: software interrupts)
 unfoldable pub next_softint : State → Option ℕ
 next_softint s = softint_next by_arrival s.bodies.softints s.schedule s.pending

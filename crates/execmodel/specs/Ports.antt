@@ -1,6 +1,6 @@
 -- Message ports and messages (RKM Libraries, Exec Messages and Ports). A port has a sequence of messages in order of
 -- arrival; a message is in one port at most, once. The public ports are a sequence in order of arrival; the one of a
--- name is the earliest among those of greatest priority that have it. An address at which no object of the kind begins
+-- name is the earliest among those of highest priority that have it. An address at which no object of the kind begins
 -- is the alert HANDLE; a message that is in a port where it must be in none, or a port that is public where it must not
 -- be, or is not public where it must be, is the alert LINK; a port that is in use, or that does not signal the caller,
 -- is the alert PORT (project rule).
@@ -8,7 +8,7 @@ use Rattle.std.specs.Prelude.{ℕ, ℤ, negsuc, ◌^◌, Bool, true, false, not,
 use Rattle.std.specs.{List.list_any, Int.cast_signed, Int.w32}
 use Rattle.execlist.specs.{Order.chosen, Order.first, Lists.name_is, Disciplines.by_arrival}
 use Rattle.signals.specs.Signals.{grant}
-use Rattle.scheduler.specs.{Schedule.Schedule, Schedule.signals_of, Schedule.allocates, Schedule.clears_and_waits, Schedule.frees, Schedule.sets_signals, Dispatch.signalled}
+use Rattle.scheduler.specs.{Schedule.Schedule, Schedule.signals_of, Schedule.allocates_signal, Schedule.clears_and_waits, Schedule.frees_signal, Schedule.sets_signals, Dispatch.signalled}
 use Rattle.msgport.specs.declared.action.PortAction.TheVariants.{Signal, Cause, Ignore}
 use Rattle.msgport.specs.{declared.action.Action.Action, declared.action.PortAction.PortAction, declared.message.Message.Message as Content, Port.Port, Port.arrival_action, Port.new_port, Port.wait_bit, Ports.new_message, Ports.nt_freemsg, Ports.nt_message, Ports.nt_replymsg}
 use Rattle.msgport.specs.declared.action.Action.TheVariants as action
@@ -16,7 +16,7 @@ use Rattle.iorequest.specs.Request.{is_under_way}
 use Rattle.script.specs.declared.word.ports.PortWord.{PortWord}
 use Rattle.script.specs.declared.word.ports.PortWord.TheVariants as word
 use Rattle.execmodel.specs.State.{Call, Object, MsgPort, Message, Request, Block, Heap, PublicPort, Memory, State, Outcome, put, got, leaving, on_schedule, on_memory, on_heap}
-use Rattle.execmodel.specs.{Calls.Caller, Calls.ByTask, Calls.argument, Calls.name_argument, Calls.done, Calls.done_by, Calls.answered, Calls.answered_by, Calls.waiting, Calls.unless, Calls.unless_by, Pending.causes, Pending.softint_named, GivingWay.after_asking_for_object, Memory.makes_object, Memory.freed, Memory.placed, Objects.object_at, Objects.is_kind, Objects.place_for_object, Objects.replaced, Tasks.is_priority}
+use Rattle.execmodel.specs.{Calls.Caller, Calls.ByTask, Calls.argument, Calls.name_argument, Calls.done, Calls.done_by, Calls.answered, Calls.answered_by, Calls.waiting, Calls.unless, Calls.unless_by, Pending.causes, Pending.softint_number, LowMemory.after_asking_for_object, Memory.makes_object, Memory.freed, Memory.placed, Objects.object_at, Objects.is_kind, Objects.place_for_object, Objects.replaced, Tasks.is_priority}
 use Rattle.script.specs.declared.alert.Alert.TheVariants as an_alert
 use Rattle.script.specs.declared.alert.Alert.{Alert}
 
@@ -138,7 +138,7 @@ abbrev pub port_or_none : Option PublicPort → ℕ
 port_or_none None = 0
 port_or_none (Some public) = public.port
 
--- the public port of a name: the earliest among those of greatest priority that have it, or 0 if none has (autodoc
+-- the public port of a name: the earliest among those of highest priority that have it, or 0 if none has (autodoc
 -- FindPort)
 unfoldable pub found_port : List ℕ → Memory → ℕ
 found_port name memory = port_or_none (chosen priority_of_public (filter (is_called name) memory.public))
@@ -160,10 +160,10 @@ port_created t call None place s = answered t call 0 s
 port_created t call (Some bit) None s = answered t call 0 s
 port_created t call (Some bit) (Some address) s =
     answered t call address
-    (on_schedule (allocates t (negsuc 0)) (on_memory (placed port_size (MsgPort (new_port t bit) []) (Some address)) s))
+    (on_schedule (allocates_signal t (negsuc 0)) (on_memory (placed port_size (MsgPort (new_port t bit) []) (Some address)) s))
 
--- the memory after libraries were expunged under low memory for a port; if there is no signal for the port, none is
--- expunged (project rule)
+-- the memory after libraries were asked for memory for a port; if there is no signal for the port, none is asked
+-- (project rule)
 abbrev pub after_asking_for_port : Option ℕ → Memory → Memory
 after_asking_for_port None memory = memory
 after_asking_for_port (Some bit) memory = after_asking_for_object is_port port_size memory
@@ -199,7 +199,7 @@ delete_alert port memory =
 
 -- the signal of a port is no longer allocated by its task (autodoc DeleteMsgPort)
 abbrev pub gives_back : Port → Schedule → Schedule
-gives_back port s = frees port.task port.bit s
+gives_back port s = frees_signal port.task port.bit s
 
 -- DeleteMsgPort port: the port is freed, and its signal is given back to its task, whichever task calls; 0 does nothing
 -- (autodoc exec.library/DeleteMsgPort; the alerts: project rule)
@@ -263,7 +263,7 @@ does_port_signal t call s =
 unfoldable pub does_port_cause : ℕ → Call → State → Outcome
 does_port_cause t call s =
     let port = argument 0 call in
-    let i = softint_named (unwrap_or (name_argument 1 call) []) s.bodies.softints in
+    let i = softint_number (unwrap_or (name_argument 1 call) []) s.bodies.softints in
     unless (port_alert port s.memory.heap) t call (λ s. done t call (on_memory (on_heap (with_action (Cause i) port)) s)) s
 
 -- PortIgnore port: from now on the port does nothing when a message arrives (RKM Libraries, Exec Messages and Ports:
@@ -289,8 +289,8 @@ does_new_msg t call s =
     (λ s. makes_object t call is_message message_size (Message content) (on_memory (after_asking_for_object is_message message_size) s)) s
 
 -- the alert of a call on a message that must be in no port: HANDLE if none begins there, LINK if it is in a port
-unfoldable pub loose_alert : ℕ → Heap → Option Alert
-loose_alert message heap =
+unfoldable pub unqueued_alert : ℕ → Heap → Option Alert
+unqueued_alert message heap =
     if not (is_message_at message heap) then Some an_alert.Handle
     else (if is_queued message heap then Some an_alert.Link else None)
 
@@ -298,7 +298,7 @@ loose_alert message heap =
 unfoldable pub does_free_msg : ℕ → Call → State → Outcome
 does_free_msg t call s =
     let message = argument 0 call in
-    unless (loose_alert message s.memory.heap) t call (λ s. done t call (on_memory (freed message) s)) s
+    unless (unqueued_alert message s.memory.heap) t call (λ s. done t call (on_memory (freed message) s)) s
 
 -- ---- what a message holds
 
@@ -353,7 +353,7 @@ delivered kind port message s =
 
 -- the alert of PutMsg: HANDLE if the port or the message is not there, LINK if the message is in a port
 unfoldable pub put_alert : ℕ → ℕ → Heap → Option Alert
-put_alert port message heap = if not (is_port_at port heap) then Some an_alert.Handle else loose_alert message heap
+put_alert port message heap = if not (is_port_at port heap) then Some an_alert.Handle else unqueued_alert message heap
 
 -- PutMsg port message: the message is put at the port, after those that are there, and the port acts (autodoc
 -- exec.library/PutMsg; the alerts: project rule)
@@ -474,5 +474,5 @@ does_ports word.ReplyMsg t call s = does_reply_msg t call s
 
 -- the rules of this group, where all of them are to unfold
 unfoldable pub port_rules : ⊤
-unfolding add_port_alert appended content_of delete_alert delivered does_add_port does_create_msg_port does_delete_msg_port does_find_port does_free_msg does_get_msg does_msg_type does_msg_word does_new_msg does_port_cause does_port_ignore does_port_signal does_put_msg does_rem_port does_reply_msg does_set_msg_word does_wait_port found_port is_awaited_at is_message_at is_port_at is_queued loose_alert made_private made_public message_alert messages_of port_alert port_of posted put_alert rem_port_alert reply_alert reply_port_alert taken_off typed wait_alert with_action with_content with_port with_message_word
+unfolding add_port_alert appended content_of delete_alert delivered does_add_port does_create_msg_port does_delete_msg_port does_find_port does_free_msg does_get_msg does_msg_type does_msg_word does_new_msg does_port_cause does_port_ignore does_port_signal does_put_msg does_rem_port does_reply_msg does_set_msg_word does_wait_port found_port is_awaited_at is_message_at is_port_at is_queued unqueued_alert made_private made_public message_alert messages_of port_alert port_of posted put_alert rem_port_alert reply_alert reply_port_alert taken_off typed wait_alert with_action with_content with_port with_message_word
 port_rules = tt

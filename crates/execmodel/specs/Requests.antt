@@ -7,17 +7,17 @@
 use Rattle.std.specs.Prelude.{ℕ, zero, suc, ℤ, pos, negsuc, ◌^◌, Bool, true, false, not, ◌&&◌, if◌then◌else◌, nat_eq, nat_lt, bytes_eq, length, map, unwrap_or, codes, List, [], Option, None, Some, ⊤}
 use Rattle.std.specs.Int.{cast_unsigned, w32}
 use Rattle.exectrace.specs.Trace.{Timer}
-use Rattle.execlist.specs.Order.{without}
+use Rattle.execlist.specs.Order.{without_item}
 use Rattle.msgport.specs.{declared.action.Action.Action, Port.arrival_action}
 use Rattle.msgport.specs.declared.action.Action.TheVariants as action
 use Rattle.scheduler.specs.Schedule.{clears_and_waits}
 use Rattle.iorequest.specs.declared.request.ReqState.TheVariants.{Idle, UnderWay, Quick, Replied}
 use Rattle.iorequest.specs.declared.request.Begun.TheVariants.{Finish, Queue, Until, NewTime}
-use Rattle.iorequest.specs.{declared.request.Request.Request as TimerRequest, declared.request.ReqState.ReqState, declared.request.Begun.Begun, Request.idle_request, Request.is_open, Request.is_under_way, Request.begun, Request.finished, Request.outcome, Request.reply_port, Requests.is_unit, Requests.unit_error}
+use Rattle.iorequest.specs.{declared.request.Request.Request as TimerRequest, declared.request.ReqState.ReqState, declared.request.Begun.Begun, Request.idle_request, Request.is_opened, Request.is_under_way, Request.in_progress, Request.finished, Request.outcome, Request.reply_port, Requests.is_unit, Requests.unit_error}
 use Rattle.script.specs.declared.word.requests.RequestWord.{RequestWord}
 use Rattle.script.specs.declared.word.requests.RequestWord.TheVariants as word
-use Rattle.execmodel.specs.State.{Call, Object, Request, Heap, AtClock, AtSystem, Timer as Clock, Memory, State, Outcome, put, out, leaving, quiet, says, andthen, on_schedule, on_memory, on_heap, on_timer}
-use Rattle.execmodel.specs.{Calls.argument, Calls.name_argument, Calls.done, Calls.answered, Calls.waiting, Calls.unless, GivingWay.after_asking_for_object, Memory.makes_object, Memory.freed, Objects.object_at, Objects.is_kind, Objects.replaced, Ports.appended, Ports.is_port_at, Ports.is_queued, Ports.loses, Ports.messages_of, Ports.performed, Ports.port_alert, Ports.port_of, Ports.wait_alert, Ports.with_port, Semaphores.is_tried_again}
+use Rattle.execmodel.specs.State.{Call, Object, Request, Heap, AtClock, AtSystem, Timer as Clock, Memory, State, Outcome, put, out, leaving, quiet, prints_line, andthen, on_schedule, on_memory, on_heap, on_timer}
+use Rattle.execmodel.specs.{Calls.argument, Calls.name_argument, Calls.done, Calls.answered, Calls.waiting, Calls.unless, LowMemory.after_asking_for_object, Memory.makes_object, Memory.freed, Objects.object_at, Objects.is_kind, Objects.replaced, Ports.appended, Ports.is_port_at, Ports.is_queued, Ports.loses, Ports.messages_of, Ports.performed, Ports.port_alert, Ports.port_of, Ports.wait_alert, Ports.with_port, Semaphores.is_tried_again}
 use Rattle.timerdev.specs.Timing.{begins_to_wait, due_next, looked_at, system_set, until_next, waits_no_more}
 use Rattle.script.specs.declared.alert.Alert.TheVariants as an_alert
 use Rattle.script.specs.declared.alert.Alert.{Alert}
@@ -74,7 +74,7 @@ delete_request_alert request heap =
 
 -- a request may begin: it is not in progress, and it is open
 abbrev pub can_begin : TimerRequest → Bool
-can_begin content = not (is_under_way content) && is_open content
+can_begin content = not (is_under_way content) && is_opened content
 
 -- the alert of a call that begins a request: HANDLE if none begins there, IO if it is in progress or not open, LINK if
 -- its reply is in a port; else the alert that is given, that of its reply port
@@ -155,7 +155,7 @@ ends_with error request s =
 
 -- a request is in progress, begun at that system time; its quick bit stays set only if it does not have to wait
 abbrev pub under_way : Bool → ℕ → ℕ → Heap → Heap
-under_way quick system request heap = with_request request (begun quick system (request_of request heap)) heap
+under_way quick system request heap = with_request request (in_progress quick system (request_of request heap)) heap
 
 -- what begins a request makes of it: it is in progress, or it is done at once
 abbrev pub heap_begun : Begun → Bool → ℕ → ℕ → Heap → Heap
@@ -295,7 +295,7 @@ error_word request heap = cast_unsigned w32 (request_of request heap).error
 unfoldable pub reply_taken : ℕ → Heap → Heap
 reply_taken request heap =
     let port = (request_of request heap).port in
-    with_port port (port_of port heap) (without request (messages_of port heap)) heap
+    with_port port (port_of port heap) (without_item request (messages_of port heap)) heap
 
 -- A task looks how far a request has come. If it is in progress, the task clears the signal of its reply port, and
 -- waits until that comes again; else the request's error is returned, and its reply, if there is one, is taken out of
@@ -410,7 +410,7 @@ does_requests word.IOFlags t call s = does_io_flags t call s
 -- a request whose time has come is done, with error 0, and its line is printed
 unfoldable pub finishes : ℕ → State → Outcome
 finishes request s =
-    with_reply (answering_port request s.memory.heap) request (says (Timer request) (ends_with (pos 0) request s))
+    with_reply (answering_port request s.memory.heap) request (prints_line (Timer request) (ends_with (pos 0) request s))
 
 -- at most that many requests finish, one after another: each time the one that is next, as long as there is one
 unfoldable pub finishes_each : (Clock → Option ℕ) → ℕ → State → Outcome

@@ -536,7 +536,7 @@ with_two_libraries size code =
       tasks = alone code;
     }
 
--- the same machine in version 2 of the rules, in which libraries are expunged under low memory
+-- the same machine in version 2 of the rules, in which libraries are asked for memory
 abbrev pub in_version_two : MachineData → MachineData
 in_version_two machine = record machine { version = 2 }
 
@@ -888,7 +888,7 @@ beside_a_port code =
 abbrev pub in_its_place : (making freeing : CommandData) → List CommandData → List CommandData
 in_its_place making freeing others = opens_into 1 (codes "x") ∷ of_library 1 CloseLibrary ∷ making ∷ freeing ∷ others
 
--- Each word that takes memory makes a library are expunged under low memory which is not open, and what an object took is free after it.
+-- For each word that takes memory a library that is not open is expunged, and what an object took is free after it.
 abbrev pub EachWordAsksForItsMemory : Type 0
 EachWordAsksForItsMemory =
     trace

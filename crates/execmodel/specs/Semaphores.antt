@@ -4,7 +4,7 @@
 -- would be obtained too often, is the alert SEM (project rule).
 use Rattle.std.specs.Prelude.{ℕ, ◌==◌, Bool, true, false, not, if◌then◌else◌, is_some, drop, find, map, codes, List, [], ◌∷◌, ◌++◌, Option, None, Some, ⊤, option_map}
 use Rattle.std.specs.List.{list_any}
-use Rattle.execlist.specs.{Order.first, Order.without, Disciplines.by_arrival}
+use Rattle.execlist.specs.{Order.first, Order.without_item, Disciplines.by_arrival}
 use Rattle.scheduler.specs.{Schedule.waits_at_semaphore, Dispatch.arrives}
 use Rattle.sigsem.specs.declared.semaphore.Obtained.TheVariants.{Owner, Waits}
 use Rattle.sigsem.specs.Semaphores.{free_sem, is_last, is_free_for, is_owned, is_owner, is_too_deep, once_less, once_more, outcome_for, owned_next}
@@ -12,7 +12,7 @@ use Rattle.sigsem.specs.{declared.semaphore.Sem.Sem, declared.semaphore.Obtained
 use Rattle.script.specs.declared.word.semaphores.SemaphoreWord.{SemaphoreWord}
 use Rattle.script.specs.declared.word.semaphores.SemaphoreWord.TheVariants as word
 use Rattle.execmodel.specs.State.{Call, Scripts, Object, Semaphore, Block, Heap, State, Outcome, asked, passed, left, leaving, program_of, on_schedule, on_memory, on_heap}
-use Rattle.execmodel.specs.{Calls.argument, Calls.done, Calls.answered, Calls.waiting, Calls.unless, GivingWay.after_asking_for_object, Memory.makes_object, Memory.freed, Objects.object_at, Objects.is_kind, Objects.replaced}
+use Rattle.execmodel.specs.{Calls.argument, Calls.done, Calls.answered, Calls.waiting, Calls.unless, LowMemory.after_asking_for_object, Memory.makes_object, Memory.freed, Objects.object_at, Objects.is_kind, Objects.replaced}
 use Rattle.script.specs.declared.alert.Alert.TheVariants as an_alert
 use Rattle.script.specs.declared.alert.Alert.{Alert}
 
@@ -73,7 +73,7 @@ entered semaphore t heap = with_semaphore semaphore (once_more t (sem_of semapho
 
 -- task t no longer waits for a semaphore; another object stays as it is
 abbrev pub left_by_task : ℕ → Object → Object
-left_by_task t (Semaphore sem waiters) = Semaphore sem (without t waiters)
+left_by_task t (Semaphore sem waiters) = Semaphore sem (without_item t waiters)
 left_by_task t object = object
 
 -- task t waits for no semaphore; the other tasks keep their order

@@ -3,7 +3,7 @@ use Rattle.std.specs.Prelude.{ℕ, ◌-◌, Bool, not, ◌&&◌, if◌then◌els
 use Rattle.std.specs.Int.{cast_signed, cast_unsigned, w32}
 use Rattle.execlist.specs.Disciplines.{by_arrival}
 use Rattle.signals.specs.Signals.{grant, grant_number, is_own_signal}
-use Rattle.scheduler.specs.{Schedule.signals_of, Schedule.come_for, Schedule.after_wait, Schedule.allocates, Schedule.frees, Schedule.sets_signals, Dispatch.signalled}
+use Rattle.scheduler.specs.{Schedule.signals_of, Schedule.come_for, Schedule.after_wait, Schedule.allocates_signal, Schedule.frees_signal, Schedule.sets_signals, Dispatch.signalled}
 use Rattle.script.specs.declared.word.task_signals.SignalWord.{SignalWord}
 use Rattle.script.specs.declared.word.task_signals.SignalWord.TheVariants as word
 use Rattle.execmodel.specs.{State.Call, State.Scripts, State.State, State.Outcome, State.on_schedule, Calls.Caller, Calls.ByTask, Calls.argument, Calls.done, Calls.done_by, Calls.answered, Calls.waiting, Calls.unless, Calls.unless_by}
@@ -30,7 +30,7 @@ mask_alert mask = if not (is_mask mask) then Some an_alert.Mask else None
 unfoldable pub does_alloc_signal : ℕ → Call → State → Outcome
 does_alloc_signal t call s =
     let n = cast_signed w32 (argument 0 call) in
-    answered t call (cast_unsigned w32 (grant_number (grant n (signals_of s.schedule t)))) (on_schedule (allocates t n) s)
+    answered t call (cast_unsigned w32 (grant_number (grant n (signals_of s.schedule t)))) (on_schedule (allocates_signal t n) s)
 
 -- the alert of FreeSignal: MASK if the number is not that of a signal that a task may allocate
 abbrev pub free_signal_alert : ℕ → Option Alert
@@ -42,7 +42,7 @@ unfoldable pub does_free_signal : ℕ → Call → State → Outcome
 does_free_signal t call s =
     let n = argument 0 call in
     if nat_eq n 0xffffffff then done t call s
-    else unless (free_signal_alert n) t call (λ s. done t call (on_schedule (frees t n) s)) s
+    else unless (free_signal_alert n) t call (λ s. done t call (on_schedule (frees_signal t n) s)) s
 
 -- SetSignal new mask: returns the signals that were received; then those of the mask become as in new (autodoc
 -- exec.library/SetSignal; the alert: project rule)

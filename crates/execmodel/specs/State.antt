@@ -90,8 +90,8 @@ abbrev pub quiet : State → Outcome
 quiet s = record { state = s; lines = []; marks = [] }
 
 -- the outcome of an action that prints one line and leaves no mark
-abbrev pub says : TraceLine → State → Outcome
-says line s = record { state = s; lines = line ∷ []; marks = [] }
+abbrev pub prints_line : TraceLine → State → Outcome
+prints_line line s = record { state = s; lines = line ∷ []; marks = [] }
 
 -- one action after another: the state after both, and the lines and marks of the first and then of the second
 unfoldable pub andthen : (State → Outcome) → (State → Outcome) → State → Outcome

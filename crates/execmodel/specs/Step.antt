@@ -6,11 +6,11 @@ use Rattle.exectrace.specs.Trace as trace
 use Rattle.script.specs.declared.word.Word.TheVariants.{Plain, Signals, Nesting, Tasks, Lists, Memory, Ports, Semaphores, Interrupts, Libraries, Requests}
 use Rattle.script.specs.declared.event.Event.TheVariants.{Run, Tick, Irq}
 use Rattle.script.specs.{declared.word.Word.Word, declared.event.Event.Event, File.MachineData}
-use Rattle.scheduler.specs.{Schedule.Schedule, Schedule.name_of, Schedule.leaves, declared.Switch.Switch as Choice, Dispatch.switch_of, Dispatch.rescheduled, Dispatch.added}
+use Rattle.scheduler.specs.{Schedule.Schedule, Schedule.task_name, Schedule.leaves, declared.Switch.Switch as Choice, Dispatch.switch_of, Dispatch.rescheduled, Dispatch.added}
 use Rattle.scheduler.specs.declared.Switch.TheVariants as switch
-use Rattle.execmodel.specs.State.{Call, Scripts, State, Outcome, quiet, says, andthen, unless_stopped, program_of, on_schedule, on_memory, on_pending, on_timer, booted}
+use Rattle.execmodel.specs.State.{Call, Scripts, State, Outcome, quiet, prints_line, andthen, unless_stopped, program_of, on_schedule, on_memory, on_pending, on_timer, booted}
 use Rattle.execmodel.specs.{Pending.with_latch_of, Pending.next_softint, Interrupts.interrupts, Interrupts.runs_softint, Calls.next_call, Plain.does_plain, Signals.does_signals, Nesting.does_nesting, Tasks.does_tasks, Lists.does_lists, Memory.does_memory, Ports.does_ports, Semaphores.does_semaphores, Causing.does_interrupts, Libraries.does_libraries, Requests.does_requests, Requests.finishes_set}
-use Rattle.timerdev.specs.Timing.{ticked}
+use Rattle.timerdev.specs.Timing.{clock_ticked}
 use Rattle.softint.specs.{declared.source.Source.Source, declared.source.Source.TheVariants.Vertb}
 
 -- ---- settle
@@ -18,8 +18,8 @@ use Rattle.softint.specs.{declared.source.Source.Source, declared.source.Source.
 -- the line of a switch is printed, if one is made
 abbrev pub announced : Option Choice → State → Outcome
 announced None s = quiet s
-announced (Some (switch.To t)) s = says (Switch (name_of s.schedule t)) s
-announced (Some switch.Idle) s = says Idle s
+announced (Some (switch.To t)) s = prints_line (Switch (task_name s.schedule t)) s
+announced (Some switch.Idle) s = prints_line Idle s
 
 -- the switch that is due, if any: to another task, or to being idle (RKM Libraries, Exec Tasks)
 unfoldable pub switches : State → Outcome
@@ -53,7 +53,7 @@ does t call s = does_word call.word t call s
 
 -- a task whose commands are used up ends, as by RemTask 0 (RKM Libraries, Exec Tasks: task termination)
 unfoldable pub ends : ℕ → State → Outcome
-ends t s = says (trace.Call (name_of s.schedule t) (codes "RemTask") (Value 0 ∷ []) Done) (on_schedule (leaves t) s)
+ends t s = prints_line (trace.Call (task_name s.schedule t) (codes "RemTask") (Value 0 ∷ []) Done) (on_schedule (leaves t) s)
 
 -- task t makes its next call, or ends if its commands are used up
 abbrev pub call_step : ℕ → Option Call → State → Outcome
@@ -72,12 +72,12 @@ softint_or_task_step (Some i) s = runs_softint i s
 
 -- what a step does: the next software interrupt runs, or else the running task does one command (RKM Libraries, Exec
 -- Interrupts: software interrupts; one a step: project rule)
-unfoldable pub acting : State → Outcome
-acting s = softint_or_task_step (next_softint s) s
+unfoldable pub step_action : State → Outcome
+step_action s = softint_or_task_step (next_softint s) s
 
 -- what a step does, before the machine settles; a stopped machine does nothing
 unfoldable pub acts : State → Outcome
-acts s = unless_stopped acting s
+acts s = unless_stopped step_action s
 
 -- one step: a software interrupt runs, or else the running task does one command; then the machine settles
 unfoldable pub step : State → Outcome
@@ -98,7 +98,7 @@ request asks s = unless_stopped (λ s. settle (on_pending (with_latch_of asks tr
 -- one tick: the clock and system time advance by it, even if interrupts are disabled, and VERTB is requested; a stopped
 -- machine does nothing
 unfoldable pub tick : State → Outcome
-tick s = unless_stopped (λ s. request Vertb (on_memory (on_timer ticked) s)) s
+tick s = unless_stopped (λ s. request Vertb (on_memory (on_timer clock_ticked) s)) s
 
 -- that many ticks
 unfoldable pub ticks : ℕ → State → Outcome

@@ -3,7 +3,7 @@ use Rattle.std.specs.Prelude.{ℕ, ◌+◌, ◌-◌, ℤ, pos, negsuc, Bool, not
 use Rattle.std.specs.Int.{cast_signed, cast_unsigned, w32}
 use Rattle.execlist.specs.Disciplines.{by_arrival}
 use Rattle.taskq.specs.Tasks.{is_live}
-use Rattle.scheduler.specs.{Schedule.Schedule, Schedule.status_of, Schedule.priority_of, Schedule.is_absent, Schedule.leaves, Schedule.removed, Schedule.found, Dispatch.added, Dispatch.reprioritized}
+use Rattle.scheduler.specs.{Schedule.Schedule, Schedule.status_of, Schedule.priority_of, Schedule.is_absent, Schedule.leaves, Schedule.task_removed, Schedule.found, Dispatch.added, Dispatch.reprioritized}
 use Rattle.script.specs.declared.word.tasks.TaskWord.{TaskWord}
 use Rattle.script.specs.declared.word.tasks.TaskWord.TheVariants as word
 use Rattle.execmodel.specs.{State.Call, State.Scripts, State.State, State.Outcome, State.on_schedule, State.on_memory, State.on_heap, Calls.argument, Calls.name_argument, Calls.done, Calls.answered, Calls.unless, Signals.is_task, Semaphores.awaited_by, Semaphores.dropped, Semaphores.leaving_queue}
@@ -62,7 +62,7 @@ is_caller t number = nat_eq number 0 || nat_eq (number - 1) t
 abbrev pub ends_other : ℕ → ℕ → Call → State → Outcome
 ends_other other t call s =
     let out_of_queues = on_memory (on_heap (dropped other)) s in
-    let ended = on_schedule (removed other) out_of_queues in
+    let ended = on_schedule (task_removed other) out_of_queues in
     leaving_queue (awaited_by other s.memory.heap) other (done t call ended)
 
 -- RemTask task: ends the caller, or another live task, which is ready or waits. What it owns is not freed (autodoc

@@ -1,7 +1,7 @@
 //! A run as a document in the Trace Event Format.
 //!
-//! A microsecond of the document is one step, tick or request: what the machine shows after number n begins at n, and step n + 1 is in the
-//! middle between n and n + 1. What the clock shows is a counter of its own.
+//! A microsecond of the document is one step, tick or request: what the machine shows after number n begins at n, and
+//! step n + 1 is in the middle between n and n + 1. What the clock shows is a counter of its own.
 ghost use Rattle.std.specs.Prelude.{◌≡◌};
 ghost use Rattle.exectrace.specs.declared.sinks.SinkState.{SinkState};
 
@@ -10,7 +10,7 @@ mod notes;
 mod records;
 mod slices;
 
-use crate::deeds::{Deed, read_deeds, read_states};
+use crate::deeds::{Arrow, read_deeds, read_states};
 use crate::fault::PictureFault;
 use crate::film::{Point, Shown, Watch, film};
 use crate::objects::Objects;
@@ -44,7 +44,7 @@ struct Chrome<'a, W> {
     clock: Option<u64>,
     /// How the tasks were at the last point.
     states: Vec<TaskState>,
-    deeds: Vec<Deed>,
+    deeds: Vec<Arrow>,
     /// How many flows were written.
     flows: u64,
     objects: Objects<'a>,
@@ -162,15 +162,18 @@ impl<W: Sink> Watch for Chrome<'_, W> {
     }
 }
 
-/// Runs the machine of a file over the events, and writes one document of a part of the run in the Trace Event Format to `out`, which is good:
-/// a track for each task, with what it waits for, one for each source of interrupts and for the software interrupts, one for each semaphore
-/// and each request, instants for calls and alerts, flows from who does something to the task that it reaches, and counters for the messages
-/// of ports and for the clock. `title` is kept in it. Memory does not grow with the run. Answers whether an alert has stopped the machine, with which the document ends.
+/// Runs the machine of a file over the events, and writes one document of a part of the run in the Trace Event Format
+/// to `out`, which is good: a track for each task, with what it waits for, one for each source of interrupts and for
+/// the software interrupts, one for each semaphore and each request, instants for calls and alerts, flows from who does
+/// something to the task that it reaches, and counters for the messages of ports and for the clock. `title` is kept in
+/// it. Memory does not grow with the run. Answers whether an alert has stopped the machine, with which the document
+/// ends.
 ///
 /// # Errors
 ///
-/// `Empty` if the part has no column: nothing was written. `Memory` if memory was refused, and `Write` if the sink did not take all: a prefix
-/// of the document was taken. A part that begins past the end of the run gives a document without a slice.
+/// `Empty` if the part has no column: nothing was written. `Memory` if memory was refused, and `Write` if the sink did
+/// not take all: a prefix of the document was taken. A part that begins past the end of the run gives a document
+/// without a slice.
 ///
 /// Source: project rule.
 pub fn write_chrome<W: Sink>(

@@ -50,7 +50,7 @@ pub(crate) enum Means {
 
 /// One does something to another.
 #[derive(Clone, Copy)]
-pub(crate) struct Deed {
+pub(crate) struct Arrow {
     pub doer: Doer,
     pub aim: Aim,
     pub means: Means,
@@ -161,9 +161,9 @@ fn aim_of(file: &MachineFile, machine: &Shown, means: Means, call: &CallLine<'_>
 }
 
 /// What a line says that one does to another; not yet whether it wakes.
-fn act_of(file: &MachineFile, machine: &Shown, line: &str) -> Option<Deed> {
+fn act_of(file: &MachineFile, machine: &Shown, line: &str) -> Option<Arrow> {
     match read_line(line) {
-        TraceLine::Timer(request) => Some(Deed {
+        TraceLine::Timer(request) => Some(Arrow {
             doer: Doer::Timer,
             aim: aim_of_reply(machine, request)?,
             means: Means::Request,
@@ -174,7 +174,7 @@ fn act_of(file: &MachineFile, machine: &Shown, line: &str) -> Option<Deed> {
             let doer = doer_named(file, call.who)?;
             let means = means_of(call.word)?;
             let aim = aim_of(file, machine, means, &call)?;
-            Some(Deed {
+            Some(Arrow {
                 doer,
                 aim,
                 means,
@@ -191,9 +191,9 @@ pub(crate) fn waits(state: TaskState) -> bool {
     matches!(state, TaskState::Waiting(_))
 }
 
-/// Whether a deed wakes whom it reaches, a task that was as in `before`; none if it reaches no one: the task that does it, or one that was not
-/// added or has ended.
-fn wakes(machine: &Shown, deed: &Deed, before: &[TaskState]) -> Option<bool> {
+/// Whether a deed wakes whom it reaches, a task that was as in `before`; none if it reaches no one: the task that does
+/// it, or one that was not added or has ended.
+fn wakes(machine: &Shown, deed: &Arrow, before: &[TaskState]) -> Option<bool> {
     let Aim::Task(t) = deed.aim else {
         return Some(true);
     };
@@ -210,7 +210,7 @@ fn wakes(machine: &Shown, deed: &Deed, before: &[TaskState]) -> Option<bool> {
 }
 
 /// What a line says that one does to another.
-fn deed_of(file: &MachineFile, machine: &Shown, before: &[TaskState], line: &str) -> Option<Deed> {
+fn deed_of(file: &MachineFile, machine: &Shown, before: &[TaskState], line: &str) -> Option<Arrow> {
     let mut deed = act_of(file, machine, line)?;
     deed.wakes = wakes(machine, &deed, before)?;
     Some(deed)
@@ -222,7 +222,7 @@ pub(crate) fn read_deeds(
     machine: &Shown,
     before: &[TaskState],
     text: &str,
-    deeds: &mut Vec<Deed>,
+    deeds: &mut Vec<Arrow>,
 ) -> Result<(), AllocError> {
     deeds.clear();
     for line in text.lines() {

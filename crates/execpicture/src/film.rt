@@ -17,7 +17,7 @@ pub(crate) type Shown = Machine<LinkSpace>;
 
 /// What has been done last.
 #[derive(Clone, Copy)]
-pub(crate) enum Turn {
+pub(crate) enum PointKind {
     /// The start.
     Start,
     /// A step.
@@ -43,8 +43,9 @@ pub(crate) struct Point {
     /// Its number; the start has 0.
     pub number: u64,
     /// What has been done last.
-    pub turn: Turn,
-    /// The place in the event text of what has been done last: the number of the event, from 0; the start has that of the first.
+    pub kind: PointKind,
+    /// The place in the event text of what has been done last: the number of the event, from 0; the start has that of
+    /// the first.
     pub event: usize,
     /// What the clock shows, in microseconds.
     pub clock: u64,
@@ -98,11 +99,11 @@ fn actor_of(machine: &Shown, one: Event) -> Option<Actor> {
 }
 
 /// What an event does once.
-fn turn_of(one: Event) -> Turn {
+fn kind_of(one: Event) -> PointKind {
     match one {
-        Event::Run(_) => Turn::Step,
-        Event::Tick(_) => Turn::Tick,
-        Event::Irq(source) => Turn::Request(source),
+        Event::Run(_) => PointKind::Step,
+        Event::Tick(_) => PointKind::Tick,
+        Event::Irq(source) => PointKind::Request(source),
     }
 }
 
@@ -110,14 +111,14 @@ fn turn_of(one: Event) -> Turn {
 fn show<V: Watch>(
     machine: &Shown,
     reel: &Reel,
-    turn: Turn,
+    kind: PointKind,
     event: usize,
     actor: Option<Actor>,
     watch: &mut V,
 ) -> Result<(), PictureFault> {
     let point = Point {
         number: reel.number,
-        turn,
+        kind,
         event,
         clock: machine.view().clock,
         actor,
@@ -188,7 +189,7 @@ fn turn_once<V: Watch>(
     }
     let actor = actor_of(machine, one);
     advance(alloc, machine, one, reel)?;
-    show(machine, reel, turn_of(one), event, actor, watch)
+    show(machine, reel, kind_of(one), event, actor, watch)
 }
 
 /// Does one step, tick or request that many times, or until nothing more is to be seen.
@@ -252,7 +253,8 @@ fn turn_all<V: Watch>(
     Ok(())
 }
 
-/// Starts a machine, does events one step and one tick at a time, and shows the machine to a watcher after each. Answers how it ended.
+/// Starts a machine, does events one step and one tick at a time, and shows the machine to a watcher after each.
+/// Answers how it ended.
 fn film_on<V: Watch>(
     alloc: Global,
     machine: &mut Shown,
@@ -270,7 +272,7 @@ fn film_on<V: Watch>(
         text: Vec::new(alloc),
     };
     start(alloc, machine, &mut reel)?;
-    show(machine, &reel, Turn::Start, 0, None, watch)?;
+    show(machine, &reel, PointKind::Start, 0, None, watch)?;
     turn_all(alloc, machine, list, &mut reel, watch)?;
     Ok(Ending {
         last: reel.number,
@@ -278,8 +280,8 @@ fn film_on<V: Watch>(
     })
 }
 
-/// Boots the machine of a file, and shows it to a watcher after its start and after each step, tick and request of the events, up to number
-/// `to` or to an alert. Answers how it ended.
+/// Boots the machine of a file, and shows it to a watcher after its start and after each step, tick and request of the
+/// events, up to number `to` or to an alert. Answers how it ended.
 ///
 /// # Errors
 ///

@@ -72,7 +72,7 @@ fn call_of<'a>(who: &'a str, word: Word, said: &'a str) -> CallLine<'a> {
     }
 }
 
-/// What a line says that is no call.
+/// What a line says that is not a call.
 fn notice_of<'a>(head: &'a str, rest: &'a str) -> TraceLine<'a> {
     match head {
         "serve" => TraceLine::Serve(rest),

@@ -38,7 +38,8 @@ const XML: Escapes = &[
 /// How a JSON document writes the characters that mean something in a text.
 const JSON: Escapes = &[('"', "\\\""), ('\\', "\\\\"), ('\n', "\\n")];
 
-/// The text of a document so far. Once memory was refused it takes nothing more, so that this has to be asked for only at the end.
+/// The text of a document so far. Once memory was refused it takes nothing more, so that this has to be asked for only
+/// at the end.
 #[derive(Drop)]
 pub(crate) struct Page {
     alloc: Global,

@@ -1,7 +1,8 @@
 //! What a picture shows of a run, point by point: the columns, and the tracks of tasks, interrupts and objects.
 //!
-//! Column 0 is the point at which the picture begins; what is shown after column k is what the machine shows at that point.
-use crate::deeds::{Deed, read_deeds, read_states};
+//! Column 0 is the point at which the picture begins; what is shown after column k is what the machine shows at that
+//! point.
+use crate::deeds::{Arrow, read_deeds, read_states};
 use crate::fault::PictureFault;
 use crate::film::{Point, Shown, Watch};
 use crate::forms::count;
@@ -23,7 +24,7 @@ pub(crate) struct Column {
     /// What was printed.
     pub text: String,
     /// What one did to another.
-    pub deeds: Vec<Deed>,
+    pub deeds: Vec<Arrow>,
     /// Which sources asked to be served after it.
     pub latches: Latches,
 }

@@ -54,7 +54,8 @@ fn draw(
     Ok(())
 }
 
-/// Runs a machine over the events, and keeps what a scene shows of a part of the run. Answers whether an alert has stopped the machine.
+/// Runs a machine over the events, and keeps what a scene shows of a part of the run. Answers whether an alert has
+/// stopped the machine.
 fn film_scene(
     alloc: Global,
     events: &Events,
@@ -87,15 +88,17 @@ fn draw_run(
     Ok(stopped)
 }
 
-/// Runs the machine of a file over the events, and writes one picture of a part of the run to `out`, which is good: an SVG document that
-/// shows, from above, the events and the clock; the interrupts; the state of each task from step to step; who owns a semaphore, what is in a
-/// port and which request is in progress; and the calls. Objects are named by the variable that got their address, or by their public name.
-/// `title` is the headline. Answers whether an alert has stopped the machine, with which the picture ends.
+/// Runs the machine of a file over the events, and writes one picture of a part of the run to `out`, which is good: an
+/// SVG document that shows, from above, the events and the clock; the interrupts; the state of each task from step to
+/// step; who owns a semaphore, what is in a port and which request is in progress; and the calls. Objects are named by
+/// the variable that got their address, or by their public name. `title` is the headline. Answers whether an alert has
+/// stopped the machine, with which the picture ends.
 ///
 /// # Errors
 ///
-/// `Memory` if memory was refused. `Empty`, `PastEnd` or `TooLong` if the part has no column, begins where the run is over, or has more
-/// than `LIMIT` columns. In all these cases nothing was written. `Write` if the sink did not take all: it has taken a prefix of the picture.
+/// `Memory` if memory was refused. `Empty`, `PastEnd` or `TooLong` if the part has no column, begins where the run is
+/// over, or has more than `LIMIT` columns. In all these cases nothing was written. `Write` if the sink did not take
+/// all: it has taken a prefix of the picture.
 ///
 /// Source: project rule.
 pub fn write_svg<W: Sink>(

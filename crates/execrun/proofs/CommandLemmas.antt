@@ -13,7 +13,7 @@ use Rattle.clap.specs.declared.parser.matches.ArgMatches.{ArgMatches}
 use Rattle.clap.proofs.CallerLemmas.{required_in_chain}
 use Rattle.clap.proofs.OnLiterals.{clap_on_literals}
 use Rattle.clap.proofs.WalkLemmas.{first_value-rows}
-use Rattle.execrun.specs.CommandLine.{nameless_app, path_rule, paths_app, two_paths}
+use Rattle.execrun.specs.CommandLine.{IsNoAnswer, nameless_app, path_rule, paths_app, two_paths}
 
 -- the argument of that name, which has to be given if it is required
 pub record IsPath (name : Text) (required : Bool) (a : Arg) : Type 0 where
@@ -105,3 +105,11 @@ given_value app simple cmd m words name value is matches same =
 pub fails_as_shown : (kinds : Kinds) (error shown : Error) → HasKind kinds error → kind_of shown ≡ kind_of error → HasKind kinds shown
 fails_as_shown kinds error shown (inl memory) same = inl (same ∙ memory)
 fails_as_shown kinds error shown (inr among) same = inr (subst (λ (k : ErrorKind). IsAmong k kinds) (sym same) among)
+
+-- if the words are right, an error says that memory was refused
+pub no_answer_if_right : (kinds : Kinds) (error : Error) → kinds ≡ [] → HasKind kinds error → IsNoAnswer error
+no_answer_if_right kinds error none (inl memory) = record {
+  no_help = λ help. let bad = sym memory ∙ help in cc;
+  no_version = λ version. let bad = sym memory ∙ version in cc;
+}
+no_answer_if_right kinds error none (inr among) = absurd (subst (IsAmong (kind_of error)) none among)

@@ -1,28 +1,13 @@
 -- What generic code did to a writer that was lent, it did to the writer.
 use Rattle.std.proofs.Common.{◌≡◌, ℕ, Bool, List, [], ◌∷◌, None, Some, Result, Ok, Err, option_map, ap, sym, subst}
 use Rattle.std.proofs.KnownBytes.{Appends-nil}
-use Rattle.std.specs.Io.KnownBytes.{Appends, Keeps, WriteAppends}
+use Rattle.std.specs.Io.KnownBytes.{Appends, Keeps}
 use Rattle.exectrace.specs.{Sink.Tape, declared.sinks.SinkState.SinkState, declared.sinks.SinkState.TheVariants.Good}
 use Rattle.script.specs.{File.MachineData, declared.event.Event.Event}
 use Rattle.taskscript.specs.{File.file_of, Events.script_of, declared.fault.FileFault.FileFault, declared.fault.EventFault.EventFault}
 use Rattle.execsim.specs.{Headline.Simulates, declared.simulation.End.End, declared.simulation.SimFault.SimFault}
 use Rattle.execsim.specs.declared.simulation.SimFault.TheVariants as fault
 use Rattle.execrun.specs.{Lending.named, Running.Held, Running.WritesTrace, Running.answer_of, declared.fault.Fault.Fault}
-
-pub Keeps-named : (name : ℕ) (old new : Held) → Keeps old new → Keeps (named name old) (named name new)
-Keeps-named name None new p = tt
-Keeps-named name (Some xs) None p = absurd p
-Keeps-named name (Some xs) (Some ys) p = ap (λ zs. name ∷ zs) p
-
-pub Appends-named : (name : ℕ) (old new : Held) (bytes : List ℕ) → Appends old new bytes → Appends (named name old) (named name new) bytes
-Appends-named name None new bytes p = tt
-Appends-named name (Some xs) None bytes p = absurd p
-Appends-named name (Some xs) (Some ys) bytes p = ap (λ zs. name ∷ zs) p
-
-pub WriteAppends-named : {E : Type 0} (name : ℕ) (old new : Held) (result : Result ℕ E) (bytes : List ℕ) → WriteAppends old new result bytes
-    → WriteAppends (named name old) (named name new) result bytes
-WriteAppends-named name old new (Ok n) bytes p = Appends-named name old new _ p
-WriteAppends-named name old new (Err why) bytes p = Keeps-named name old new p
 
 abbrev tail : List ℕ → List ℕ
 tail [] = []

@@ -1,9 +1,11 @@
 -- The command line of the program: two words that are paths.
 use Rattle.std.specs.Prelude.{◌≡◌, ◌≢◌, ◌∷◌, [], Bool, List, true, Some, is_some, codes}
-use Rattle.clap.specs.Words.{App, Rule, Text, IsParsedFrom, app_of, fault_of, first_of, first_value, found_of, matches_of, new_app, new_rule, with_rule}
+use Rattle.clap.specs.Words.{App, Rule, Text, IsParsedFrom, app_of, fault_of, first_of, first_value, found_of, kind_of, matches_of, new_app, new_rule, with_rule}
+use Rattle.clap.specs.declared.error.Error.{Error}
 use Rattle.clap.specs.declared.error.kind.ErrorKind.{ErrorKind}
 use Rattle.clap.specs.declared.error.kind.ErrorKind.TheVariants.{DisplayHelp, DisplayVersion}
-use Rattle.clap.specs.declared.builder.action.ArgAction.TheVariants.{Set}
+use Rattle.clap.specs.declared.builder.action.ArgAction.{ArgAction}
+use Rattle.clap.specs.declared.builder.action.ArgAction.TheVariants.{Set, SetTrue}
 use Rattle.clap.specs.declared.builder.command.Command.{Command}
 use Rattle.clap.specs.declared.parser.matches.ArgMatches.{ArgMatches}
 use Rattle.execrun.specs.declared.command_line.Paths.{Paths}
@@ -11,6 +13,14 @@ use Rattle.execrun.specs.declared.command_line.Paths.{Paths}
 -- a word, which has to be given if it is required
 abbrev pub path_rule : Text → Bool → Rule
 path_rule name required = record (new_rule name) { required = required; action = Some Set }
+
+-- an option that takes no value
+abbrev pub flag_rule : Text → Rule
+flag_rule name = record (new_rule name) { long = Some name; action = Some SetTrue }
+
+-- an option that takes one
+abbrev pub option_rule : Text → ArgAction → Rule
+option_rule name action = record (new_rule name) { long = Some name; action = Some action; value_names = 1 }
 
 -- a program of this name, whose words begin with no name of it
 abbrev pub nameless_app : Text → App
@@ -48,3 +58,8 @@ pub record AreRefused (app : App) (words : List Text) : Type 0 where
   pub only : fault_of app words ≡ kind ∷ []
   pub no_help : kind ≢ DisplayHelp
   pub no_version : kind ≢ DisplayVersion
+
+-- this error of `clap` is no answer that was asked for
+pub record IsNoAnswer (error : Error) : Type 0 where
+  pub no_help : kind_of error ≢ DisplayHelp
+  pub no_version : kind_of error ≢ DisplayVersion

@@ -3,10 +3,10 @@ use Rattle.std.proofs.Common.{◌≡◌, ℕ, true, false, Option, None, Some, r
 use Rattle.memlist.specs.Fit.{avail}
 use Rattle.script.specs.declared.word.memory.MemoryWord.TheVariants as words
 use Rattle.execmodel.specs.Memory.{has_only, alloc_bits, can_be_asked, allocates_block, block_at, extents, is_named, place_for, placed, freed, alloc_alert, does_memory, memory_deed}
-use Rattle.execmodel.specs.{State.Call, State.Memory, State.Object, State.Plain, State.State, State.Outcome, State.on_memory, Calls.argument, Calls.done, Calls.answered, Calls.alerted, Deeds.performs, GivingWay.after_asking}
-use Rattle.execmodel.proofs.{Deeds.allotting, GivingWay.asking_keeps}
+use Rattle.execmodel.specs.{State.Call, State.Memory, State.Object, State.Plain, State.State, State.Outcome, State.on_memory, Calls.argument, Calls.done, Calls.answered, Calls.alerted, Deeds.performs, LowMemory.after_asking}
+use Rattle.execmodel.proofs.{Deeds.allotting, LowMemory.asking_keeps}
 use Rattle.execsim.specs.Agreement.{Seen, Follows, queues_in_order}
-use Rattle.execsim.proofs.{GivingWay.asking-in_order, Following.reads_memory, Following.moves_memory, Following.follows_as, Following.follows_change}
+use Rattle.execsim.proofs.{LowMemory.asking-in_order, Following.reads_memory, Following.moves_memory, Following.follows_as, Following.follows_change}
 use Rattle.exectrace.specs.Hearing.{Hearing}
 use Rattle.script.specs.declared.alert.Alert.TheVariants as an_alert
 
@@ -36,7 +36,7 @@ module _ {H : Hearing} {m n : Seen} {a b : H.Told} (t : ℕ) (call : Call) where
       (follows_change (moves_memory (placed size Plain place) (placed size Plain place) (placed-in_order size Plain place) is) follows)
 
 module _ {H : Hearing} {m n o : Seen} {a b : H.Told} (t : ℕ) (call : Call) where
-  -- libraries are expunged under low memory, and then the block is taken
+  -- libraries are asked for memory, and then the block is taken
   pub alloc_tried : (place : Option ℕ) → has_only alloc_bits (argument 1 call) ≡ true
       → place ≡ place_for (argument 0 call) (argument 1 call) (after_asking (argument 0 call) (argument 1 call) m.memory)
       → n ≡ record m { memory = placed (argument 0 call) Plain place (after_asking (argument 0 call) (argument 1 call) m.memory) }

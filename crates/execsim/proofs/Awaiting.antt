@@ -4,7 +4,7 @@ use Rattle.exectrace.specs.Sink.{Puts, Tape}
 use Rattle.exectrace.specs.Putting.{puts_then}
 use Rattle.scheduler.specs.Schedule.{Schedule}
 use Rattle.execmodel.specs.State.{Scripts}
-use Rattle.execsim.specs.Standing.{wait_text, waits_text}
+use Rattle.execsim.specs.WaitingLines.{wait_text, waits_text}
 
 -- one more task
 pub next_wait : {a b c : Tape} (t : ℕ) (s : Schedule) (scripts : Scripts) → Puts a b (waits_text t s scripts) → Puts b c (wait_text t s scripts) → Puts a c (waits_text (t + 1) s scripts)

@@ -10,7 +10,7 @@ use Rattle.script.specs.declared.word.task_signals.SignalWord.TheVariants as sig
 use Rattle.script.specs.declared.word.interrupts.InterruptWord.TheVariants as interrupts
 use Rattle.script.specs.declared.command.Argument.TheVariants as arguments
 use Rattle.script.specs.declared.word.plain.PlainWord.TheVariants as plain
-use Rattle.execmodel.specs.{State.Timer as Clock, State.Bodies, State.Call, State.Scripts, State.State, State.quiet, State.says, State.andthen, State.unless_stopped, State.on_scripts, Bodies.body_step, Bodies.does_in_body, Bodies.does_plain_by, Bodies.does_word_by, Bodies.runs_body, Calls.Caller, Calls.ByBody, Calls.argument, Calls.call_in_body, Calls.done_by, Calls.evaluated_in_body, Calls.name_in, Calls.argument_number, Calls.silent_by, Calls.stored_shared, Causing.does_cause_by, Pending.softint_named, Signals.is_mask, Signals.is_task, Signals.does_signal_by, Interrupts.runs_server, Interrupts.server_at, Interrupts.softint_at}
+use Rattle.execmodel.specs.{State.Timer as Clock, State.Bodies, State.Call, State.Scripts, State.State, State.quiet, State.prints_line, State.andthen, State.unless_stopped, State.on_scripts, Bodies.body_step, Bodies.does_in_body, Bodies.does_plain_by, Bodies.does_word_by, Bodies.runs_body, Calls.Caller, Calls.ByBody, Calls.argument, Calls.call_in_body, Calls.done_by, Calls.evaluated_in_body, Calls.name_in, Calls.argument_number, Calls.silent_by, Calls.stored_shared, Causing.does_cause_by, Pending.softint_number, Signals.is_mask, Signals.is_task, Signals.does_signal_by, Interrupts.runs_server, Interrupts.server_at, Interrupts.softint_at}
 use Rattle.execsim.specs.{declared.bodies.Body.Body, Actions.caused, Actions.does_at_place, Actions.softint_body, Agreement.Seen, Agreement.Agrees, Agreement.Follows, Agreement.Quietly, Views.code_of_body}
 use Rattle.execsim.proofs.Following.{andthen-assoc, andthen-quiet, andthen-second, follows_as, follows_known, follows_nothing, quietly_as, quietly_moves, follows_says, follows_then, guarded_going, moves_scripts, reads_scripts}
 use Rattle.execsim.proofs.{Caused.caused_done, Caused.one_only, Keeping.body_keeps, Signalling.signal_sent}
@@ -127,13 +127,13 @@ named_alone command one is scripts = argument_alone command arguments.Quoted sho
 
 -- Cause, of a name, prints the line of its call, and the software interrupt of that name is caused
 pub caused_as : {H : Hearing} {m n : Seen} {a b : H.Told} (name own : List ℕ) (call : Call) (i : ℕ) → call.word ≡ Interrupts interrupts.Cause
-    → call.arguments ≡ Quoted own ∷ [] → i ≡ softint_named own m.bodies.softints
+    → call.arguments ≡ Quoted own ∷ [] → i ≡ softint_number own m.bodies.softints
     → H.hears a b ((trace.Call name (codes "Cause") (Quoted own ∷ []) trace.Done) ∷ []) → n ≡ caused i m → Follows H (does_in_body name call) m n a b
 unfolding does_in_body
 caused_as {H} {m} {n} {a} {b} name own call i is alone named puts moved = follows_as {g = does_cause_by (ByBody name) call}
     (λ s e. ap (λ w. does_word_by w (ByBody name) call s) is)
     (caused_done (ByBody name) call i
-    (named ∙ ap (λ (l : List trace.Argument). softint_named (unwrap_or (name_in (slice_get l 0)) []) m.bodies.softints) (sym alone)) moved
+    (named ∙ ap (λ (l : List trace.Argument). softint_number (unwrap_or (name_in (slice_get l 0)) []) m.bodies.softints) (sym alone)) moved
     (follows_says _ (subst (λ w. H.hears a b ((trace.Call name (word_text w) call.arguments trace.Done) ∷ [])) (sym is)
     (subst (λ (l : List trace.Argument). H.hears a b ((trace.Call name (codes "Cause") l trace.Done) ∷ [])) (sym alone) puts))))
 
@@ -186,14 +186,14 @@ module _ {H : Hearing} {m n : Seen} {a b c : H.Told} where
   pub softint_as : (i : ℕ) → H.hears a b ((Softint (softint_at i m.bodies).name) ∷ [])
       → Follows H (runs_body (softint_at i m.bodies).name (softint_at i m.bodies).code) m n b c → Follows H (softint_body i) m n a c
   softint_as i puts follows = follows_as
-      {g = andthen (says (Softint (softint_at i m.bodies).name)) (runs_body (softint_at i m.bodies).name (softint_at i m.bodies).code)}
-      (λ s e. ap (λ (x : Bodies). andthen (says (Softint (softint_at i x).name)) (runs_body (softint_at i x).name (softint_at i x).code) s) (sym e.bodies))
+      {g = andthen (prints_line (Softint (softint_at i m.bodies).name)) (runs_body (softint_at i m.bodies).name (softint_at i m.bodies).code)}
+      (λ s e. ap (λ (x : Bodies). andthen (prints_line (Softint (softint_at i x).name)) (runs_body (softint_at i x).name (softint_at i x).code) s) (sym e.bodies))
       (follows_then (follows_says _ puts) follows)
 
   pub server_as : (k : ℕ) → H.hears a b ((Server (server_at k m.bodies).name) ∷ [])
       → Follows H (runs_body (server_at k m.bodies).name (server_at k m.bodies).code) m n b c → Follows H (runs_server k) m n a c
   unfolding runs_server
   server_as k puts follows = follows_as
-      {g = andthen (says (Server (server_at k m.bodies).name)) (runs_body (server_at k m.bodies).name (server_at k m.bodies).code)}
-      (λ s e. ap (λ (x : Bodies). andthen (says (Server (server_at k x).name)) (runs_body (server_at k x).name (server_at k x).code) s) (sym e.bodies))
+      {g = andthen (prints_line (Server (server_at k m.bodies).name)) (runs_body (server_at k m.bodies).name (server_at k m.bodies).code)}
+      (λ s e. ap (λ (x : Bodies). andthen (prints_line (Server (server_at k x).name)) (runs_body (server_at k x).name (server_at k x).code) s) (sym e.bodies))
       (follows_then (follows_says _ puts) follows)

@@ -4,7 +4,7 @@ use Rattle.std.specs.List.{list_any, position_or_len}
 use Rattle.std.proofs.lemmas.{List.get_or_default, List.length-map, List.map_push, List.take-map, List.take_more, List.Sums.position_or_len_is, List.Sums.prefix_len-le-length, Slice.Eq.bytes_eq-Decides}
 use Rattle.std.proofs.Math.ListN.{get_or-map as default_map}
 use Rattle.script.specs.{File.SoftintData, Machines.softint_names}
-use Rattle.execmodel.specs.{Interrupts.no_softint, Pending.softint_named}
+use Rattle.execmodel.specs.{Interrupts.no_softint, Pending.softint_number}
 
 no_bytes : (n x : List ℕ) → n ≢ x → bytes_eq n x ≡ false
 no_bytes n x other = by_case (bytes_eq n x) refl where
@@ -23,7 +23,7 @@ place_named name names i differ within here = sym (position_or_len_is (bytes_eq 
 
 -- a software interrupt that has the name
 pub softint_placed : (softints : List SoftintData) (i : ℕ) (name : List ℕ) → AllPairs (λ s t. s ≢ t) (softint_names softints) → i < length softints
-    → (get_or softints i no_softint).name ≡ name → i ≡ softint_named name softints
+    → (get_or softints i no_softint).name ≡ name → i ≡ softint_number name softints
 softint_placed softints i name differ within is =
     let inside : i < length (map (λ (s : SoftintData). s.name) softints) = rw length-map within in
     place_named name (map (λ (s : SoftintData). s.name) softints) i differ inside

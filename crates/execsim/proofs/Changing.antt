@@ -6,10 +6,10 @@ use Rattle.exectrace.specs.Trace as trace
 use Rattle.script.specs.declared.variable.Variable.TheVariants.{Private, Shared}
 use Rattle.script.specs.{declared.command.Argument.Argument, declared.command.Command.Command, Commands.ArgumentData, Commands.CommandData, Commands.argument_view, Commands.command_view, Words.word_text, declared.variable.Variable.Variable, declared.word.Word.TheVariants.Plain}
 use Rattle.script.specs.declared.word.plain.PlainWord.TheVariants as word
-use Rattle.scheduler.specs.Schedule.{name_of}
+use Rattle.scheduler.specs.Schedule.{task_name}
 use Rattle.execmodel.specs.{State.Call, State.Scripts, State.State, State.program_of, Calls.argument, Calls.call_of, Calls.done, Calls.evaluated, Calls.goes_on, Calls.next_call, Calls.argument_number, Calls.silent, Calls.stored, Plain.does_set, Plain.does_add, Plain.does_sub, Plain.does_and, Plain.does_or, Plain.jumps, Plain.does_jump, Plain.does_jump_zero, Plain.does_jump_not_zero, Plain.does_print, Step.call_step, Step.does, Step.does_word, Step.task_step}
 use Rattle.execsim.specs.{Changes.PutsPrint, Changes.changes, Agreement.Seen, Agreement.Follows, Agreement.Quietly, Agreement.line_seen, declared.change.Change.Change}
-use Rattle.execsim.proofs.{Calling.map-map_as, Calling.next-command, Caused.one_only, Endings.follows_done, Following.moves_scripts, Following.follows_as, Following.quietly_as, Following.quietly_moves, Following.reads_scripts, Stepping.task_step_as}
+use Rattle.execsim.proofs.{Calling.map-map_as, Calling.next-command, Caused.one_only, Endings.follows_done, Following.follows_as, Following.quietly_as, Following.reads_scripts, Stepping.task_step_as}
 use Rattle.exectrace.specs.Hearing.{Hearing}
 
 -- what is done next, if it is a command
@@ -84,12 +84,6 @@ module _ (t : ℕ) (call : Call) (first second : ℕ) (one : first ≡ argument 
       ∙ ap (λ p. jumps t p s) (sym (p ∙ ap (λ x. if nat_eq x 0 then call.next else second) one
       ∙ ap (λ y. if nat_eq (argument 0 call) 0 then call.next else y) two))
 
-pub follows_changes : {m n o : Seen} (t : ℕ) (change : Change) → n ≡ record m { scripts = stored t change.target change.value m.scripts }
-    → o ≡ record n { scripts = goes_on t change.next n.scripts } → Quietly (changes t change) m o
-follows_changes t change first is = quietly_moves
-    (moves_scripts (λ scripts. goes_on t change.next (stored t change.target change.value scripts))
-    (is ∙ ap (λ (x : Seen). record x { scripts = goes_on t change.next x.scripts }) first))
-
 -- a task that does a plain word does its next call
 pub changed_as : {m n : Seen} (t : ℕ) (change : Change) → ((s : State) → call_step t (next_call t m.scripts) s ≡ changes t change s)
     → Quietly (changes t change) m n → Quietly (task_step (Some t)) m n
@@ -106,15 +100,15 @@ tasks_after t (Some (Shared v)) value next scripts = simp length-set refl
 -- ---- Print
 
 -- the line of a Print, by the parts that are put
-pub print_line : (t next : ℕ) (command : Command) (m : Seen) {name : List ℕ} {shown : List trace.Argument} → name ≡ name_of m.schedule t
+pub print_line : (t next : ℕ) (command : Command) (m : Seen) {name : List ℕ} {shown : List trace.Argument} → name ≡ task_name m.schedule t
     → command.word ≡ Plain word.Print
     → shown ≡ map (λ a. evaluated t m.scripts (argument_view command.name.bytes a)) (take command.count command.arguments)
     → trace.Call name (codes "Print") shown Done ≡ line_seen t (call_of t next (command_view command) m.scripts) Done m
 unfolding call_of
 print_line t next command m {shown = shown} named prints values =
     ap (λ x. trace.Call x (codes "Print") shown Done) named
-    ∙ ap (λ w. trace.Call (name_of m.schedule t) (word_text w) shown Done) (sym prints)
-    ∙ ap (λ x. trace.Call (name_of m.schedule t) (word_text command.word) x Done)
+    ∙ ap (λ w. trace.Call (task_name m.schedule t) (word_text w) shown Done) (sym prints)
+    ∙ ap (λ x. trace.Call (task_name m.schedule t) (word_text command.word) x Done)
     (values ∙ map-map_as (evaluated t m.scripts) (argument_view command.name.bytes) (take command.count command.arguments))
 
 -- the value of the only argument of a command

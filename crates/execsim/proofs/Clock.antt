@@ -10,8 +10,8 @@ use Rattle.softint.specs.{declared.source.Source.Source, declared.source.Source.
 use Rattle.scheduler.specs.{declared.Switch.Switch as Choice, Dispatch.switch_of, Dispatch.rescheduled}
 use Rattle.scheduler.specs.declared.Switch.TheVariants as switch
 use Rattle.execmodel.specs.{State.Bodies, State.Call, State.Mark, State.Memory, State.State, State.Outcome, State.Timer as Clock, State.andthen, State.quiet, State.on_memory, State.on_schedule, State.on_timer, Keeping.clock_alone, Step.ends, Step.switches, Step.announced, Step.steps, Step.request, Step.tick, Step.ticks, Step.starts, Step.event, Step.events}
-use Rattle.timerdev.specs.Timing.{ticked}
-use Rattle.execmodel.proofs.{Itself.does_itself, Itself.word_itself, Itself.word_keeps, Stretches.HoldsOfEach, Stretches.HoldsOfInterrupts, Stretches.of_request, Stretches.of_starts, Stretches.of_steps}
+use Rattle.timerdev.specs.Timing.{clock_ticked}
+use Rattle.execmodel.proofs.{WithoutFinishing.does_itself, WithoutFinishing.word_itself, WithoutFinishing.word_keeps, Stretches.HoldsOfEach, Stretches.HoldsOfInterrupts, Stretches.of_request, Stretches.of_starts, Stretches.of_steps}
 use Rattle.execsim.specs.{Agreement.Seen, Agreement.Agrees, Agreement.FollowsWhileGood, Reached.IsReached, Reached.after_start, Time.HasTimeFor, Time.IsInTime}
 use Rattle.execsim.proofs.{Following.good_before, Keeping.finish_keeps, Keeping.keeps_step, Reached.ticks_reached, Reached.events_reached}
 use Rattle.exectrace.specs.Hearing.{Hearing}
@@ -102,7 +102,7 @@ unfolding tick
 tick_gains s = by_stopped s.stopped
   where
     moved : State
-    moved = on_memory (on_timer ticked) s
+    moved = on_memory (on_timer clock_ticked) s
 
     by_stopped : (stopped : Bool) → Gains 1 s (cond stopped (quiet s) (request Vertb moved)).state
     by_stopped true = record { micros = refl; clock = omega arith }

@@ -3,15 +3,15 @@ use Rattle.std.proofs.Common.{◌≡◌, ℕ, List, true, refl, ap, ◌∙◌, �
 use Rattle.exectrace.specs.Trace.{Done, Answers, Waits}
 use Rattle.exectrace.specs.Trace as trace
 use Rattle.script.specs.{Alerts.alert_text, Words.word_text}
-use Rattle.scheduler.specs.Schedule.{name_of}
+use Rattle.scheduler.specs.Schedule.{task_name}
 use Rattle.execmodel.specs.{State.Call, State.State, Calls.stored, Calls.goes_on, Calls.keeps, Calls.line_of_call, Calls.done, Calls.answered, Calls.waiting, Calls.silent, Calls.alerted}
 use Rattle.execsim.specs.Agreement.{Seen, Agrees, Follows, Quietly, line_seen}
 use Rattle.execsim.proofs.Following.{reads_schedule, moves_scripts, moves_stopped, follows_saying, quietly_moves}
 use Rattle.exectrace.specs.Hearing.{Hearing}
 use Rattle.script.specs.declared.alert.Alert.{Alert}
 
-name_same : {m : Seen} (t : ℕ) (s : State) → Agrees m s → name_of s.schedule t ≡ name_of m.schedule t
-name_same t s a = reads_schedule (λ y. name_of y t) (λ y. refl) refl s a
+name_same : {m : Seen} (t : ℕ) (s : State) → Agrees m s → task_name s.schedule t ≡ task_name m.schedule t
+name_same t s a = reads_schedule (λ y. task_name y t) (λ y. refl) refl s a
 
 line_same : {m : Seen} (t : ℕ) (call : Call) (outcome : trace.CallEnd) (s : State) → Agrees m s → line_of_call t call outcome s ≡ line_seen t call outcome m
 line_same t call outcome s a = ap (λ name. trace.Call name (word_text call.word) call.arguments outcome) (name_same t s a)
@@ -39,7 +39,7 @@ quietly_silent t call value first is = quietly_moves
     (moves_scripts (λ scripts. goes_on t call.next (stored t call.target value scripts)) (is ∙ ap (λ (x : Seen). record x { scripts = goes_on t call.next x.scripts }) first))
 
 pub follows_alerted : {H : Hearing} {m n : Seen} {a b : H.Told} (code : Alert) (t : ℕ) (call : Call) → n ≡ record m { stopped = true }
-    → H.hears a b ((trace.Alert (alert_text code) (name_of m.schedule t) (word_text call.word)) ∷ []) → Follows H (alerted code t call) m n a b
+    → H.hears a b ((trace.Alert (alert_text code) (task_name m.schedule t) (word_text call.word)) ∷ []) → Follows H (alerted code t call) m n a b
 unfolding alerted
 follows_alerted code t call is puts = follows_saying _
     (λ s a. ap (λ name. trace.Alert (alert_text code) name (word_text call.word)) (name_same t s a)) puts (moves_stopped true is)

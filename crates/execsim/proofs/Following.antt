@@ -3,7 +3,7 @@ use Rattle.std.proofs.Common.{◌≡◌, ◌≢◌, ℕ, List, [], ◌∷◌, �
 use Rattle.execlist.specs.Disciplines.{by_arrival, by_priority}
 use Rattle.exectrace.specs.Trace.{TraceLine}
 use Rattle.scheduler.specs.Schedule.{Schedule}
-use Rattle.execmodel.specs.State.{State, Bodies, Scripts, Memory, Pending, Outcome, Mark, leaving, quiet, says, andthen, unless_stopped, on_schedule, on_scripts, on_memory, on_pending}
+use Rattle.execmodel.specs.State.{State, Bodies, Scripts, Memory, Pending, Outcome, Mark, leaving, quiet, prints_line, andthen, unless_stopped, on_schedule, on_scripts, on_memory, on_pending}
 use Rattle.execmodel.specs.Pending.{causes, caused_no_more, with_caused, with_latch_of}
 use Rattle.softint.specs.declared.source.Source.{Source}
 use Rattle.execsim.specs.Agreement.{Seen, Agrees, Follows, Quietly, FollowsWhileGood, Moves, in_order, queues_in_order, caused_in_order}
@@ -136,10 +136,6 @@ follows_as is follows = record {
 pub follows_known : {H : Hearing} {f : State → Outcome} {m n : Seen} {a b : H.Told} → ((s : State) → Agrees m s → Follows H f m n a b) → Follows H f m n a b
 follows_known follows = record { agrees = λ s e. (follows s e).agrees s e; prints = λ s e. (follows s e).prints s e }
 
--- nothing is printed
-pub follows_quietly : {H : Hearing} {f : State → State} {m n : Seen} (t : H.Told) → Moves f m n → Follows H (λ s. quiet (f s)) m n t t
-follows_quietly {H} t moves = record { agrees = moves.agrees; prints = λ s e. H.none t }
-
 -- one that says nothing, whoever listens
 pub follows_silence : {H : Hearing} {f : State → Outcome} {m n : Seen} (t : H.Told) → Quietly f m n → Follows H f m n t t
 follows_silence {H} t quietly = record {
@@ -161,14 +157,14 @@ follows_nothing {H} m t = record { agrees = λ s e. e; prints = λ s e. H.none t
 
 -- one line is printed, which is the same in each state that is agreed with
 pub follows_saying : {H : Hearing} {f : State → State} {line : State → TraceLine} {m n : Seen} {a b : H.Told} (said : TraceLine)
-    → ((s : State) → Agrees m s → line s ≡ said) → H.hears a b (said ∷ []) → Moves f m n → Follows H (λ s. says (line s) (f s)) m n a b
+    → ((s : State) → Agrees m s → line s ≡ said) → H.hears a b (said ∷ []) → Moves f m n → Follows H (λ s. prints_line (line s) (f s)) m n a b
 follows_saying {H} {a = a} {b = b} said same puts moves = record {
   agrees = moves.agrees;
   prints = λ s e. subst (λ l. H.hears a b (l ∷ [])) (sym (same s e)) puts;
 }
 
 -- one line is printed, and nothing else is done
-pub follows_says : {H : Hearing} {m : Seen} {a b : H.Told} (line : TraceLine) → H.hears a b (line ∷ []) → Follows H (says line) m m a b
+pub follows_says : {H : Hearing} {m : Seen} {a b : H.Told} (line : TraceLine) → H.hears a b (line ∷ []) → Follows H (prints_line line) m m a b
 follows_says {H} {m} line puts = follows_saying line (λ s e. refl) puts (moves_nowhere m)
 
 -- a change of the state, and then an action

@@ -11,7 +11,7 @@ use Rattle.msgport.specs.{declared.action.Action.Action, Port.arrival_action}
 use Rattle.msgport.specs.declared.action.Action.TheVariants as action
 use Rattle.execlist.specs.Order.{first}
 use Rattle.execmodel.specs.Requests.{acting_at, answering_port, ended, ends_with, finishes, finishes_all_due, finishes_each, with_reply}
-use Rattle.execmodel.specs.{Keeping.clock_alone, State.Bodies, State.Call, State.Timer as Clock, State.State, State.Outcome, State.quiet, State.says, State.andthen, State.unless_stopped, State.on_memory, State.on_heap, Bodies.body_step, Bodies.does_in_body, Bodies.does_interrupts_by, Bodies.does_plain_by, Bodies.does_ports_by, Bodies.does_signals_by, Bodies.does_word_by, Bodies.runs_body, Calls.ByBody, Calls.argument, Calls.call_in_body, Calls.unless_by, Interrupts.finishes_for, Interrupts.runs_server, Interrupts.server_at, Pending.causes, Ports.content_of, Ports.delivered, Ports.messages_of, Ports.performed, Ports.port_alert, Ports.port_of, Ports.posted, Ports.put_alert, Ports.replied_by, Ports.reply_alert, Ports.taken_by, Signals.signal_alert}
+use Rattle.execmodel.specs.{Keeping.clock_alone, State.Bodies, State.Call, State.Timer as Clock, State.State, State.Outcome, State.quiet, State.prints_line, State.andthen, State.unless_stopped, State.on_memory, State.on_heap, Bodies.body_step, Bodies.does_in_body, Bodies.does_interrupts_by, Bodies.does_plain_by, Bodies.does_ports_by, Bodies.does_signals_by, Bodies.does_word_by, Bodies.runs_body, Calls.ByBody, Calls.argument, Calls.call_in_body, Calls.unless_by, Interrupts.finishes_for, Interrupts.runs_server, Interrupts.server_at, Pending.causes, Ports.content_of, Ports.delivered, Ports.messages_of, Ports.performed, Ports.port_alert, Ports.port_of, Ports.posted, Ports.put_alert, Ports.replied_by, Ports.reply_alert, Ports.taken_by, Signals.signal_alert}
 use Rattle.timerdev.specs.Timing.{due_next}
 use Rattle.softint.specs.declared.source.Source.{Source}
 use Rattle.softint.specs.declared.source.Source.TheVariants as source
@@ -111,7 +111,7 @@ keeps_ended request s = refl
 pub finish_keeps : (request : ℕ) → Holds (finishes request)
 unfolding finishes
 finish_keeps request s =
-    kept_reply (answering_port request s.memory.heap) request (says (Timer request) (ends_with (pos 0) request s))
+    kept_reply (answering_port request s.memory.heap) request (prints_line (Timer request) (ends_with (pos 0) request s))
     ∙ keeps_performed (acting_at (answering_port request s.memory.heap) s.memory.heap) (on_memory (ended (pos 0) request) s)
     ∙ keeps_ended request s
 

@@ -16,7 +16,7 @@ pub mod Endings
 pub mod Fed
 pub mod Following
 pub mod Forbidding
-pub mod GivingWay
+pub mod LowMemory
 pub mod Keeping
 pub mod Listing
 pub mod Obtaining

@@ -1,12 +1,12 @@
 -- How the machine follows the words of lists and nodes.
 use Rattle.std.proofs.Common.{◌≡◌, ℕ, [], Bool, false, true, Option, None, Some, List, refl, ap, sym, ◌∙◌, Result, Ok, Err, IfOk, OnOk, OnErr, codes, w32, unwrap_or}
 use Rattle.std.specs.Int.{cast_signed}
-use Rattle.execmodel.specs.{State.Call, State.Heap, State.ListHead, State.Memory, State.Node, State.Object, State.State, State.Outcome, State.on_memory, Calls.Caller, Calls.ByTask, Calls.unless, Calls.unless_by, Calls.argument, Calls.name_argument, Calls.done, Calls.answered, Calls.alerted, Calls.alerted_by, Memory.allocates_block, Memory.makes_object, Memory.placed, GivingWay.after_asking_for_object, Objects.place_for_object, Deeds.makes, Lists.does_lists, Lists.is_list, Lists.is_node, Lists.list_deed, Lists.list_size, Lists.new_node_alert, Lists.node_size, Tasks.is_priority}
+use Rattle.execmodel.specs.{State.Call, State.Heap, State.ListHead, State.Memory, State.Node, State.Object, State.State, State.Outcome, State.on_memory, Calls.Caller, Calls.ByTask, Calls.unless, Calls.unless_by, Calls.argument, Calls.name_argument, Calls.done, Calls.answered, Calls.alerted, Calls.alerted_by, Memory.allocates_block, Memory.makes_object, Memory.placed, LowMemory.after_asking_for_object, Objects.place_for_object, Deeds.makes, Lists.does_lists, Lists.is_list, Lists.is_node, Lists.list_deed, Lists.list_size, Lists.new_node_alert, Lists.node_size, Tasks.is_priority}
 use Rattle.script.specs.declared.word.lists.ListWord.TheVariants as lists
 use Rattle.execmodel.proofs.Deeds.{making}
 use Rattle.execheap.specs.{declared.refusal.Refusal.Refusal, Refusals.alert_of, Refusals.code_of}
 use Rattle.execsim.specs.{Agreement.Seen, Agreement.Follows, Agreement.queues_in_order, Endings.done_or_alerted, Endings.answered_or_alerted}
-use Rattle.execsim.proofs.{Allocating.placed-in_order, Following.reads_memory, Following.moves_memory, Following.follows_as, Following.follows_change, GivingWay.asking_for_object-in_order}
+use Rattle.execsim.proofs.{Allocating.placed-in_order, Following.reads_memory, Following.moves_memory, Following.follows_as, Following.follows_change, LowMemory.asking_for_object-in_order}
 use Rattle.exectrace.specs.Hearing.{Hearing}
 use Rattle.script.specs.declared.alert.Alert.TheVariants as an_alert
 use Rattle.script.specs.declared.alert.Alert.{Alert}
@@ -115,7 +115,7 @@ module _ {H : Hearing} {m n o : Seen} {a b : H.Told} (t : ℕ) (call : Call) whe
       (follows_change (moves_memory (placed size object place) (placed size object place) (placed-in_order size object place) is) follows)
 
 module _ {H : Hearing} {m n o : Seen} {a b : H.Told} (t : ℕ) (call : Call) where
-  -- libraries are expunged under low memory to an object, and then it is made
+  -- libraries are asked for memory for an object, and then it is made
   pub follows_made : (kind : Object → Bool) (size : ℕ) (object : Object) (place : Option ℕ)
       → place ≡ place_for_object kind size (after_asking_for_object kind size m.memory)
       → n ≡ record m { memory = placed size object place (after_asking_for_object kind size m.memory) }

@@ -4,7 +4,7 @@ use Rattle.execlist.specs.Disciplines.{by_arrival, by_priority}
 use Rattle.scheduler.specs.{Schedule.Schedule, Schedule.waits_at_semaphore, Dispatch.arrives}
 use Rattle.sigsem.specs.{Semaphores.free_sem, Semaphores.is_free_for, Semaphores.outcome_for, declared.semaphore.Obtained.Obtained, declared.semaphore.Obtained.TheVariants.Waits}
 use Rattle.execmodel.specs.Semaphores.{attempted, heir, is_semaphore, is_tried_again, obtain_alert, obtained, obtains, passes, release_alert, released, sem_of, semaphore_size}
-use Rattle.execmodel.specs.{State.Call, State.Heap, State.Memory, State.State, State.Outcome, State.Semaphore, State.asked, State.passed, State.on_schedule, State.on_memory, State.on_heap, Calls.unless, Calls.argument, Calls.done, Calls.answered, Calls.waiting, Calls.alerted, Memory.placed, GivingWay.after_asking_for_object, Objects.place_for_object}
+use Rattle.execmodel.specs.{State.Call, State.Heap, State.Memory, State.State, State.Outcome, State.Semaphore, State.asked, State.passed, State.on_schedule, State.on_memory, State.on_heap, Calls.unless, Calls.argument, Calls.done, Calls.answered, Calls.waiting, Calls.alerted, Memory.placed, LowMemory.after_asking_for_object, Objects.place_for_object}
 use Rattle.execmodel.specs.Semaphores as model
 use Rattle.execheap.specs.{declared.refusal.Refusal.Refusal, Refusals.alert_of, Refusals.code_of}
 use Rattle.execsim.specs.{Actions.obtains_or_alerted, Actions.passes_or_alerted, Agreement.Seen, Agreement.Follows, Agreement.in_order}

@@ -6,7 +6,7 @@ use Rattle.execmodel.specs.{State.Call, State.Library, State.Memory, State.on_me
 use Rattle.execlib.specs.Libraries.{public_memory}
 use Rattle.execheap.specs.{declared.refusal.Refusal.Refusal, Refusals.alert_of}
 use Rattle.execsim.specs.{Agreement.Seen, Agreement.Follows, Agreement.queues_in_order, Endings.done_or_alerted}
-use Rattle.execsim.proofs.{Allocating.placed-in_order, Following.reads_memory, Following.moves_memory, Following.follows_as, Following.follows_change, GivingWay.asking-in_order, GivingWay.freed_or-in_order, Listing.heap_changed}
+use Rattle.execsim.proofs.{Allocating.placed-in_order, Following.reads_memory, Following.moves_memory, Following.follows_as, Following.follows_change, LowMemory.asking-in_order, LowMemory.freed_or-in_order, Listing.heap_changed}
 use Rattle.exectrace.specs.Hearing.{Hearing}
 
 -- ---- the order of the public ports is of no account
@@ -15,7 +15,7 @@ loading-in_order : (base : Option ℕ) (i : ℕ) (y : Memory) → ready_to_load 
 loading-in_order (Some base) i y = refl
 loading-in_order None i y = asking-in_order (library_at i y).size public_memory y
 
--- the memory before an opening, if libraries were expunged under low memory
+-- the memory before an opening, if libraries were asked for memory
 ready-in_order : (found : Option ℕ) (y : Memory) → ready_to_open found (queues_in_order y) ≡ queues_in_order (ready_to_open found y)
 unfolding ready_to_open
 ready-in_order None y = refl

@@ -7,7 +7,7 @@ use Rattle.execlist.specs.{Lists.times, Order.order, Order.first, Order.enqueue,
 use Rattle.execlist.proofs.OrderLaws.{order_takes, order_leaves_out, first_of_order, order_reads_keys, order_rekeyed}
 use Rattle.taskq.specs.Tasks.{is_ready, is_live}
 use Rattle.signals.specs.Signals.{after_post}
-use Rattle.scheduler.specs.Schedule.{Schedule, status_of, signals_of, with_priority, with_signals, switch_for, renewed, begins, is_absent, leaves, departs, removed, awaits, is_interrupting_allowed, ticked_for, quantum_ticked}
+use Rattle.scheduler.specs.Schedule.{Schedule, status_of, signals_of, with_priority, with_signals, switch_for, renewed, begins, is_absent, leaves, departs, task_removed, awaits, is_interrupting_allowed, ticked_for, quantum_ticked}
 use Rattle.scheduler.specs.Dispatch.{arrives, switch_of, displaced, after_switch, rescheduled, added, reprioritized, signalled}
 use Rattle.scheduler.specs.{declared.Switch.Switch, declared.Switch.TheVariants.To, declared.Switch.TheVariants.Idle}
 use Rattle.script.specs.File.{SoftintData}
@@ -83,9 +83,9 @@ pub leaves-in_order : (t : ℕ) (y : Schedule) → leaves t (in_order y) ≡ in_
 unfolding leaves
 leaves-in_order t y = refl
 
-pub removed-in_order : (t : ℕ) (y : Schedule) → removed t (in_order y) ≡ in_order (removed t y)
-unfolding removed
-removed-in_order t y = ap (λ ready. with_ready ready (removed t y)) (sym (order_leaves_out ℕ (pri_at y.queue.pris) (λ x. not (x == t)) y.queue.ready))
+pub removed-in_order : (t : ℕ) (y : Schedule) → task_removed t (in_order y) ≡ in_order (task_removed t y)
+unfolding task_removed
+removed-in_order t y = ap (λ ready. with_ready ready (task_removed t y)) (sym (order_leaves_out ℕ (pri_at y.queue.pris) (λ x. not (x == t)) y.queue.ready))
 
 times_put : (key : ℕ → ℤ) (n : ℕ) (ys : List ℕ) (x : ℕ) → times n (enqueue key ys x) ≡ times n (x ∷ ys)
 times_put key n [] x = refl

@@ -6,7 +6,7 @@ use Rattle.std.proofs.lemmas.List.{get_or_past}
 use Rattle.execlist.specs.{Order.order, Order.enqueue, Order.is_lower, Disciplines.by_priority}
 use Rattle.execlist.proofs.OrderLaws.{order_takes, order_leaves_out, found_in_order}
 use Rattle.taskq.specs.{Tasks.is_live, declared.TaskState.TheVariants.Absent}
-use Rattle.scheduler.specs.{Schedule.Schedule, Schedule.status_of, Schedule.frees, Dispatch.signalled}
+use Rattle.scheduler.specs.{Schedule.Schedule, Schedule.status_of, Schedule.frees_signal, Dispatch.signalled}
 use Rattle.execmodel.specs.{State.Memory, State.PublicPort, Ports.add_port_alert, Ports.delete_alert, Ports.found_port, Ports.is_called, Ports.is_public, Ports.made_private, Ports.made_public, Ports.port_or_none, Ports.priority_of_public, Ports.rem_port_alert, Ports.under}
 use Rattle.execheap.specs.Listing.{listed}
 use Rattle.execsim.specs.Agreement.{queues_in_order}
@@ -89,6 +89,6 @@ pub signalled_past : (t mask : ℕ) (s : Schedule) → length s.queue.states ≤
 unfolding signalled
 signalled_past t mask s past = rw (not_live t s past) refl
 
-pub frees_past : (t n : ℕ) (s : Schedule) → length s.queue.states ≤ t → frees t n s ≡ s
-unfolding frees
+pub frees_past : (t n : ℕ) (s : Schedule) → length s.queue.states ≤ t → frees_signal t n s ≡ s
+unfolding frees_signal
 frees_past t n s past = rw (not_live t s past) refl

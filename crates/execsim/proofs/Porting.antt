@@ -4,17 +4,17 @@ use Rattle.std.specs.Int.{cast_signed}
 use Rattle.memlist.proofs.Answered.{nat_eq-other}
 use Rattle.execlist.specs.{Order.first, Disciplines.by_arrival, Disciplines.by_priority}
 use Rattle.signals.specs.Signals.{grant}
-use Rattle.scheduler.specs.Schedule.{Schedule, signals_of, allocates, clears_and_waits, frees, sets_signals, takes, waits_for}
+use Rattle.scheduler.specs.Schedule.{Schedule, signals_of, allocates_signal, clears_and_waits, frees_signal, sets_signals, takes_signals, waits_for}
 use Rattle.scheduler.specs.Dispatch.{signalled}
 use Rattle.msgport.specs.{declared.action.Action.Action, declared.action.PortAction.TheVariants.Cause, Port.arrival_action, Port.new_port, Ports.new_message, Ports.nt_freemsg, Ports.nt_message, Ports.nt_replymsg}
 use Rattle.msgport.specs.declared.action.Action.TheVariants as action
 use Rattle.execmodel.specs.Ports.{content_of, is_called, is_message, is_port, is_port_at, messages_of, message_size, port_of, port_or_none, port_size, posted, taken_off, typed}
-use Rattle.execmodel.specs.{State.Call, State.Message, State.MsgPort, State.Memory, State.State, State.Outcome, State.put, State.got, State.leaving, State.on_schedule, State.on_memory, State.on_heap, Calls.Caller, Calls.unless, Calls.argument, Calls.name_argument, Calls.done, Calls.done_by, Calls.answered, Calls.answered_by, Calls.waiting, Calls.alerted, Memory.freed, Memory.placed, GivingWay.after_asking_for_object, Objects.place_for_object, Lists.or_none, Pending.softint_named, Tasks.is_priority}
+use Rattle.execmodel.specs.{State.Call, State.Message, State.MsgPort, State.Memory, State.State, State.Outcome, State.put, State.got, State.leaving, State.on_schedule, State.on_memory, State.on_heap, Calls.Caller, Calls.unless, Calls.argument, Calls.name_argument, Calls.done, Calls.done_by, Calls.answered, Calls.answered_by, Calls.waiting, Calls.alerted, Memory.freed, Memory.placed, LowMemory.after_asking_for_object, Objects.place_for_object, Lists.or_none, Pending.softint_number, Tasks.is_priority}
 use Rattle.execmodel.specs.Ports as model
 use Rattle.execheap.specs.{declared.refusal.Refusal.Refusal, Listing.listed, Listing.replied_by, Listing.replying, Refusals.alert_of, Refusals.code_of}
 use Rattle.execsim.specs.{Actions.given_back_or_alerted, Actions.performed, Actions.performed_or_alerted_by, Agreement.Seen, Agreement.Follows, Agreement.Moves, Agreement.in_order, Endings.answered_or_alerted_by, Endings.done_or_alerted}
 use Rattle.execsim.proofs.Following.{reads_schedule, reads_memory, reads_bodies, moves_schedule, moves_caused, moves_nowhere, moves_memory, follows_as, follows_change, follows_leaving}
-use Rattle.execsim.proofs.{GivingWay.asking_for_object-in_order, Listing.follows_allowed, Listing.follows_allowed_by, Listing.follows_made, Listing.follows_refused, Listing.follows_refused_by, Listing.heap_changed, Listing.room-in_order, Ordering.signalled-in_order, PortOrder.add_port_alert-in_order, PortOrder.delete_alert-in_order, PortOrder.found-in_order, PortOrder.listed-in_order, Signalling.allocates-in_order, Signalling.frees-in_order, Signalling.sets_signals-in_order}
+use Rattle.execsim.proofs.{LowMemory.asking_for_object-in_order, Listing.follows_allowed, Listing.follows_allowed_by, Listing.follows_made, Listing.follows_refused, Listing.follows_refused_by, Listing.heap_changed, Listing.room-in_order, Ordering.signalled-in_order, PortOrder.add_port_alert-in_order, PortOrder.delete_alert-in_order, PortOrder.found-in_order, PortOrder.listed-in_order, Signalling.allocates-in_order, Signalling.frees-in_order, Signalling.sets_signals-in_order}
 use Rattle.exectrace.specs.Hearing.{Hearing}
 use Rattle.script.specs.declared.alert.Alert.TheVariants as an_alert
 
@@ -31,7 +31,7 @@ module _ {H : Hearing} {m : Seen} {a b : H.Told} (t : ℕ) (call : Call) where
       rw same refl)
       follows
 
-  -- the caller has that signal left, and libraries are expunged under low memory for its port
+  -- the caller has that signal left, and libraries are asked for memory for its port
   asked_first : {n : Seen} (bit : ℕ) → Some bit ≡ grant (negsuc 0) (signals_of m.schedule t)
       → Follows H (model.makes_port t call (Some bit)) (record m { memory = after_asking_for_object is_port port_size m.memory }) n a b
       → Follows H (model.does_create_msg_port t call) m n a b
@@ -57,17 +57,17 @@ full t call bit none follows = follows_as {g = answered t call 0}
 -- the caller has that signal left, and there is room for its port
 port_made : {H : Hearing} {m n o p : Seen} {a b : H.Told} (t : ℕ) (call : Call) (bit port : ℕ) → Some port ≡ place_for_object is_port port_size m.memory
     → n ≡ record m { memory = placed port_size (MsgPort (new_port t bit) []) (Some port) m.memory }
-    → o ≡ record n { schedule = allocates t (negsuc 0) n.schedule }
+    → o ≡ record n { schedule = allocates_signal t (negsuc 0) n.schedule }
     → Follows H (answered t call port) o p a b → Follows H (model.makes_port t call (Some bit)) m p a b
 port_made t call bit port room is next follows =
     let made = placed port_size (MsgPort (new_port t bit) []) (Some port) in
-    follows_as {g = λ s. answered t call port (on_schedule (allocates t (negsuc 0)) (on_memory made s))}
+    follows_as {g = λ s. answered t call port (on_schedule (allocates_signal t (negsuc 0)) (on_memory made s))}
     (λ s e.
     let same : place_for_object is_port port_size s.memory ≡ Some port =
     reads_memory (place_for_object is_port port_size) (room-in_order is_port port_size) (sym room) s e in
     rw same refl)
     (follows_change (moves_memory made made (λ y. refl) is)
-    (follows_change (moves_schedule (allocates t (negsuc 0)) (allocates t (negsuc 0)) (allocates-in_order t (negsuc 0)) next) follows))
+    (follows_change (moves_schedule (allocates_signal t (negsuc 0)) (allocates_signal t (negsuc 0)) (allocates-in_order t (negsuc 0)) next) follows))
 
 module _ {H : Hearing} {m n o : Seen} {a b : H.Told} (t : ℕ) (call : Call) where
   pub created_without_room : (bit : ℕ) → Some bit ≡ grant (negsuc 0) (signals_of m.schedule t)
@@ -79,7 +79,7 @@ module _ {H : Hearing} {m n o : Seen} {a b : H.Told} (t : ℕ) (call : Call) whe
   pub created : {p : Seen} (bit port : ℕ) → Some bit ≡ grant (negsuc 0) (signals_of m.schedule t)
       → Some port ≡ place_for_object is_port port_size (after_asking_for_object is_port port_size m.memory)
       → n ≡ record m { memory = placed port_size (MsgPort (new_port t bit) []) (Some port) (after_asking_for_object is_port port_size m.memory) }
-      → o ≡ record n { schedule = allocates t (negsuc 0) n.schedule }
+      → o ≡ record n { schedule = allocates_signal t (negsuc 0) n.schedule }
       → Follows H (answered t call port) o p a b → Follows H (model.does_create_msg_port t call) m p a b
   created bit port some room is next follows = asked_first t call bit some (port_made t call bit port room is next follows)
 
@@ -114,7 +114,7 @@ module _ {H : Hearing} {m : Seen} {a b : H.Told} (t : ℕ) (call : Call) where
           → Follows H (λ s. unless (model.delete_alert (argument 0 call) s.memory) t call effect s) m n a b
       by_result (Ok owner) says task bit changed kept follows =
           follows_allowed t call (model.delete_alert (argument 0 call)) (delete_alert-in_order (argument 0 call)) effect says (follows_as
-          {g = λ s. done t call (on_schedule (frees owner.0 owner.1) (on_memory (freed (argument 0 call)) s))}
+          {g = λ s. done t call (on_schedule (frees_signal owner.0 owner.1) (on_memory (freed (argument 0 call)) s))}
           (λ s e.
           let its_task : (port_of (argument 0 call) s.memory.heap).task ≡ owner.0 =
           reads_memory (λ memory. (port_of (argument 0 call) memory.heap).task) (λ y. refl) (sym task) s e in
@@ -127,10 +127,10 @@ module _ {H : Hearing} {m : Seen} {a b : H.Told} (t : ℕ) (call : Call) where
           follows_refused t call (model.delete_alert (argument 0 call)) (delete_alert-in_order (argument 0 call)) effect why says (rw kept at follows)
 
 -- what is given back, from a machine with that memory
-pub gives_back_done : {H : Hearing} {m n o : Seen} {a b : H.Told} (t : ℕ) (call : Call) (owner : ℕ × ℕ) → n ≡ record m { schedule = frees owner.0 owner.1 m.schedule }
+pub gives_back_done : {H : Hearing} {m n o : Seen} {a b : H.Told} (t : ℕ) (call : Call) (owner : ℕ × ℕ) → n ≡ record m { schedule = frees_signal owner.0 owner.1 m.schedule }
     → Follows H (done t call) n o a b → Follows H (given_back_or_alerted (Ok owner) t call) m o a b
 gives_back_done t call owner is follows =
-    follows_change (moves_schedule (frees owner.0 owner.1) (frees owner.0 owner.1) (frees-in_order owner.0 owner.1) is) follows
+    follows_change (moves_schedule (frees_signal owner.0 owner.1) (frees_signal owner.0 owner.1) (frees-in_order owner.0 owner.1) is) follows
 
 -- ---- public ports
 
@@ -191,13 +191,13 @@ set_to t call i s = unless (model.port_alert (argument 0 call) s.memory.heap) t 
     (λ s. done t call (on_memory (on_heap (model.with_action (Cause i) (argument 0 call))) s)) s
 
 pub cause_set : {H : Hearing} {m o : Seen} {a b : H.Told} (t : ℕ) (call : Call) (i : ℕ) (x : Memory) (result : Result (Unit {0}) Refusal)
-    → i ≡ softint_named (unwrap_or (name_argument 1 call) []) m.bodies.softints → alert_of result ≡ model.port_alert (argument 0 call) m.memory.heap
+    → i ≡ softint_number (unwrap_or (name_argument 1 call) []) m.bodies.softints → alert_of result ≡ model.port_alert (argument 0 call) m.memory.heap
     → OnOk result (x ≡ on_heap (model.with_action (Cause i) (argument 0 call)) m.memory) → OnErr result (x ≡ m.memory)
     → Follows H (done_or_alerted result t call) (record m { memory = x }) o a b → Follows H (model.does_port_cause t call) m o a b
 unfolding model.does_port_cause
 cause_set t call i x result named says changed kept follows = follows_as
     {g = set_to t call i}
-    (λ s e. ap (λ k. set_to t call k s) (reads_bodies (λ bodies. softint_named (unwrap_or (name_argument 1 call) []) bodies.softints) (sym named) s e))
+    (λ s e. ap (λ k. set_to t call k s) (reads_bodies (λ bodies. softint_number (unwrap_or (name_argument 1 call) []) bodies.softints) (sym named) s e))
     (heap_changed t call (model.port_alert (argument 0 call)) (on_heap (model.with_action (Cause i) (argument 0 call))) (λ y. refl) x result says changed kept follows)
 
 -- ---- messages made
@@ -316,7 +316,7 @@ module _ {H : Hearing} {m o : Seen} {a b : H.Told} (c : Caller) (call : Call) wh
 -- ---- waiting
 
 clears_and_waits-in_order : (t mask : ℕ) (y : Schedule) → clears_and_waits t mask (in_order y) ≡ in_order (clears_and_waits t mask y)
-unfolding waits_for takes
+unfolding waits_for takes_signals
 clears_and_waits-in_order t mask y = refl
 
 -- a task that loses signals goes on running

@@ -8,12 +8,12 @@ use Rattle.scheduler.specs.Schedule.{sets_signals}
 use Rattle.msgport.specs.declared.action.Action.{Action}
 use Rattle.iorequest.specs.declared.request.ReqState.TheVariants.{Idle, UnderWay, Quick, Replied}
 use Rattle.iorequest.specs.declared.request.Begun.TheVariants.{Finish, NewTime, Queue, Until}
-use Rattle.iorequest.specs.Request.{begun, done_state, due_of, error_of, finished, idle_request, is_to_wait, is_under_way, is_until, is_way, sets_time, time_of}
+use Rattle.iorequest.specs.Request.{in_progress, done_state, due_of, error_of, finished, idle_request, is_to_wait, is_under_way, is_until, is_way, sets_time, time_of}
 use Rattle.iorequest.specs.{declared.request.Request.Request as TimerRequest, declared.request.ReqState.ReqState, declared.request.Begun.Begun, Requests.unit_error}
-use Rattle.execmodel.specs.State.{Call, Heap, Memory, Object, Request, State, Outcome, Timer as Clock, Waiting, quiet, says, andthen, out, on_memory, on_heap, on_timer}
+use Rattle.execmodel.specs.State.{Call, Heap, Memory, Object, Request, State, Outcome, Timer as Clock, Waiting, quiet, prints_line, andthen, out, on_memory, on_heap, on_timer}
 use Rattle.execmodel.specs.Requests.{acting_at, answering_port, appended_at, begun_at, ended, error_word, finished_at, finishes, finishes_all_due, finishes_each, finishes_set, heap_begun, is_request, is_request_at, looks_for, replying_port, reply_taken, request_alert, request_of, request_of_object, request_size, resting_alert, set_io_alert, under_way, where_port, with_reply, with_request}
-use Rattle.execmodel.specs.{Calls.argument, Calls.name_argument, Calls.unless, Calls.done, Calls.answered, Calls.alerted, Memory.freed, Memory.makes_object, Memory.placed, GivingWay.after_asking_for_object, Objects.is_kind, Objects.object_at, Objects.place_for_object, Objects.replaced, Ports.loses, Ports.looked, Ports.performed, Ports.port_alert, Ports.port_of, Semaphores.is_tried_again}
-use Rattle.timerdev.specs.Timing.{due_next, has_come, is_system, looked_at, next_of, sooner, until_next}
+use Rattle.execmodel.specs.{Calls.argument, Calls.name_argument, Calls.unless, Calls.done, Calls.answered, Calls.alerted, Memory.freed, Memory.makes_object, Memory.placed, LowMemory.after_asking_for_object, Objects.is_kind, Objects.object_at, Objects.place_for_object, Objects.replaced, Ports.loses, Ports.looked, Ports.performed, Ports.port_alert, Ports.port_of, Semaphores.is_tried_again}
+use Rattle.timerdev.specs.Timing.{due_next, is_due, is_system, looked_at, next_of, sooner, until_next}
 use Rattle.execmodel.specs.Requests as model
 use Rattle.execmodel.proofs.Heaps.{instead, object_replaced}
 use Rattle.execheap.specs.Listing.{aborted, aborting, acting_begun, acting_finished, awaited_for, ended_if, finishing, taken_by_state, taken_if_replied}
@@ -93,7 +93,7 @@ creates t call s = unless (port_alert (argument 0 call) s.memory.heap) t call
     (λ s. makes_object t call is_request request_size (Request (idle_request (argument 0 call)))
     (on_memory (after_asking_for_object is_request request_size) s)) s
 
--- a command that fits is no alert
+-- a command that fits is not an alert
 set_alert-inside : (command request : ℕ) → nat_lt command 65536 ≡ true → (heap : Heap) → set_io_alert command request heap ≡ resting_alert request heap
 unfolding set_io_alert resting_alert
 set_alert-inside command request inside heap = rw inside refl
@@ -308,8 +308,8 @@ module _ (request : ℕ) (memory : Memory) (there : is_request_at request memory
   abbrev going : Heap
   going = under_way true memory.timer.system request memory.heap
 
-  goes : request_of request going ≡ begun true memory.timer.system asks
-  goes = holds_given request (begun true memory.timer.system asks) memory.heap there
+  goes : request_of request going ≡ in_progress true memory.timer.system asks
+  goes = holds_given request (in_progress true memory.timer.system asks) memory.heap there
 
   ends_quick : (error : ℤ) → is_to_wait memory.timer.system asks ≡ false
       → (request_of request (finished_at error request going)).state ≡ Quick
@@ -321,7 +321,7 @@ module _ (request : ℕ) (memory : Memory) (there : is_request_at request memory
       (with_request request (finished error (request_of request going)) going))).state) quick
       ∙ ap (λ (p : TimerRequest). p.state)
       (holds_given request (finished error (request_of request going)) going
-      (stays_request request (begun true memory.timer.system asks) memory.heap there))
+      (stays_request request (in_progress true memory.timer.system asks) memory.heap there))
       ∙ ap done_state quick
 
   -- its state, if it goes on so
@@ -582,12 +582,12 @@ TakesOne next = (timer : Clock) (request : ℕ) → next timer ≡ Some request
 
 pub due_takes_one : TakesOne due_next
 unfolding due_next next_of
-due_takes_one timer request is = less_left (sooner timer) (λ (w : Waiting). has_come timer w.due) timer.waiting request is
+due_takes_one timer request is = less_left (sooner timer) (λ (w : Waiting). is_due timer w.due) timer.waiting request is
 
 pub until_takes_one : TakesOne until_next
 unfolding until_next next_of
 until_takes_one timer request is =
-    less_left (sooner timer) (λ (w : Waiting). is_system w.due && has_come timer w.due) timer.waiting request is
+    less_left (sooner timer) (λ (w : Waiting). is_system w.due && is_due timer w.due) timer.waiting request is
 
 -- ---- all of them
 

@@ -2,7 +2,7 @@
 use Rattle.std.proofs.Common.{◌≡◌, ℕ, zero, suc, ◌+◌, ◌≤◌, Bool, true, false, cond, not, ◌&&◌, ◌||◌, ◌==◌, nat_lt, List, [], ◌∷◌, length, drop, Option, None, Some, refl, ap, sym, ◌∙◌, subst, arith, ℤ, if◌then◌else◌, is_some, slice_get, ne_eqb}
 use Rattle.std.specs.List.{list_any}
 use Rattle.exectrace.specs.{Trace.Serve}
-use Rattle.execlist.specs.{Lists.times, Order.chosen, Order.enqueue, Order.first, Order.without, Disciplines.pri_at, Disciplines.by_priority}
+use Rattle.execlist.specs.{Lists.times, Order.chosen, Order.enqueue, Order.first, Order.without_item, Disciplines.pri_at, Disciplines.by_priority}
 use Rattle.execlist.proofs.OrderLaws.{first_of_order}
 use Rattle.script.specs.File.{ServerData}
 use Rattle.scheduler.specs.Schedule.{Schedule}
@@ -10,7 +10,7 @@ use Rattle.softint.specs.{declared.source.Source.Source, Sources.highest, Interr
 use Rattle.softint.specs.Interrupts as ints
 use Rattle.softint.specs.Sources.{source_text}
 use Rattle.execmodel.specs.Interrupts.{by_choice, chain_of, serving_counted, finishes_for, interrupts, runs_chain, runs_server, server_at, server_pri, servers_for, serves, servings}
-use Rattle.execmodel.specs.{State.Bodies, State.Pending, State.Timer as Clock, State.State, State.Outcome, State.quiet, State.says, State.andthen, State.unless_stopped, State.on_pending, State.on_schedule, Pending.allows_interrupts, Pending.is_caused, Pending.next_softint, Pending.next_source, Pending.softint_pri, Pending.with_caused, Pending.with_latch_of}
+use Rattle.execmodel.specs.{State.Bodies, State.Pending, State.Timer as Clock, State.State, State.Outcome, State.quiet, State.prints_line, State.andthen, State.unless_stopped, State.on_pending, State.on_schedule, Pending.allows_interrupts, Pending.is_caused, Pending.next_softint, Pending.next_source, Pending.softint_pri, Pending.with_caused, Pending.with_latch_of}
 use Rattle.execsim.specs.{Actions.served, Actions.softint_seen, Actions.source_seen, Agreement.Seen, Agreement.Agrees, Agreement.Follows, Agreement.Moves, Views.IsFor}
 use Rattle.execsim.proofs.Following.{follows_as, follows_change, follows_known, follows_nothing, follows_says, follows_then, guarded_going, guarded_stopped, moves_latch, moves_schedule}
 use Rattle.execsim.proofs.{Keeping.finishing_keeps, Keeping.server_keeps, Ordering.allowed-in_order, Ordering.counted-in_order}
@@ -83,9 +83,9 @@ drop_some (x ∷ xs) (suc n) k e = drop_some xs n k e
 chain_within : (n : ℕ) (key : ℕ → ℤ) (left : List ℕ) → length (by_choice n key left) ≤ n
 unfolding by_choice
 chain_within zero key left = omega arith
-chain_within (suc n) key left = by_case (λ k. chain_within n key (without k left)) (chosen key left) where
-  by_case : ((k : ℕ) → length (by_choice n key (without k left)) ≤ n) → (k : Option ℕ)
-      → length (elim k as (λ (x : Option ℕ). List ℕ) [ None ↦ [] | Some k ↦ k ∷ by_choice n key (without k left) ]) ≤ suc n
+chain_within (suc n) key left = by_case (λ k. chain_within n key (without_item k left)) (chosen key left) where
+  by_case : ((k : ℕ) → length (by_choice n key (without_item k left)) ≤ n) → (k : Option ℕ)
+      → length (elim k as (λ (x : Option ℕ). List ℕ) [ None ↦ [] | Some k ↦ k ∷ by_choice n key (without_item k left) ]) ≤ suc n
   by_case ih None = omega arith
   by_case ih (Some k) = let rest = ih k in omega (arith, rest)
 
@@ -204,9 +204,9 @@ pub serves_with : {H : Hearing} {m n o p : Seen} {a b c d : H.Told} (asks : Sour
     → Follows H (runs_chain (chain_of asks o.bodies.servers)) o p c d → Follows H (served asks) m p a d
 serves_with {H} {m} {n} {o} {p} {a} {b} {c} {d} asks is puts finishes follows =
     follows_known (λ s e. follows_as
-    {g = λ s. andthen (says (Serve (source_text asks))) (andthen (finishes_for asks) (runs_chain (chain_of asks o.bodies.servers)))
+    {g = λ s. andthen (prints_line (Serve (source_text asks))) (andthen (finishes_for asks) (runs_chain (chain_of asks o.bodies.servers)))
     (on_schedule (serving_counted asks) s)}
-    (λ s e. ap (λ (x : Bodies). andthen (says (Serve (source_text asks))) (andthen (finishes_for asks) (runs_chain (chain_of asks x.servers)))
+    (λ s e. ap (λ (x : Bodies). andthen (prints_line (Serve (source_text asks))) (andthen (finishes_for asks) (runs_chain (chain_of asks x.servers)))
     (on_schedule (serving_counted asks) s)) (sym (same_bodies s e)))
     (follows_change counts (follows_then (follows_says _ puts) (follows_then finishes follows))))
   where

@@ -4,7 +4,7 @@ use Rattle.std.specs.Int.{cast_signed, cast_unsigned}
 use Rattle.execlist.specs.Disciplines.{by_arrival, by_priority}
 use Rattle.signals.specs.Signals.{taken_signals, grant, grant_number, is_own_signal, after_free}
 use Rattle.taskq.specs.Tasks.{is_live}
-use Rattle.scheduler.specs.Schedule.{Schedule, signals_of, come_for, after_wait, waits_for, takes, allocates, frees, sets_signals, status_of, with_signals}
+use Rattle.scheduler.specs.Schedule.{Schedule, signals_of, come_for, after_wait, waits_for, takes_signals, allocates_signal, frees_signal, sets_signals, status_of, with_signals}
 use Rattle.scheduler.specs.Dispatch.{signalled}
 use Rattle.execmodel.specs.{State.Call, State.on_schedule, Calls.Caller, Calls.argument, Calls.done, Calls.done_by, Calls.answered, Calls.alerted, Calls.alerted_by, Signals.is_task, Signals.is_mask, Signals.does_alloc_signal, Signals.does_free_signal, Signals.does_set_signal, Signals.does_signal_by, Signals.waited, Signals.does_wait}
 use Rattle.execsim.specs.Agreement.{Seen, Follows, in_order}
@@ -12,25 +12,25 @@ use Rattle.execsim.proofs.{Following.reads_schedule, Following.reads_scripts, Fo
 use Rattle.exectrace.specs.Hearing.{Hearing}
 use Rattle.script.specs.declared.alert.Alert.TheVariants as an_alert
 
-pub allocates-in_order : (t : ℕ) (n : ℤ) (y : Schedule) → allocates t n (in_order y) ≡ in_order (allocates t n y)
-unfolding allocates
+pub allocates-in_order : (t : ℕ) (n : ℤ) (y : Schedule) → allocates_signal t n (in_order y) ≡ in_order (allocates_signal t n y)
+unfolding allocates_signal
 allocates-in_order t n y = refl
 
 pub sets_signals-in_order : (t new mask : ℕ) (y : Schedule) → sets_signals t new mask (in_order y) ≡ in_order (sets_signals t new mask y)
 unfolding sets_signals
 sets_signals-in_order t new mask y = refl
 
-pub frees-in_order : (t n : ℕ) (y : Schedule) → frees t n (in_order y) ≡ in_order (frees t n y)
-unfolding frees
+pub frees-in_order : (t n : ℕ) (y : Schedule) → frees_signal t n (in_order y) ≡ in_order (frees_signal t n y)
+unfolding frees_signal
 frees-in_order t n y = by_test (is_live (status_of y t)) (with_signals t (after_free n (signals_of y t)) y) y _ _ refl refl
 
 pub allocated : {H : Hearing} {m n o : Seen} {a b : H.Told} (t : ℕ) (call : Call) (signal : ℕ)
     → signal ≡ cast_unsigned w32 (grant_number (grant (cast_signed w32 (argument 0 call)) (signals_of m.schedule t)))
-    → n ≡ record m { schedule = allocates t (cast_signed w32 (argument 0 call)) m.schedule }
+    → n ≡ record m { schedule = allocates_signal t (cast_signed w32 (argument 0 call)) m.schedule }
     → Follows H (answered t call signal) n o a b → Follows H (does_alloc_signal t call) m o a b
 unfolding does_alloc_signal
 allocated {H} {m} t call signal given is follows =
-    let change = allocates t (cast_signed w32 (argument 0 call)) in
+    let change = allocates_signal t (cast_signed w32 (argument 0 call)) in
     follows_as {g = λ s. answered t call signal (on_schedule change s)}
     (λ s e. ap (λ value. answered t call value (on_schedule change s))
     (reads_schedule (λ y. cast_unsigned w32 (grant_number (grant (cast_signed w32 (argument 0 call)) (signals_of y t)))) (λ y. refl) (sym given) s e))
@@ -47,10 +47,10 @@ module _ {H : Hearing} {m n : Seen} {a b : H.Told} (t : ℕ) (call : Call) where
   free_other some other follows = follows_as (λ s e. rw (some, other) refl) follows
 
   pub free_own : {o : Seen} → nat_eq (argument 0 call) 0xffffffff ≡ false → is_own_signal (argument 0 call) ≡ true
-      → n ≡ record m { schedule = frees t (argument 0 call) m.schedule } → Follows H (done t call) n o a b → Follows H (does_free_signal t call) m o a b
+      → n ≡ record m { schedule = frees_signal t (argument 0 call) m.schedule } → Follows H (done t call) n o a b → Follows H (does_free_signal t call) m o a b
   unfolding does_free_signal
-  free_own some own is follows = follows_as {g = λ s. done t call (on_schedule (frees t (argument 0 call)) s)} (λ s e. rw (some, own) refl)
-      (follows_change (moves_schedule (frees t (argument 0 call)) (frees t (argument 0 call)) (frees-in_order t (argument 0 call)) is) follows)
+  free_own some own is follows = follows_as {g = λ s. done t call (on_schedule (frees_signal t (argument 0 call)) s)} (λ s e. rw (some, own) refl)
+      (follows_change (moves_schedule (frees_signal t (argument 0 call)) (frees_signal t (argument 0 call)) (frees-in_order t (argument 0 call)) is) follows)
 
   pub set_unmasked : is_mask (argument 1 call) ≡ false → Follows H (alerted an_alert.Mask t call) m n a b → Follows H (does_set_signal t call) m n a b
   unfolding does_set_signal
@@ -92,8 +92,8 @@ module _ {H : Hearing} {m n : Seen} {a b : H.Told} (c : Caller) (call : Call) wh
       (follows_change (moves_schedule (signalled by_arrival (argument 0 call - 1) (argument 1 call)) (signalled by_priority (argument 0 call - 1) (argument 1 call)) (signalled-in_order (argument 0 call - 1) (argument 1 call)) is) follows)
 
 after_wait-in_order : (t mask : ℕ) (y : Schedule) → after_wait t mask (in_order y) ≡ in_order (after_wait t mask y)
-unfolding waits_for takes
-after_wait-in_order t mask y = by_test (nat_eq (taken_signals mask (signals_of y t)) 0) (waits_for t mask y) (takes t mask y) _ _ refl refl
+unfolding waits_for takes_signals
+after_wait-in_order t mask y = by_test (nat_eq (taken_signals mask (signals_of y t)) 0) (waits_for t mask y) (takes_signals t mask y) _ _ refl refl
 
 pub wait_tried : {H : Hearing} {m n o : Seen} {a b : H.Told} (t : ℕ) (call : Call) (answer : Option ℕ) → is_mask (argument 0 call) ≡ true
     → answer ≡ come_for (argument 0 call) (signals_of m.schedule t) → n ≡ record m { schedule = after_wait t (argument 0 call) m.schedule }

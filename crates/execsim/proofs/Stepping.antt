@@ -5,12 +5,12 @@ use Rattle.execlist.specs.Disciplines.{by_arrival, by_priority}
 use Rattle.exectrace.specs.{Trace.Value, Trace.Done}
 use Rattle.exectrace.specs.Trace as trace
 use Rattle.script.specs.{declared.event.Event.Event, declared.word.Word.Word, declared.word.Word.TheVariants.Requests, declared.word.requests.RequestWord.RequestWord}
-use Rattle.scheduler.specs.{Schedule.name_of, Schedule.leaves, declared.Switch.Switch as Choice, Dispatch.switch_of, Dispatch.rescheduled, Dispatch.added}
+use Rattle.scheduler.specs.{Schedule.task_name, Schedule.leaves, declared.Switch.Switch as Choice, Dispatch.switch_of, Dispatch.rescheduled, Dispatch.added}
 use Rattle.scheduler.specs.declared.Switch.TheVariants as switch
 use Rattle.softint.specs.{declared.source.Source.Source, declared.source.Source.TheVariants.Vertb}
-use Rattle.execmodel.specs.Step.{announced, switches, settle, does, does_word, ends, call_step, task_step, softint_or_task_step, acting, acts, step, steps, request, tick, ticks, started, all_added, starts, event, events}
+use Rattle.execmodel.specs.Step.{announced, switches, settle, does, does_word, ends, call_step, task_step, softint_or_task_step, step_action, acts, step, steps, request, tick, ticks, started, all_added, starts, event, events}
 use Rattle.execmodel.specs.{State.Call, State.Scripts, State.State, State.quiet, State.andthen, State.program_of, State.on_schedule, State.on_memory, State.on_timer, State.on_pending, State.unless_stopped, Calls.next_call, Interrupts.interrupts, Interrupts.runs_softint, Pending.caused_no_more, Pending.with_latch_of, Requests.does_requests, Requests.finishes_set}
-use Rattle.timerdev.specs.Timing.{ticked}
+use Rattle.timerdev.specs.Timing.{clock_ticked}
 use Rattle.execsim.specs.{Actions.running_task_step, Actions.softint_body, Actions.softint_seen, Agreement.Seen, Agreement.Follows, Agreement.FollowsWhileGood, Agreement.Moves}
 use Rattle.execsim.proofs.Following.{andthen-assoc, andthen-quiet, andthen-second, reads_schedule, reads_scripts, reads_stopped, moves_schedule, moves_memory, moves_latch, moves_taken_off, moves_nowhere, moves_then, follows_as, follows_nothing, follows_saying, follows_change, follows_then, follows_nothing_yet, while_good_as, while_good_then}
 use Rattle.execsim.proofs.{Ordering.by_test, Ordering.switch_of-in_order, Ordering.rescheduled-in_order, Ordering.added-in_order, Ordering.leaves-in_order, Serving.softint_same}
@@ -50,10 +50,10 @@ asks_and_sets is t call word asks sets = follows_as {g = andthen (does_requests 
     (λ s e. ap (λ (w : Word). does_word w t call s) word) (follows_then asks sets)
 
 pub ends_as : {H : Hearing} {m n : Seen} {a b : H.Told} (t : ℕ) → n ≡ record m { schedule = leaves t m.schedule }
-    → H.hears a b ((trace.Call (name_of m.schedule t) (codes "RemTask") (Value 0 ∷ []) Done) ∷ []) → Follows H (ends t) m n a b
+    → H.hears a b ((trace.Call (task_name m.schedule t) (codes "RemTask") (Value 0 ∷ []) Done) ∷ []) → Follows H (ends t) m n a b
 unfolding ends
 ends_as {H} {m} t is puts = follows_saying _
-    (λ s e. ap (λ name. trace.Call name (codes "RemTask") (Value 0 ∷ []) Done) (reads_schedule (λ y. name_of y t) (λ y. refl) refl s e)) puts
+    (λ s e. ap (λ name. trace.Call name (codes "RemTask") (Value 0 ∷ []) Done) (reads_schedule (λ y. task_name y t) (λ y. refl) refl s e)) puts
     (moves_schedule (leaves t) (leaves t) (leaves-in_order t) is)
 
 -- what runs does its next call
@@ -71,14 +71,14 @@ running_none {H} {m} t none = running_as None none (follows_nothing m t)
 
 -- a software interrupt runs, or else what runs does its next call
 pub acting_softint : {H : Hearing} {m n o : Seen} {a b : H.Told} (i : ℕ) → Some i ≡ softint_seen m → n ≡ record m { pending = caused_no_more i m.pending }
-    → Follows H (softint_body i) n o a b → Follows H acting m o a b
-unfolding acting runs_softint
+    → Follows H (softint_body i) n o a b → Follows H step_action m o a b
+unfolding step_action runs_softint
 acting_softint i is next follows = follows_as {g = λ s. softint_body i (on_pending (caused_no_more i) s)}
     (λ s e. ap (λ (x : Option ℕ). softint_or_task_step x s) (softint_same s e ∙ sym is)) (follows_change (moves_taken_off i next) follows)
 
 pub acting_task : {H : Hearing} {m n o : Seen} {a b : H.Told} → None ≡ softint_seen m → n ≡ record m { pending = m.pending }
-    → Follows H running_task_step n o a b → Follows H acting m o a b
-unfolding acting
+    → Follows H running_task_step n o a b → Follows H step_action m o a b
+unfolding step_action
 acting_task {H} {m} {n} {o} {a} {b} none next follows =
     let here : Follows H running_task_step m o a b = subst (λ (x : Seen). Follows H running_task_step x o a b) next follows in
     follows_as {g = running_task_step}
@@ -89,9 +89,9 @@ unfolding acts
 acts_stopped {H} {m} t stopped = follows_as {g = quiet}
     (λ s e. let same : s.stopped ≡ true = reads_stopped stopped s e in rw same refl) (follows_nothing m t)
 
-pub acts_going : {H : Hearing} {m n : Seen} {a b : H.Told} → m.stopped ≡ false → Follows H acting m n a b → Follows H acts m n a b
+pub acts_going : {H : Hearing} {m n : Seen} {a b : H.Told} → m.stopped ≡ false → Follows H step_action m n a b → Follows H acts m n a b
 unfolding acts
-acts_going going follows = follows_as {g = acting}
+acts_going going follows = follows_as {g = step_action}
     (λ s e. let same : s.stopped ≡ false = reads_stopped going s e in rw same refl) follows
 
 pub step_as : {H : Hearing} {m n o : Seen} {a b c : H.Told} → Follows H acts m n a b → Follows H settle n o b c → Follows H step m o a c
@@ -121,12 +121,12 @@ unfolding tick
 tick_stopped {H} {m} t stopped = follows_as {g = quiet}
     (λ s e. let same : s.stopped ≡ true = reads_stopped stopped s e in rw same refl) (follows_nothing m t)
 
-pub tick_going : {H : Hearing} {m n o : Seen} {a b : H.Told} → m.stopped ≡ false → n ≡ record m { memory = on_timer ticked m.memory }
+pub tick_going : {H : Hearing} {m n o : Seen} {a b : H.Told} → m.stopped ≡ false → n ≡ record m { memory = on_timer clock_ticked m.memory }
     → Follows H (request Vertb) n o a b → Follows H tick m o a b
 unfolding tick
-tick_going going is follows = follows_as {g = λ s. request Vertb (on_memory (on_timer ticked) s)}
+tick_going going is follows = follows_as {g = λ s. request Vertb (on_memory (on_timer clock_ticked) s)}
     (λ s e. let same : s.stopped ≡ false = reads_stopped going s e in rw same refl)
-    (follows_change (moves_memory (on_timer ticked) (on_timer ticked) (λ y. refl) is) follows)
+    (follows_change (moves_memory (on_timer clock_ticked) (on_timer clock_ticked) (λ y. refl) is) follows)
 
 pub no_ticks : {H : Hearing} (m : Seen) (t : H.Told) → FollowsWhileGood H (ticks 0) m m t t
 unfolding ticks

@@ -3,7 +3,7 @@ use Rattle.std.proofs.Common.{◌≡◌, ℕ, ◌-◌, true, false, List, Option
 use Rattle.std.specs.Int.{cast_signed, cast_unsigned}
 use Rattle.execlist.specs.{Lists.times, Disciplines.by_arrival, Disciplines.by_priority}
 use Rattle.taskq.specs.Tasks.{is_ready}
-use Rattle.scheduler.specs.{Schedule.Schedule, Schedule.status_of, Schedule.priority_of, Schedule.is_absent, Schedule.leaves, Schedule.removed, Schedule.found, Dispatch.added, Dispatch.reprioritized}
+use Rattle.scheduler.specs.{Schedule.Schedule, Schedule.status_of, Schedule.priority_of, Schedule.is_absent, Schedule.leaves, Schedule.task_removed, Schedule.found, Dispatch.added, Dispatch.reprioritized}
 use Rattle.execmodel.specs.{State.Call, State.State, State.Outcome, State.on_schedule, State.on_heap, Calls.argument, Calls.name_argument, Calls.done, Calls.answered, Calls.alerted, Signals.is_task, Semaphores.awaited_by, Semaphores.dropped, Semaphores.leaving_queue, Tasks.is_live_task, Tasks.is_priority, Tasks.is_caller, Tasks.ends_other, Tasks.does_set_task_pri, Tasks.does_add_task, Tasks.does_rem_task, Tasks.found_number, Tasks.does_find_task}
 use Rattle.execsim.specs.Agreement.{Seen, Agrees, Follows, in_order}
 use Rattle.execsim.proofs.Following.{reads_schedule, reads_scripts, moves_memory, moves_schedule, moves_schedule_seen, follows_as, follows_change}
@@ -104,7 +104,7 @@ module _ {H : Hearing} {m n : Seen} {a b : H.Told} (t : ℕ) (call : Call) where
 
   pub rem_other : {o : Seen} → is_caller t (argument 0 call) ≡ false → is_live_task (argument 0 call) m.scripts m.schedule ≡ true
       → n ≡ record m {
-        schedule = removed (argument 0 call - 1) m.schedule;
+        schedule = task_removed (argument 0 call - 1) m.schedule;
         memory = on_heap (dropped (argument 0 call - 1)) m.memory;
       }
       → Follows H (done t call) n o a b → Follows H (does_rem_task t call) m o a b
@@ -116,7 +116,7 @@ module _ {H : Hearing} {m n : Seen} {a b : H.Told} (t : ℕ) (call : Call) where
       (follows_queue (λ s. awaited_by number s.memory.heap) number
       (follows_change {n = record m { memory = on_heap (dropped number) m.memory }}
       (moves_memory (on_heap (dropped number)) (on_heap (dropped number)) (λ y. refl) refl)
-      (follows_change (moves_schedule (removed number) (removed number) (removed-in_order number) is) follows)))
+      (follows_change (moves_schedule (task_removed number) (task_removed number) (removed-in_order number) is) follows)))
 
   pub task_found : (answer : ℕ) → answer ≡ found_number t (name_argument 0 call) m.schedule → Follows H (answered t call answer) m n a b
       → Follows H (does_find_task t call) m n a b

@@ -5,13 +5,13 @@ use Rattle.std.specs.Int.{cast_unsigned, w32}
 use Rattle.std.specs.Prelude.{ℕ, ◌^◌, false, if◌then◌else◌, length, List, Option, None, Some, Result, Ok, Err}
 use Rattle.exectrace.specs.Trace.{Serve, Softint, Timer}
 use Rattle.execlist.specs.Disciplines.{by_priority}
-use Rattle.scheduler.specs.{Schedule.frees, Dispatch.signalled}
+use Rattle.scheduler.specs.{Schedule.frees_signal, Dispatch.signalled}
 use Rattle.msgport.specs.declared.action.Action.{Action}
 use Rattle.msgport.specs.declared.action.Action.TheVariants as action
 use Rattle.softint.specs.{Sources.highest, declared.source.Source.Source}
 use Rattle.script.specs.Commands.{CommandData}
 use Rattle.softint.specs.Sources.{source_text}
-use Rattle.execmodel.specs.{State.Call, State.Pending, State.State, State.Outcome, State.quiet, State.says, State.andthen, State.unless_stopped, State.on_schedule, Bodies.body_step, Bodies.runs_body, Calls.Caller, Calls.ByTask, Calls.done, Calls.done_by, Calls.answered, Calls.alerted, Calls.alerted_by, Requests.finishes_until, Interrupts.chain_of, Interrupts.serving_counted, Interrupts.finishes_for, Interrupts.runs_chain, Interrupts.softint_at, Pending.allows_interrupts, Pending.softint_next, Pending.caused_no_more, Pending.with_caused, Pending.with_latch_of, Semaphores.obtains, Semaphores.passes, Step.task_step}
+use Rattle.execmodel.specs.{State.Call, State.Pending, State.State, State.Outcome, State.quiet, State.prints_line, State.andthen, State.unless_stopped, State.on_schedule, Bodies.body_step, Bodies.runs_body, Calls.Caller, Calls.ByTask, Calls.done, Calls.done_by, Calls.answered, Calls.alerted, Calls.alerted_by, Requests.finishes_until, Interrupts.chain_of, Interrupts.serving_counted, Interrupts.finishes_for, Interrupts.runs_chain, Interrupts.softint_at, Pending.allows_interrupts, Pending.softint_next, Pending.caused_no_more, Pending.with_caused, Pending.with_latch_of, Semaphores.obtains, Semaphores.passes, Step.task_step}
 use Rattle.execmodel.specs.Ports as model
 use Rattle.sigsem.specs.declared.semaphore.Obtained.{Obtained}
 use Rattle.execsim.specs.Agreement.{Seen}
@@ -38,7 +38,7 @@ performed_or_alerted tried t call s = performed_or_alerted_by tried (ByTask t) c
 
 -- a call that frees a port of a task and with a signal: the signal is given back, or the machine stops by the call's alert
 abbrev pub given_back_or_alerted : Result (ℕ × ℕ) Refusal → ℕ → Call → State → Outcome
-given_back_or_alerted (Ok owner) t call s = done t call (on_schedule (frees owner.0 owner.1) s)
+given_back_or_alerted (Ok owner) t call s = done t call (on_schedule (frees_signal owner.0 owner.1) s)
 given_back_or_alerted (Err why) t call s = alerted (code_of why) t call s
 
 -- a call by which a task asks for a semaphore: it goes on as the answer says, or stops the machine by its alert
@@ -66,7 +66,7 @@ aborts_or_alerted (Err why) t call s = alerted (code_of why) t call s
 
 -- a request that is done says so, and what is to be done for its reply is done
 abbrev pub finishes_with : ℕ → Action → State → Outcome
-finishes_with request act s = says (Timer request) (model.performed act s)
+finishes_with request act s = prints_line (Timer request) (model.performed act s)
 
 -- all requests that wait for system time and whose time has come finish
 abbrev pub finishes_all_until : State → Outcome
@@ -87,7 +87,7 @@ without_softint (Some i) pending = caused_no_more i pending
 abbrev pub softint_body : ℕ → State → Outcome
 softint_body i s =
     let softint = softint_at i s.bodies in
-    andthen (says (Softint softint.name)) (runs_body softint.name softint.code) s
+    andthen (prints_line (Softint softint.name)) (runs_body softint.name softint.code) s
 
 -- the source that is served next, by what the machine shows
 abbrev pub source_seen : Seen → Option Source
@@ -101,7 +101,7 @@ without_request (Some asks) pending = with_latch_of asks false pending
 -- a source is served, whose latch is cleared
 abbrev pub served : Source → State → Outcome
 served asks s =
-    andthen (says (Serve (source_text asks))) (andthen (finishes_for asks) (runs_chain (chain_of asks s.bodies.servers)))
+    andthen (prints_line (Serve (source_text asks))) (andthen (finishes_for asks) (runs_chain (chain_of asks s.bodies.servers)))
     (on_schedule (serving_counted asks) s)
 
 -- a command of the body of that name is done, if there is one, unless an alert has stopped the machine

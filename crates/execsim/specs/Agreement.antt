@@ -6,7 +6,7 @@ use Rattle.exectrace.specs.Hearing.{Hearing}
 use Rattle.exectrace.specs.Trace as trace
 use Rattle.script.specs.{Words.word_text, File.SoftintData}
 use Rattle.execlist.specs.{Order.order, Disciplines.pri_at}
-use Rattle.scheduler.specs.Schedule.{Schedule, name_of}
+use Rattle.scheduler.specs.Schedule.{Schedule, task_name}
 use Rattle.execmodel.specs.{State.Bodies, State.Call, State.Memory, State.Pending, State.State, State.Scripts, State.Outcome, Pending.softint_pri, Ports.priority_of_public}
 
 -- what the layers of the machine show, a field for each
@@ -41,7 +41,7 @@ pub record Agrees (seen : Seen) (s : State) : Type 0 where
 
 -- the line of a call of task t, by what the machine shows
 abbrev pub line_seen : ℕ → Call → trace.CallEnd → Seen → trace.TraceLine
-line_seen t call outcome seen = trace.Call (name_of seen.schedule t) (word_text call.word) call.arguments outcome
+line_seen t call outcome seen = trace.Call (task_name seen.schedule t) (word_text call.word) call.arguments outcome
 
 -- From any state that it agrees with, the machine goes on as the action says, and who listens hears what happens.
 pub record Follows (H : Hearing) (next : State → Outcome) (old new : Seen) (before after : H.Told) : Type 0 where

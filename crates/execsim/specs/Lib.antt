@@ -11,6 +11,6 @@ pub mod Readers
 pub mod Reading
 pub mod Resetting
 pub mod Resting
-pub mod Standing
+pub mod WaitingLines
 pub mod Time
 pub mod Views

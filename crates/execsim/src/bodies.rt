@@ -1,8 +1,9 @@
-//! What the software interrupts and the servers execute. Nothing changes it once the machine is made, until it is reset.
+//! What the software interrupts and the servers execute. Nothing changes it once the machine is made, until it is
+//! reset.
 ghost use Rattle.std.specs.Prelude.{◌≡◌, ◌↔◌, ◌≢◌, ◌<◌, All, IfOk, length, map, slice_index_or, true, AllPairs};
 ghost use Rattle.script.specs.{Commands.command_view, Machines.softint_names, Names.texts};
 ghost use Rattle.script.specs.Records as records;
-ghost use Rattle.execmodel.specs.{Interrupts.no_server, Interrupts.no_softint, Interrupts.server_at, Pending.softint_named};
+ghost use Rattle.execmodel.specs.{Interrupts.no_server, Interrupts.no_softint, Interrupts.server_at, Pending.softint_number};
 ghost use Rattle.execsim.specs.Views.{code_of_body, interrupting, name_of_body, server_view, softint_view};
 ghost use Rattle.execsim.specs.Resetting.{AreShaped, server_shape, softint_shape};
 
@@ -156,7 +157,8 @@ fn is_alike(softint: &Softint, file: &SoftintRecord) -> bool
     softint.name.as_str() == file.name.as_str() && softint.pri == file.pri
 }
 
-/// Gives a software interrupt the commands of one of a file, if it has its name, its priority and as many commands, and answers whether it has.
+/// Gives a software interrupt the commands of one of a file, if it has its name, its priority and as many commands, and
+/// answers whether it has.
 fn reset_softint(softint: &mut Softint, file: &SoftintRecord) -> bool
     ensures answer { (result ≡ true) ↔ (softint_shape (softint_view softint.old) ≡ softint_shape (records.softint_view file.now)) }
     ensures kept { softint_shape (softint_view softint.new) ≡ softint_shape (softint_view softint.old) }
@@ -188,7 +190,8 @@ fn reset_softints(softints: &mut Vec<Softint>, file: &[SoftintRecord]) -> bool
     true
 }
 
-/// Whether a server has the name, the source and the priority of one of a file, and ends the chain of its source as that one does.
+/// Whether a server has the name, the source and the priority of one of a file, and ends the chain of its source as
+/// that one does.
 fn is_alike_server(server: &Server, file: &ServerRecord) -> bool
     ensures { (result ≡ true) ↔ ((server.now.name.bytes ≡ file.now.name.bytes) × (server.now.source ≡ file.now.source)
         × (server.now.pri ≡ file.now.pri) × (server.now.claim ≡ file.now.claim)) }
@@ -199,7 +202,8 @@ fn is_alike_server(server: &Server, file: &ServerRecord) -> bool
         && server.claim == file.claim
 }
 
-/// Gives a server the commands of one of a file, if all else is the same and it has as many commands, and answers whether it is.
+/// Gives a server the commands of one of a file, if all else is the same and it has as many commands, and answers
+/// whether it is.
 fn reset_server(server: &mut Server, file: &ServerRecord) -> bool
     ensures answer { (result ≡ true) ↔ (server_shape (server_view server.old) ≡ server_shape (records.server_view file.now)) }
     ensures kept { server_shape (server_view server.new) ≡ server_shape (server_view server.old) }
@@ -346,8 +350,8 @@ impl Bodies {
         })
     }
 
-    /// Makes the software interrupts and the servers those of a file, if they have its names, sources, priorities and numbers of commands, and
-    /// answers whether they have. The sources and priorities stay as they are.
+    /// Makes the software interrupts and the servers those of a file, if they have its names, sources, priorities and
+    /// numbers of commands, and answers whether they have. The sources and priorities stay as they are.
     ///
     /// Source: project rule.
     pub fn reset(&mut self, softints: &[SoftintRecord], servers: &[ServerRecord]) -> bool
@@ -366,7 +370,7 @@ impl Bodies {
     #[cold]
     #[inline(never)]
     fn softint_found(&self, name: &Name) -> usize
-        ensures { result ≡ softint_named name.now.bytes self.now.softints }
+        ensures { result ≡ softint_number name.now.bytes self.now.softints }
     {
         match self.names.get_index_of(name) {
             Some(index) => index,
@@ -374,10 +378,11 @@ impl Bodies {
         }
     }
 
-    /// The number of the software interrupt of a name; if none has it, a number that none has. Mostly the hint for the name is right.
+    /// The number of the software interrupt of a name; if none has it, a number that none has. Mostly the hint for the
+    /// name is right.
     #[inline(always)]
     pub fn softint_named(&self, name: &Name) -> usize
-        ensures { result ≡ softint_named name.now.bytes self.now.softints }
+        ensures { result ≡ softint_number name.now.bytes self.now.softints }
     {
         let hint = self.hints[mark_of(name)];
         if has_name(&self.softints, hint, name) {

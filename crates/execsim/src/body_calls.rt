@@ -1,5 +1,5 @@
-//! The calls that a body makes, how they end, and a whole body. A body has the shared variables alone, prints under its own name, and runs to
-//! its end at once, or to an alert.
+//! The calls that a body makes, how they end, and a whole body. A body has the shared variables alone, prints under its
+//! own name, and runs to its end at once, or to an alert.
 ghost use Rattle.std.specs.Prelude.{◌≡◌, ◌≤◌, ℕ, List, [], ◌∷◌, IfSome, None, Some, true, map, slice_get, take};
 ghost use Rattle.execlist.specs.Disciplines.{by_priority};
 ghost use Rattle.exectrace.specs.{Short.short_argument, Shown.shown_outcome, Trace.Quoted, Trace.Value};
@@ -16,7 +16,7 @@ use crate::call::{Call, Caller};
 use crate::change::argument_at;
 use crate::kernel::Kernel;
 use crate::plain::{all_bits, common_bits, difference, sum};
-use crate::program::command_at;
+use crate::progress::command_at;
 use crate::task_signals::is_mask;
 use execlist::space::ListSpace;
 use exectrace::lines::CallOutcome;
@@ -113,7 +113,8 @@ impl<S: ListSpace> Kernel<S> {
         }
     }
 
-    /// Puts the values of the first `count` arguments of a command of a body if they are to be; what is past them is unused.
+    /// Puts the values of the first `count` arguments of a command of a body if they are to be; what is past them is
+    /// unused.
     #[inline(always)]
     fn evaluate_all_in_body(
         &self,
@@ -216,14 +217,14 @@ impl<S: ListSpace> Kernel<S> {
     }
 
     /// The call answers nothing, and the body goes on.
-    pub(crate) fn done_in_body<W: Witness>(&mut self, name: &Name, call: &Call, out: &mut W)
+    pub(crate) fn end_call_in_body<W: Witness>(&mut self, name: &Name, call: &Call, out: &mut W)
         ensures { Follows W.hearing (done_by (ByBody name.now.bytes) (call_view call.now)) self.old self.new (W.told out.old) (W.told out.new) }
     {
         self.say_in_body(name, call, CallOutcome::Done, out);
     }
 
     /// The call answers, into its target if it has one, and the body goes on.
-    pub(crate) fn answered_in_body<W: Witness>(
+    pub(crate) fn answer_in_body<W: Witness>(
         &mut self,
         name: &Name,
         call: &Call,
@@ -236,9 +237,10 @@ impl<S: ListSpace> Kernel<S> {
         self.store_in_body(call.target, value);
     }
 
-    /// A word that is no call of Exec answers, into its target if it has one, and prints nothing, in the body of any name.
+    /// A word that is not a call of Exec answers, into its target if it has one, and prints nothing, in the body of any
+    /// name.
     #[inline(always)]
-    pub(crate) fn silent_in_body(&mut self, target: Option<Variable>, value: u32)
+    pub(crate) fn end_silently_in_body(&mut self, target: Option<Variable>, value: u32)
         ensures { (name : List ℕ) (call : model.Call) → call.target ≡ target
             → Quietly (silent_by (ByBody name) call value) self.old self.new }
     {
@@ -246,7 +248,7 @@ impl<S: ListSpace> Kernel<S> {
     }
 
     /// The call is refused: it changes nothing, and the machine stops for good.
-    pub(crate) fn alerted_in_body<W: Witness>(
+    pub(crate) fn alert_in_body<W: Witness>(
         &mut self,
         code: Alert,
         name: &Name,
@@ -280,7 +282,7 @@ impl<S: ListSpace> Kernel<S> {
             PlainWord::Sub => self.sub_words(&Caller::Body(*name), call),
             PlainWord::And => self.and_words(&Caller::Body(*name), call),
             PlainWord::Or => self.or_words(&Caller::Body(*name), call),
-            PlainWord::Print => self.done_in_body(name, call, out),
+            PlainWord::Print => self.end_call_in_body(name, call, out),
             PlainWord::Jump | PlainWord::JumpZ | PlainWord::JumpNZ => {}
         }
     }
@@ -347,7 +349,8 @@ impl<S: ListSpace> Kernel<S> {
         }
     }
 
-    /// Prints the line of a call that answers nothing, of the body of that name, from its command, whose word has this text: no call is made of it.
+    /// Prints the line of a call that answers nothing, of the body of that name, from its command, whose word has this
+    /// text: no call is made of it.
     #[cold]
     #[inline(never)]
     fn line_in_body<W: Witness>(&self, word: Word, command: &Command, name: &Name, out: &mut W)
@@ -367,7 +370,8 @@ impl<S: ListSpace> Kernel<S> {
         });
     }
 
-    /// Prints the line of a call that mostly has one argument, as `line_in_body` does. One argument is put in no list of values.
+    /// Prints the line of a call that mostly has one argument, as `line_in_body` does. One argument is put in no list
+    /// of values.
     #[inline(always)]
     fn short_line_in_body<W: Witness>(
         &self,
@@ -420,7 +424,8 @@ impl<S: ListSpace> Kernel<S> {
         }
     }
 
-    /// The signalling of a command of the body of that name, if it is of the word Signal and is not refused. Then its line is printed.
+    /// The signalling of a command of the body of that name, if it is of the word Signal and is not refused. Then its
+    /// line is printed.
     #[inline(always)]
     fn signalling_in_body<W: Witness>(
         &self,
@@ -463,8 +468,8 @@ impl<S: ListSpace> Kernel<S> {
         }
     }
 
-    /// The number of the software interrupt that a command of the body of that name causes, if it is of the word Cause and its argument is a name.
-    /// Then its line is printed.
+    /// The number of the software interrupt that a command of the body of that name causes, if it is of the word Cause
+    /// and its argument is a name. Then its line is printed.
     #[inline(always)]
     fn causing_in_body<W: Witness>(
         &self,
@@ -524,8 +529,8 @@ impl<S: ListSpace> Kernel<S> {
         }
     }
 
-    /// The command at a place of a body is done, unless an alert has stopped the machine. A Signal is done at once if it is not refused, and
-    /// so is a Cause.
+    /// The command at a place of a body is done, unless an alert has stopped the machine. A Signal is done at once if
+    /// it is not refused, and so is a Cause.
     #[inline(always)]
     fn ask_at_place<W: Witness>(&mut self, body: Body, place: usize, name: &Name, out: &mut W)
         ensures { Follows W.hearing (does_at_place name.now.bytes (slice_get (code_of_body body self.old.bodies) place))
@@ -546,8 +551,8 @@ impl<S: ListSpace> Kernel<S> {
         }
     }
 
-    /// The command at a place of a body is done, unless an alert has stopped the machine. A plain word that prints nothing, and Print, are done at
-    /// once: no call is made of them, and none has room here.
+    /// The command at a place of a body is done, unless an alert has stopped the machine. A plain word that prints
+    /// nothing, and Print, are done at once: no call is made of them, and none has room here.
     #[inline(always)]
     fn do_place<W: Witness>(&mut self, body: Body, place: usize, name: &Name, out: &mut W)
         ensures { Follows W.hearing (does_at_place name.now.bytes (slice_get (code_of_body body self.old.bodies) place))
@@ -561,7 +566,7 @@ impl<S: ListSpace> Kernel<S> {
             Some(command) => match self.value_in_body(command) {
                 Some(value) => {
                     let target = command.target;
-                    self.silent_in_body(target, value);
+                    self.end_silently_in_body(target, value);
                 }
                 None => {
                     if is_print(command.word) {

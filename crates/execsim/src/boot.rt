@@ -1,5 +1,5 @@
-//! The parts of a machine, made from its file, and the machine put together of them: of no more than four parts at once, since each part that
-//! can fail multiplies the proof.
+//! The parts of a machine, made from its file, and the machine put together of them: of no more than four parts at
+//! once, since each part that can fail multiplies the proof.
 ghost use Rattle.std.specs.Prelude.{◌≡◌, ◌≤◌, [], All, length, map, nat_eq, IfOk};
 ghost use Rattle.script.specs.{Commands.command_view, Machines.IsMachine, Records.library_view, Records.server_view, Records.softint_view, Records.task_view};
 ghost use Rattle.scheduler.specs.Schedule.{unstarted};
@@ -13,7 +13,7 @@ ghost use Rattle.execsim.specs.{Agreement.Agrees, Time.HasTimeFor, Views.IsFor, 
 use crate::bodies::Bodies;
 use crate::code::copied_code;
 use crate::kernel::Kernel;
-use crate::program::Program;
+use crate::progress::Program;
 use execheap::{Heap, LibInit};
 use execlist::space::ListSpace;
 use scheduler::Sched;
@@ -170,7 +170,8 @@ fn libraries_of(alloc: Global, libraries: &[LibraryRecord]) -> Result<Vec<LibIni
     Ok(inits)
 }
 
-/// The memory of a file: nothing is allocated, and no library is loaded; libraries are expunged under low memory if the file is of version 2.
+/// The memory of a file: nothing is allocated, and no library is loaded; libraries are asked for memory if the file is
+/// of version 2.
 fn heap_of<S: ListSpace>(alloc: Global, file: &MachineFile) -> Result<Heap<S>, AllocError>
     ensures { IfOk result (λ heap. heap ≡ record {
       regions = file.now.regions;

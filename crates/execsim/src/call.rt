@@ -1,5 +1,5 @@
-//! The calls that a task makes of its commands: since at most one argument of a command is a name, the name is beside the arguments. And
-//! who makes a call.
+//! The calls that a task makes of its commands: since at most one argument of a command is a name, the name is beside
+//! the arguments. And who makes a call.
 ghost use Rattle.std.specs.Prelude.{◌≤◌};
 
 use exectrace::{Name, ShortArg};

@@ -1,9 +1,9 @@
-//! How a call of a task ends: done, answered, waiting, or refused by an alert; and how one ends whoever makes it. Whatever else the call does
-//! has been done before.
+//! How a call of a task ends: done, answered, waiting, or refused by an alert; and how one ends whoever makes it.
+//! Whatever else the call does has been done before.
 ghost use Rattle.std.specs.Prelude.{◌≡◌, ◌∷◌, [], map};
 ghost use Rattle.exectrace.specs.Short.{short_argument};
 ghost use Rattle.exectrace.specs.Trace as trace;
-ghost use Rattle.scheduler.specs.Schedule.{name_of};
+ghost use Rattle.scheduler.specs.Schedule.{task_name};
 ghost use Rattle.script.specs.Words.{word_text};
 ghost use Rattle.exectrace.specs.{Shown.shown_outcome};
 ghost use Rattle.execmodel.specs.Calls.{done, done_by, answered, answered_by, waiting, silent, silent_by, alerted, alerted_by};
@@ -47,7 +47,7 @@ impl<S: ListSpace> Kernel<S> {
     )
         requires { HasTask t self.now }
         ensures { W.hearing.hears (W.told out.old) (W.told out.new)
-            (trace.Call (name_of self.now.schedule t) (word_text word) (map (short_argument quoted.now.bytes) arguments.now) trace.Done ∷ []) }
+            (trace.Call (task_name self.now.schedule t) (word_text word) (map (short_argument quoted.now.bytes) arguments.now) trace.Done ∷ []) }
     {
         let by = self.name(t);
         out.hear(&Said::Call {
@@ -60,7 +60,7 @@ impl<S: ListSpace> Kernel<S> {
     }
 
     /// The call answers nothing, and task t goes on.
-    pub(crate) fn done<W: Witness>(&mut self, t: TaskId, call: &Call, out: &mut W)
+    pub(crate) fn end_call<W: Witness>(&mut self, t: TaskId, call: &Call, out: &mut W)
         requires { HasTask t self.old }
         ensures { Follows W.hearing (done t (call_view call.now)) self.old self.new (W.told out.old) (W.told out.new) }
     {
@@ -69,7 +69,7 @@ impl<S: ListSpace> Kernel<S> {
     }
 
     /// The call answers, into its target if it has one, and task t goes on.
-    pub(crate) fn answered<W: Witness>(&mut self, t: TaskId, call: &Call, value: u32, out: &mut W)
+    pub(crate) fn answer<W: Witness>(&mut self, t: TaskId, call: &Call, value: u32, out: &mut W)
         requires { HasTask t self.old }
         ensures { Follows W.hearing (answered t (call_view call.now) value) self.old self.new (W.told out.old) (W.told out.new) }
     {
@@ -87,8 +87,8 @@ impl<S: ListSpace> Kernel<S> {
         self.keep(t, call);
     }
 
-    /// A word that is no call of Exec answers, and prints nothing.
-    pub(crate) fn silent(&mut self, t: TaskId, call: &Call, value: u32)
+    /// A word that is not a call of Exec answers, and prints nothing.
+    pub(crate) fn end_silently(&mut self, t: TaskId, call: &Call, value: u32)
         requires { HasTask t self.old }
         ensures { Quietly (silent t (call_view call.now) value) self.old self.new }
     {
@@ -98,7 +98,7 @@ impl<S: ListSpace> Kernel<S> {
 
     /// The call of task t is refused: it changes nothing, and the machine stops for good.
     #[cold]
-    pub(crate) fn alerted<W: Witness>(&mut self, code: Alert, t: TaskId, call: &Call, out: &mut W)
+    pub(crate) fn alert<W: Witness>(&mut self, code: Alert, t: TaskId, call: &Call, out: &mut W)
         requires { HasTask t self.old }
         ensures { Follows W.hearing (alerted code t (call_view call.now)) self.old self.new (W.told out.old) (W.told out.new) }
     {
@@ -114,18 +114,18 @@ impl<S: ListSpace> Kernel<S> {
     // ---- whoever makes the call
 
     /// The call of a task or of a body answers nothing.
-    pub(crate) fn done_by<W: Witness>(&mut self, caller: &Caller, call: &Call, out: &mut W)
+    pub(crate) fn end_call_by<W: Witness>(&mut self, caller: &Caller, call: &Call, out: &mut W)
         requires { HasCaller caller.now self.old }
         ensures { Follows W.hearing (done_by (caller_view caller.now) (call_view call.now)) self.old self.new (W.told out.old) (W.told out.new) }
     {
         match caller {
-            Caller::Task(t) => self.done(*t, call, out),
-            Caller::Body(name) => self.done_in_body(name, call, out),
+            Caller::Task(t) => self.end_call(*t, call, out),
+            Caller::Body(name) => self.end_call_in_body(name, call, out),
         }
     }
 
     /// The call of a task or of a body answers, into its target if it has one.
-    pub(crate) fn answered_by<W: Witness>(
+    pub(crate) fn answer_by<W: Witness>(
         &mut self,
         caller: &Caller,
         call: &Call,
@@ -136,25 +136,25 @@ impl<S: ListSpace> Kernel<S> {
         ensures { Follows W.hearing (answered_by (caller_view caller.now) (call_view call.now) value) self.old self.new (W.told out.old) (W.told out.new) }
     {
         match caller {
-            Caller::Task(t) => self.answered(*t, call, value, out),
-            Caller::Body(name) => self.answered_in_body(name, call, value, out),
+            Caller::Task(t) => self.answer(*t, call, value, out),
+            Caller::Body(name) => self.answer_in_body(name, call, value, out),
         }
     }
 
-    /// A word that is no call of Exec answers, and prints nothing, in a task or in a body.
-    pub(crate) fn silent_by(&mut self, caller: &Caller, call: &Call, value: u32)
+    /// A word that is not a call of Exec answers, and prints nothing, in a task or in a body.
+    pub(crate) fn end_silently_by(&mut self, caller: &Caller, call: &Call, value: u32)
         requires { HasCaller caller.now self.old }
         ensures { Quietly (silent_by (caller_view caller.now) (call_view call.now) value) self.old self.new }
     {
         match caller {
-            Caller::Task(t) => self.silent(*t, call, value),
-            Caller::Body(_) => self.silent_in_body(call.target, value),
+            Caller::Task(t) => self.end_silently(*t, call, value),
+            Caller::Body(_) => self.end_silently_in_body(call.target, value),
         }
     }
 
     /// The call of a task or of a body is refused: it changes nothing, and the machine stops for good.
     #[cold]
-    pub(crate) fn alerted_by<W: Witness>(
+    pub(crate) fn alert_by<W: Witness>(
         &mut self,
         code: Alert,
         caller: &Caller,
@@ -165,13 +165,13 @@ impl<S: ListSpace> Kernel<S> {
         ensures { Follows W.hearing (alerted_by code (caller_view caller.now) (call_view call.now)) self.old self.new (W.told out.old) (W.told out.new) }
     {
         match caller {
-            Caller::Task(t) => self.alerted(code, *t, call, out),
-            Caller::Body(name) => self.alerted_in_body(code, name, call, out),
+            Caller::Task(t) => self.alert(code, *t, call, out),
+            Caller::Body(name) => self.alert_in_body(code, name, call, out),
         }
     }
 
     /// A refused call stops the machine by the alert of its refusal.
-    pub(crate) fn refused_by<W: Witness>(
+    pub(crate) fn refuse_by<W: Witness>(
         &mut self,
         why: Refusal,
         caller: &Caller,
@@ -181,21 +181,21 @@ impl<S: ListSpace> Kernel<S> {
         requires { HasCaller caller.now self.old }
         ensures { Follows W.hearing (alerted_by (code_of why) (caller_view caller.now) (call_view call.now)) self.old self.new (W.told out.old) (W.told out.new) }
     {
-        self.alerted_by(why.alert(), caller, call, out);
+        self.alert_by(why.alert(), caller, call, out);
     }
 
     // ---- a call on an object: done, or refused
 
     /// A refused call stops the machine by the alert of its refusal.
-    pub(crate) fn refused<W: Witness>(&mut self, why: Refusal, t: TaskId, call: &Call, out: &mut W)
+    pub(crate) fn refuse<W: Witness>(&mut self, why: Refusal, t: TaskId, call: &Call, out: &mut W)
         requires { HasTask t self.old }
         ensures { Follows W.hearing (alerted (code_of why) t (call_view call.now)) self.old self.new (W.told out.old) (W.told out.new) }
     {
-        self.alerted(why.alert(), t, call, out);
+        self.alert(why.alert(), t, call, out);
     }
 
     /// A call that answers nothing: it is done, or refused by its alert.
-    pub(crate) fn concluded<W: Witness>(
+    pub(crate) fn conclude<W: Witness>(
         &mut self,
         tried: Result<(), Refusal>,
         t: TaskId,
@@ -206,13 +206,13 @@ impl<S: ListSpace> Kernel<S> {
         ensures { Follows W.hearing (done_or_alerted tried t (call_view call.now)) self.old self.new (W.told out.old) (W.told out.new) }
     {
         match tried {
-            Ok(()) => self.done(t, call, out),
-            Err(why) => self.refused(why, t, call, out),
+            Ok(()) => self.end_call(t, call, out),
+            Err(why) => self.refuse(why, t, call, out),
         }
     }
 
     /// A call that answers: it does, or is refused by its alert.
-    pub(crate) fn concluded_with<W: Witness>(
+    pub(crate) fn conclude_with<W: Witness>(
         &mut self,
         tried: Result<u32, Refusal>,
         t: TaskId,
@@ -223,13 +223,13 @@ impl<S: ListSpace> Kernel<S> {
         ensures { Follows W.hearing (answered_or_alerted tried t (call_view call.now)) self.old self.new (W.told out.old) (W.told out.new) }
     {
         match tried {
-            Ok(value) => self.answered(t, call, value, out),
-            Err(why) => self.refused(why, t, call, out),
+            Ok(value) => self.answer(t, call, value, out),
+            Err(why) => self.refuse(why, t, call, out),
         }
     }
 
     /// A call that answers, of a task or of a body: it does, or is refused by its alert.
-    pub(crate) fn concluded_by<W: Witness>(
+    pub(crate) fn conclude_by<W: Witness>(
         &mut self,
         tried: Result<u32, Refusal>,
         caller: &Caller,
@@ -240,8 +240,8 @@ impl<S: ListSpace> Kernel<S> {
         ensures { Follows W.hearing (answered_or_alerted_by tried (caller_view caller.now) (call_view call.now)) self.old self.new (W.told out.old) (W.told out.new) }
     {
         match tried {
-            Ok(value) => self.answered_by(caller, call, value, out),
-            Err(why) => self.refused_by(why, caller, call, out),
+            Ok(value) => self.answer_by(caller, call, value, out),
+            Err(why) => self.refuse_by(why, caller, call, out),
         }
     }
 }

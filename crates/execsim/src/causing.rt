@@ -1,7 +1,7 @@
 //! The word Cause: a software interrupt is caused by its name.
 ghost use Rattle.std.specs.Prelude.{◌≡◌, [], ◌∷◌, option_copied, slice_get, take, true, option_map, unwrap_or};
 ghost use Rattle.exectrace.specs.Trace.{Quoted};
-ghost use Rattle.execmodel.specs.{Calls.ByTask, Calls.name_argument, Pending.softint_named, Causing.does_cause_by, Causing.does_interrupts};
+ghost use Rattle.execmodel.specs.{Calls.ByTask, Calls.name_argument, Pending.softint_number, Causing.does_cause_by, Causing.does_interrupts};
 ghost use Rattle.execsim.specs.{Callers.HasTask, Callers.HasCaller, Agreement.Follows, Views.call_view, Views.caller_view};
 
 use crate::body_calls::is_cause;
@@ -49,7 +49,7 @@ impl<S: ListSpace> Kernel<S> {
     /// The number of the software interrupt of the name that is the first argument of a call.
     #[inline(always)]
     fn softint_of_call(&self, call: &Call) -> IntId
-        ensures { result ≡ softint_named (unwrap_or (name_argument 0 (call_view call.now)) []) self.now.bodies.softints }
+        ensures { result ≡ softint_number (unwrap_or (name_argument 0 (call_view call.now)) []) self.now.bodies.softints }
     {
         match first_name(call) {
             Some(name) => self.softint_named(name),
@@ -57,15 +57,15 @@ impl<S: ListSpace> Kernel<S> {
         }
     }
 
-    /// Cause name: the software interrupt of that name is to run, after those of its priority; one that is caused already stays where it is
-    /// (autodoc exec.library/Cause).
+    /// Cause name: the software interrupt of that name is to run, after those of its priority; one that is caused
+    /// already stays where it is (autodoc exec.library/Cause).
     pub(crate) fn cause_named<W: Witness>(&mut self, caller: &Caller, call: &Call, out: &mut W)
         requires { HasCaller caller.now self.old }
         ensures { Follows W.hearing (does_cause_by (caller_view caller.now) (call_view call.now)) self.old self.new (W.told out.old) (W.told out.new) }
     {
         let i = self.softint_of_call(call);
         self.cause(i);
-        self.done_by(caller, call, out);
+        self.end_call_by(caller, call, out);
     }
 
     /// Cause name, of task t, as `cause_named` does it. The line of a call with a name alone is built here.

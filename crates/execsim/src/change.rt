@@ -13,7 +13,8 @@ use exectrace::{Said, ShortArg, Witness};
 use script::{Argument, Command, PlainWord, Variable, Word};
 use taskq::TaskId;
 
-/// What a plain word that prints nothing changes: a variable of its task, or none, is given a value, and the task goes on.
+/// What a plain word that prints nothing changes: a variable of its task, or none, is given a value, and the task goes
+/// on.
 #[derive(Clone, Copy)]
 pub struct Change {
     pub target: Option<Variable>,
@@ -57,7 +58,8 @@ impl<S: ListSpace> Kernel<S> {
         }
     }
 
-    /// What a command of task t of that plain word changes, if the next one is at that place; none for a word that prints.
+    /// What a command of task t of that plain word changes, if the next one is at that place; none for a word that
+    /// prints.
     #[inline(always)]
     fn change_of(
         &self,
@@ -138,7 +140,8 @@ impl<S: ListSpace> Kernel<S> {
         }
     }
 
-    /// What task t changes by what it does next, if that is a plain word that prints nothing. A Jump, which ends each loop, is looked for first.
+    /// What task t changes by what it does next, if that is a plain word that prints nothing. A Jump, which ends each
+    /// loop, is looked for first.
     #[inline(always)]
     pub(crate) fn next_change(&self, t: TaskId) -> Option<Change>
         requires { HasTask t self.now }
@@ -220,7 +223,8 @@ impl<S: ListSpace> Kernel<S> {
         }
     }
 
-    /// Puts the line of what task t does next, if that is a Print and the sink is good. The answer is the place at which the task is to go on then.
+    /// Puts the line of what task t does next, if that is a Print and the sink is good. The answer is the place at
+    /// which the task is to go on then.
     #[inline(always)]
     fn put_next_print<W: Witness>(&self, t: TaskId, out: &mut W) -> Option<usize>
         requires { HasTask t self.now }
@@ -282,7 +286,8 @@ impl<S: ListSpace> Kernel<S> {
         }
     }
 
-    /// Task t does what it does next, if that is a plain word, and if the sink is good in case it prints. The answer is whether it did.
+    /// Task t does what it does next, if that is a plain word, and if the sink is good in case it prints. The answer is
+    /// whether it did.
     #[inline(always)]
     pub(crate) fn plain_word<W: Witness>(&mut self, t: TaskId, out: &mut W) -> bool
         requires { HasTask t self.old }

@@ -1,9 +1,9 @@
-//! Interrupts: how they are caused and requested, and how they run, software interrupts one a step, the servers of a source when it is
-//! served (RKM Libraries, Exec Interrupts).
+//! Interrupts: how they are caused and requested, and how they run, software interrupts one a step, the servers of a
+//! source when it is served (RKM Libraries, Exec Interrupts).
 ghost use Rattle.std.specs.Prelude.{◌≡◌, is_some, true, slice_get, ◌∷◌, []};
 ghost use Rattle.exectrace.specs.Trace.{Serve};
 ghost use Rattle.softint.specs.Sources.{highest, source_text};
-ghost use Rattle.execmodel.specs.{Interrupts.chain_of, Interrupts.serving_counted, Interrupts.interrupts, Interrupts.runs_chain, Interrupts.runs_server, Pending.softint_named, Pending.with_latch_of};
+ghost use Rattle.execmodel.specs.{Interrupts.chain_of, Interrupts.serving_counted, Interrupts.interrupts, Interrupts.runs_chain, Interrupts.runs_server, Pending.softint_number, Pending.with_latch_of};
 ghost use Rattle.execsim.specs.{Actions.caused, Actions.served, Actions.softint_body, Actions.softint_seen, Actions.source_seen, Actions.without_request, Actions.without_softint, Agreement.Follows};
 
 use crate::bodies::Body;
@@ -20,8 +20,8 @@ const SOURCES: u32 = 3;
 impl<S: ListSpace> Kernel<S> {
     // ---- causing and requesting
 
-    /// A software interrupt is caused: it is to run after the caused ones of its priority, unless it is caused already. A number that none
-    /// has does nothing.
+    /// A software interrupt is caused: it is to run after the caused ones of its priority, unless it is caused already.
+    /// A number that none has does nothing.
     #[inline(always)]
     pub(crate) fn cause(&mut self, i: IntId)
         ensures { self.new ≡ caused i self.old }
@@ -34,7 +34,7 @@ impl<S: ListSpace> Kernel<S> {
     /// The number of the software interrupt of a name; if none has it, a number that none has.
     #[inline(always)]
     pub(crate) fn softint_named(&self, name: &Name) -> IntId
-        ensures { result ≡ softint_named name.now.bytes self.now.bodies.softints }
+        ensures { result ≡ softint_number name.now.bytes self.now.bodies.softints }
     {
         self.bodies.softint_named(name)
     }
@@ -113,7 +113,8 @@ impl<S: ListSpace> Kernel<S> {
 
     // ---- serving
 
-    /// The source that is served next: the latched one of highest level, if interrupts are allowed. Its latch is cleared.
+    /// The source that is served next: the latched one of highest level, if interrupts are allowed. Its latch is
+    /// cleared.
     fn take_request(&mut self) -> Option<Source>
         ensures answer { result ≡ source_seen self.old }
         ensures next { self.new ≡ record self.old { pending = without_request result self.old.pending } }
@@ -143,7 +144,8 @@ impl<S: ListSpace> Kernel<S> {
         out.hear(&Said::Serve(source));
     }
 
-    /// A source is served, whose latch is cleared: VERTB counts the quantum and finishes the requests that are due, and then the servers run.
+    /// A source is served, whose latch is cleared: VERTB counts the quantum and finishes the requests that are due, and
+    /// then the servers run.
     #[inline(never)]
     fn serve<W: Witness>(&mut self, source: Source, out: &mut W)
         ensures { Follows W.hearing (served source) self.old self.new (W.told out.old) (W.told out.new) }
@@ -155,13 +157,14 @@ impl<S: ListSpace> Kernel<S> {
     }
 
     /// Whether any source asks to be served.
-    pub(crate) fn any_asks(&self) -> bool
+    pub(crate) fn any_latched(&self) -> bool
         ensures { result ≡ is_some (highest self.now.pending.latches) }
     {
         self.ints.any_raised()
     }
 
-    /// All sources that ask are served, if interrupts are allowed: there are three sources, and no serving sets a latch.
+    /// All sources that ask are served, if interrupts are allowed: there are three sources, and no serving sets a
+    /// latch.
     #[inline(never)]
     fn serve_all<W: Witness>(&mut self, out: &mut W)
         ensures { Follows W.hearing interrupts self.old self.new (W.told out.old) (W.told out.new) }
@@ -179,12 +182,13 @@ impl<S: ListSpace> Kernel<S> {
         }
     }
 
-    /// All sources that ask are served, if interrupts are allowed. Mostly none asks, and nothing else is looked at then.
+    /// All sources that ask are served, if interrupts are allowed. Mostly none asks, and nothing else is looked at
+    /// then.
     #[inline(always)]
     pub(crate) fn interrupt<W: Witness>(&mut self, out: &mut W)
         ensures { Follows W.hearing interrupts self.old self.new (W.told out.old) (W.told out.new) }
     {
-        if self.any_asks() {
+        if self.any_latched() {
             self.serve_all(out);
         }
     }

@@ -1,14 +1,14 @@
 //! The machine without its failure to write. The methods here touch its fields, and have one equation each.
 ghost use Rattle.std.specs.Prelude.{◌≡◌, ◌↔◌, ◌≤◌, ℕ, List, length, true, false, None, slice_index_or, slice_set, map, replicate, take, option_map};
 ghost use Rattle.exectrace.specs.Short.{short_argument};
-ghost use Rattle.scheduler.specs.Schedule.{name_of, task_count};
+ghost use Rattle.scheduler.specs.Schedule.{task_name, task_count};
 ghost use Rattle.execmodel.specs.{State.booted, State.program_of, State.shared_variables, Calls.content, Calls.evaluated, Calls.stored, Calls.goes_on, Calls.keeps, Signals.is_task};
 ghost use Rattle.script.specs.{Commands.argument_view, Machines.IsMachine};
 ghost use Rattle.execsim.specs.{Agreement.Agrees, Callers.HasTask, Resetting.HasRoomFor, Time.HasTimeFor, Views.IsFor, Views.call_view};
 
 use crate::bodies::Bodies;
 use crate::call::Call;
-use crate::program::Program;
+use crate::progress::Program;
 use crate::reset::{reset_heap, reset_programs, reset_sched};
 use execheap::Heap;
 use execlist::space::ListSpace;
@@ -22,8 +22,8 @@ use taskq::{TaskId, TaskInit};
 /// How many variables all bodies share.
 const SHARED_VARIABLES: usize = 64;
 
-/// The tasks, what they execute, the memory with its objects, what interrupts execute, which of them are pending, and whether an alert has
-/// stopped the machine.
+/// The tasks, what they execute, the memory with its objects, what interrupts execute, which of them are pending, and
+/// whether an alert has stopped the machine.
 #[derive(Drop)]
 pub struct Kernel<S: ListSpace> {
     pub(crate) sched: Sched<S>,
@@ -123,7 +123,7 @@ impl<S: ListSpace> Kernel<S> {
     /// The name of task t.
     pub(crate) fn name(&self, t: TaskId) -> &Name
         requires { HasTask t self.now }
-        ensures { result.now.bytes ≡ name_of self.now.schedule t }
+        ensures { result.now.bytes ≡ task_name self.now.schedule t }
     {
         self.sched.name(t)
     }
@@ -162,7 +162,8 @@ impl<S: ListSpace> Kernel<S> {
         }
     }
 
-    /// Puts the values of that many arguments of a command for task t where they are to be; what is past them is unused.
+    /// Puts the values of that many arguments of a command for task t where they are to be; what is past them is
+    /// unused.
     #[inline(always)]
     pub(crate) fn evaluate_all(
         &self,

@@ -1,5 +1,5 @@
-//! The machine: it runs what a machine file states over a list of events, and prints the trace.
-//! `Machine` is what callers use, `simulate` the whole way from two texts to a trace. `Kernel` is the machine without its failure to
+//! The machine: it runs what a machine file states over a list of events, and prints the trace. `Machine` is what
+//! callers use, `simulate` the whole way from two texts to a trace. `Kernel` is the machine without its failure to
 //! write; each word group has a module of its own.
 #![tactic(auto)]
 
@@ -20,17 +20,17 @@ mod memory;
 mod nesting;
 mod plain;
 mod ports;
-mod program;
+mod progress;
 mod reading;
 mod requests;
 mod reset;
 mod resting;
 mod semaphores;
 mod simulation;
-mod standing;
 mod step;
 mod task_signals;
 mod tasks;
+mod waiting_lines;
 
 /// What is seen of a block of memory and of the object that begins there.
 pub use execheap::{BlockView, DueTime, Gap, LibraryView, ObjectView, PortView};

@@ -8,7 +8,7 @@ ghost use Rattle.execsim.specs.{Advancing.Advances, Advancing.Ends, Agreement.Ag
 mod feeding;
 mod queues;
 mod readers;
-mod standing;
+mod waiting_lines;
 
 use crate::boot::kernel_of;
 use crate::kernel::Kernel;
@@ -35,7 +35,7 @@ pub struct Machine<S: ListSpace> {
     kernel: Kernel<S>,
     failed: bool,
     // If it is true, nothing is due, so that a plain word is a whole step.
-    rests: bool,
+    is_settled: bool,
 }
 
 impl<S: ListSpace> Model for Machine<S> {
@@ -46,7 +46,7 @@ impl<S: ListSpace> Model for Machine<S> {
 
     ghost view = { λ m. record { seen = m.kernel; failed = m.failed } };
 
-    ghost invariant = { λ m. (m.failed ≡ false → IsKnown m.kernel) × (m.rests ≡ true → IsSettled m.kernel) };
+    ghost invariant = { λ m. (m.failed ≡ false → IsKnown m.kernel) × (m.is_settled ≡ true → IsSettled m.kernel) };
 }
 
 /// Whether a machine goes on, by whether an alert has stopped it.
@@ -57,7 +57,7 @@ fn flow_for(stopped: bool) -> Flow
 }
 
 /// Answers whether a machine goes on, or notes that it has failed if the sink has failed.
-fn finish<W: Sink>(stopped: bool, failed: &mut bool, out: &W) -> Result<Flow, WriteFault>
+fn flow_or_fault<W: Sink>(stopped: bool, failed: &mut bool, out: &W) -> Result<Flow, WriteFault>
     requires { failed.old ≡ false }
     ensures { Finishes stopped failed.new (W.tape out.now) result }
 {
@@ -71,7 +71,7 @@ fn finish<W: Sink>(stopped: bool, failed: &mut bool, out: &W) -> Result<Flow, Wr
 }
 
 /// Answers how many steps were done, or notes that a machine has failed if the sink has failed.
-fn end<W: Sink>(steps: u32, failed: &mut bool, out: &W) -> Result<u32, WriteFault>
+fn steps_or_fault<W: Sink>(steps: u32, failed: &mut bool, out: &W) -> Result<u32, WriteFault>
     requires { failed.old ≡ false }
     ensures { Ends steps failed.new (W.tape out.now) result }
 {
@@ -91,7 +91,7 @@ impl<S: ListSpace> Machine<S> {
     ///
     /// # Errors
     ///
-    /// Memory is lacking.
+    /// Memory is refused.
     pub fn boot(alloc: Global, file: &MachineFile) -> Result<Machine<S>, AllocError>
         ensures agrees { IfOk result (λ m. Agrees m.seen (booted file.now)) }
         ensures whole { IfOk result (λ m. m.failed ≡ false) }
@@ -101,16 +101,18 @@ impl<S: ListSpace> Machine<S> {
         Ok(Machine {
             kernel,
             failed: false,
-            rests: false,
+            is_settled: false,
         })
     }
 
-    /// Puts the machine back to its first state, that of a file before its start, if it was made of a file that is as large, and answers whether it
-    /// was. No memory is taken, and the time grows with what the machine used, not with `pool`.
+    /// Puts the machine back to its first state, that of a file before its start, if it was made of a file that is as
+    /// large, and answers whether it was. No memory is taken, and the time grows with what the machine used, not with
+    /// `pool`.
     ///
-    /// A machine is as large if the file has the same regions and libraries, the same number of objects of each kind, as many tasks, software interrupts
-    /// and servers, each with as many commands, and the same names, sources, priorities and claims of the interrupts. Of the same file it always is.
-    /// If it is not, the machine has failed. A machine that has failed can be reset too.
+    /// A machine is as large if the file has the same regions and libraries, the same number of objects of each kind,
+    /// as many tasks, software interrupts and servers, each with as many commands, and the same names, sources,
+    /// priorities and claims of the interrupts. Of the same file it always is. If it is not, the machine has failed. A
+    /// machine that has failed can be reset too.
     ///
     /// Source: project rule.
     pub fn reset(&mut self, file: &MachineFile) -> bool
@@ -122,19 +124,20 @@ impl<S: ListSpace> Machine<S> {
     {
         let is_reset = self.kernel.reset(file);
         self.failed = !is_reset;
-        self.rests = false;
+        self.is_settled = false;
         is_reset
     }
 
-    /// Starts the machine: its tasks are added in the order of the file, and it settles once. It is called once, before the first event, and once after
-    /// each `reset`.
+    /// Starts the machine: its tasks are added in the order of the file, and it settles once. It is called once, before
+    /// the first event, and once after each `reset`.
     ///
     /// The lines that the start prints are written to `out`, which is good unless the machine has failed.
     ///
     /// # Errors
     ///
-    /// A write failed: a prefix of the lines was taken, the sink is then failed or has taken nothing 16 times in a row, and the machine
-    /// has failed. What it holds then is of no account: a machine that has failed writes nothing and answers the same again.
+    /// A write failed: a prefix of the lines was taken, the sink is then failed or has taken nothing 16 times in a row,
+    /// and the machine has failed. What it holds then is of no account: a machine that has failed writes nothing and
+    /// answers the same again.
     pub fn start<W: Sink>(&mut self, out: &mut W) -> Result<Flow, WriteFault>
         requires { self.old.failed ≡ false → (W.tape out.old).state ≡ SinkState.Good }
         ensures acts { self.old.failed ≡ false → Acts starts self.old self.new (W.tape out.old) (W.tape out.new) result }
@@ -146,18 +149,19 @@ impl<S: ListSpace> Machine<S> {
         if self.failed {
             return Err(WriteFault);
         }
-        self.rests = false;
+        self.is_settled = false;
         self.kernel.start(out);
         let stopped = self.kernel.is_stopped();
-        finish(stopped, &mut self.failed, out)
+        flow_or_fault(stopped, &mut self.failed, out)
     }
 
-    /// Does one event: that many steps or ticks, each followed by a settle, or a request of an interrupt, followed by one. After an alert nothing
-    /// happens, and the answer is `Alerted`.
+    /// Does one event: that many steps or ticks, each followed by a settle, or a request of an interrupt, followed by
+    /// one. After an alert nothing happens, and the answer is `Alerted`.
     ///
-    /// The lines that the event prints are written to `out`, which is good unless the machine has failed. The sums of the clock are to stay
-    /// below 2 to the power 64 microseconds: each tick adds the file's `tick_micros` to it, which a machine bears for a million ticks at
-    /// least, and what system time and the time of a request add is less than 2 to the power 54.
+    /// The lines that the event prints are written to `out`, which is good unless the machine has failed. The sums of
+    /// the clock are to stay below 2 to the power 64 microseconds: each tick adds the file's `tick_micros` to it, which
+    /// a machine bears for a million ticks at least, and what system time and the time of a request add is less than 2
+    /// to the power 54.
     ///
     /// # Errors
     ///
@@ -174,14 +178,15 @@ impl<S: ListSpace> Machine<S> {
         if self.failed {
             return Err(WriteFault);
         }
-        self.rests = false;
+        self.is_settled = false;
         self.kernel.event(one, out);
         let stopped = self.kernel.is_stopped();
-        finish(stopped, &mut self.failed, out)
+        flow_or_fault(stopped, &mut self.failed, out)
     }
 
-    /// Does a step, and after it steps that print nothing: plain words of the running task, or those of an idle machine; at most `more` of
-    /// these. The answer is how many these were, so one step more was done. It may be 0 though the next step would print nothing.
+    /// Does a step, and after it steps that print nothing: plain words of the running task, or those of an idle
+    /// machine; at most `more` of these. The answer is how many these were, so one step more was done. It may be 0
+    /// though the next step would print nothing.
     ///
     /// # Errors
     ///
@@ -196,19 +201,21 @@ impl<S: ListSpace> Machine<S> {
         ensures time_left { IsOk result → (ticks : ℕ) → HasTimeFor ticks self.old.seen → HasTimeFor ticks self.new.seen }
         ensures good { IsOk result → (W.tape out.new).state ≡ SinkState.Good }
     {
-        let silent = self.kernel.advance(&mut self.rests, more, out);
-        end(silent, &mut self.failed, out)
+        let silent = self.kernel.advance(&mut self.is_settled, more, out);
+        steps_or_fault(silent, &mut self.failed, out)
     }
 
-    /// Does nothing: its clause is what always holds of a machine that has not failed. Just the running task has the state of one, and it
-    /// waits for no semaphore; and exactly the tasks that wait for a semaphore are in its queue, each in one and once.
+    /// Does nothing: its clause is what always holds of a machine that has not failed. Just the running task has the
+    /// state of one, and it waits for no semaphore; and exactly the tasks that wait for a semaphore are in its queue,
+    /// each in one and once.
     pub fn facts(&self)
         ensures { self.now.failed ≡ false → QueuesAgree self.now.seen }
     {
         let _ = &self.kernel;
     }
 
-    /// Plays a run: starts the machine, does one event after another, and says to `witness` what happens, as it happens.
+    /// Plays a run: starts the machine, does one event after another, and says to `witness` what happens, as it
+    /// happens.
     ///
     /// A witness that listens no more ends the run, and the machine has failed. After it the machine can be looked at.
     ///
@@ -219,7 +226,7 @@ impl<S: ListSpace> Machine<S> {
         requires time { HasTimeFor (sum_by event_ticks list.now) self.old.seen }
         ensures { Plays W.hearing (andthen starts (events list.now)) self.old self.new (W.told witness.old) (W.told witness.new) result }
     {
-        self.rests = false;
+        self.is_settled = false;
         self.kernel.start(witness);
         self.kernel.events(list, witness);
         self.failed = !witness.is_good();
@@ -233,10 +240,10 @@ impl<S: ListSpace> Machine<S> {
         requires time { HasTimeFor (sum_by event_ticks list.now) self.old.seen }
         ensures { Acts (andthen starts (events list.now)) self.old self.new (W.tape out.old) (W.tape out.new) result }
     {
-        self.rests = false;
+        self.is_settled = false;
         self.kernel.start(out);
         self.kernel.events(list, out);
         let stopped = self.kernel.is_stopped();
-        finish(stopped, &mut self.failed, out)
+        flow_or_fault(stopped, &mut self.failed, out)
     }
 }

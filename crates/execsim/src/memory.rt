@@ -2,7 +2,7 @@
 ghost use Rattle.std.specs.Prelude.{◌≡◌, true, false};
 ghost use Rattle.memlist.specs.Fit.{avail};
 ghost use Rattle.script.specs.declared.word.memory.MemoryWord.TheVariants as words;
-ghost use Rattle.execmodel.specs.{State.Plain, GivingWay.after_asking, Memory.block_at, Memory.can_be_asked, Memory.extents, Memory.freed, Memory.has_only, Memory.is_named, Memory.place_for, Memory.placed, Memory.does_memory};
+ghost use Rattle.execmodel.specs.{State.Plain, LowMemory.after_asking, Memory.block_at, Memory.can_be_asked, Memory.extents, Memory.freed, Memory.has_only, Memory.is_named, Memory.place_for, Memory.placed, Memory.does_memory};
 ghost use Rattle.execsim.specs.{Callers.HasTask, Agreement.Follows, Views.call_view};
 
 use crate::call::Call;
@@ -34,7 +34,7 @@ fn can_be_asked(reqs: u32) -> bool
 }
 
 impl<S: ListSpace> Kernel<S> {
-    /// A plain block of that many bytes, if one fits once libraries were expunged under low memory for it.
+    /// A plain block of that many bytes, if one fits, at once or after libraries were asked for memory.
     fn allocate(&mut self, size: u32, reqs: u32) -> Option<u32>
         ensures answer { result ≡ place_for size reqs (after_asking size reqs self.old.memory) }
         ensures next { self.new ≡ record self.old { memory = placed size Plain result (after_asking size reqs self.old.memory) } }
@@ -59,9 +59,9 @@ impl<S: ListSpace> Kernel<S> {
         self.memory.avail(reqs)
     }
 
-    /// AllocMem size reqs: answers the address of a plain block, or 0 if none fits once libraries were expunged under low memory, or the size is
-    /// 0. VALUE if the requirements have other bits than MEMF_PUBLIC, MEMF_CHIP, MEMF_FAST and MEMF_CLEAR (autodoc
-    /// exec.library/AllocMem; size 0, and the alert: project rule).
+    /// AllocMem size reqs: answers the address of a plain block, or 0 if none fits, even after libraries were asked for
+    /// memory, or the size is 0. VALUE if the requirements have other bits than MEMF_PUBLIC, MEMF_CHIP, MEMF_FAST and
+    /// MEMF_CLEAR (autodoc exec.library/AllocMem; size 0, and the alert: project rule).
     fn alloc_mem<W: Witness>(&mut self, t: TaskId, call: &Call, out: &mut W)
         requires { HasTask t self.old }
         ensures { Follows W.hearing (does_memory words.AllocMem t (call_view call.now)) self.old self.new (W.told out.old) (W.told out.new) }
@@ -69,10 +69,10 @@ impl<S: ListSpace> Kernel<S> {
         let size = call.number(0);
         let reqs = call.number(1);
         if !has_only(ALLOC_BITS, reqs) {
-            self.alerted(Alert::Value, t, call, out);
+            self.alert(Alert::Value, t, call, out);
         } else {
             let place = self.allocate(size, reqs);
-            self.answered(t, call, place.unwrap_or(0), out);
+            self.answer(t, call, place.unwrap_or(0), out);
         }
     }
 
@@ -84,9 +84,9 @@ impl<S: ListSpace> Kernel<S> {
         let address = call.number(0);
         let size = call.number(1);
         if self.free(address, size) {
-            self.done(t, call, out);
+            self.end_call(t, call, out);
         } else {
-            self.alerted(Alert::Mem, t, call, out);
+            self.alert(Alert::Mem, t, call, out);
         }
     }
 
@@ -97,10 +97,10 @@ impl<S: ListSpace> Kernel<S> {
     {
         let reqs = call.number(0);
         if !can_be_asked(reqs) {
-            self.alerted(Alert::Value, t, call, out);
+            self.alert(Alert::Value, t, call, out);
         } else {
             let answer = self.available(reqs);
-            self.answered(t, call, answer, out);
+            self.answer(t, call, answer, out);
         }
     }
 

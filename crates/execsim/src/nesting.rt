@@ -55,9 +55,9 @@ impl<S: ListSpace> Kernel<S> {
         ensures { Follows W.hearing (done_or_nest fits t (call_view call.now)) self.old self.new (W.told out.old) (W.told out.new) }
     {
         if fits {
-            self.done(t, call, out);
+            self.end_call(t, call, out);
         } else {
-            self.alerted(Alert::Nest, t, call, out);
+            self.alert(Alert::Nest, t, call, out);
         }
     }
 

@@ -51,7 +51,7 @@ impl<S: ListSpace> Kernel<S> {
         requires { HasCaller caller.now self.old }
         ensures { Quietly (does_set_by (caller_view caller.now) (call_view call.now)) self.old self.new }
     {
-        self.silent_by(caller, call, call.number(0));
+        self.end_silently_by(caller, call, call.number(0));
     }
 
     /// Add a b: answers the sum.
@@ -59,7 +59,7 @@ impl<S: ListSpace> Kernel<S> {
         requires { HasCaller caller.now self.old }
         ensures { Quietly (does_add_by (caller_view caller.now) (call_view call.now)) self.old self.new }
     {
-        self.silent_by(caller, call, sum(call.number(0), call.number(1)));
+        self.end_silently_by(caller, call, sum(call.number(0), call.number(1)));
     }
 
     /// Sub a b: answers the difference.
@@ -67,7 +67,7 @@ impl<S: ListSpace> Kernel<S> {
         requires { HasCaller caller.now self.old }
         ensures { Quietly (does_sub_by (caller_view caller.now) (call_view call.now)) self.old self.new }
     {
-        self.silent_by(caller, call, difference(call.number(0), call.number(1)));
+        self.end_silently_by(caller, call, difference(call.number(0), call.number(1)));
     }
 
     /// And a b: answers the bits that both have.
@@ -75,7 +75,7 @@ impl<S: ListSpace> Kernel<S> {
         requires { HasCaller caller.now self.old }
         ensures { Quietly (does_and_by (caller_view caller.now) (call_view call.now)) self.old self.new }
     {
-        self.silent_by(caller, call, common_bits(call.number(0), call.number(1)));
+        self.end_silently_by(caller, call, common_bits(call.number(0), call.number(1)));
     }
 
     /// Or a b: answers the bits that either has.
@@ -83,7 +83,7 @@ impl<S: ListSpace> Kernel<S> {
         requires { HasCaller caller.now self.old }
         ensures { Quietly (does_or_by (caller_view caller.now) (call_view call.now)) self.old self.new }
     {
-        self.silent_by(caller, call, all_bits(call.number(0), call.number(1)));
+        self.end_silently_by(caller, call, all_bits(call.number(0), call.number(1)));
     }
 
     /// Task t goes on at that place.
@@ -126,7 +126,7 @@ impl<S: ListSpace> Kernel<S> {
         requires { HasTask t self.old }
         ensures { Follows W.hearing (does_print t (call_view call.now)) self.old self.new (W.told out.old) (W.told out.new) }
     {
-        self.done(t, call, out);
+        self.end_call(t, call, out);
     }
 
     /// A call of task t, by its word: a plain one.

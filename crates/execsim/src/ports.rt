@@ -1,13 +1,14 @@
-//! Ports and messages: how they are made and freed, made public, and how messages are put, replied, taken and waited for. An object is
-//! named by the address of its block. The calls of `Heap` have the effects on memory; what a message does to a task is done here.
+//! Ports and messages: how they are made and freed, made public, and how messages are put, replied, taken and waited
+//! for. An object is named by the address of its block. The calls of `Heap` have the effects on memory; what a message
+//! does to a task is done here.
 ghost use Rattle.std.specs.Prelude.{◌≡◌, ◌^◌, ◌<◌, ◌≤◌, negsuc, [], find, true, IfOk, IfSome, IsTrue, OnErr, OnOk, None, Some, option_map, unwrap_or};
 ghost use Rattle.std.specs.Int.{cast_signed, w32};
 ghost use Rattle.execlist.specs.Disciplines.{by_priority};
-ghost use Rattle.scheduler.specs.{Schedule.clears_and_waits, Schedule.frees, Schedule.signals_of, Dispatch.signalled};
+ghost use Rattle.scheduler.specs.{Schedule.clears_and_waits, Schedule.frees_signal, Schedule.signals_of, Dispatch.signalled};
 ghost use Rattle.signals.specs.Signals.{grant, is_own_signal};
 ghost use Rattle.msgport.specs.Port.{new_port};
 ghost use Rattle.execmodel.specs.Ports.{add_port_alert, content_of, is_called, is_port, looked, loses, message_alert, port_or_none, port_size, does_ports, does_create_msg_port, does_delete_msg_port, does_add_port, does_rem_port, does_find_port, does_port_signal, does_port_cause, does_port_ignore, does_new_msg, does_free_msg, does_msg_word, does_set_msg_word, does_msg_type, does_put_msg_by, does_get_msg_by, does_wait_port, does_reply_msg_by};
-ghost use Rattle.execmodel.specs.{State.MsgPort, Memory.placed, GivingWay.after_asking_for_object, Objects.place_for_object, Tasks.is_priority};
+ghost use Rattle.execmodel.specs.{State.MsgPort, Memory.placed, LowMemory.after_asking_for_object, Objects.place_for_object, Tasks.is_priority};
 ghost use Rattle.execheap.specs.{Listing.listed, Refusals.alert_of};
 ghost use Rattle.execsim.specs.{Callers.HasTask, Callers.Runs, Callers.HasCaller, Actions.given_back_or_alerted, Actions.performed, Actions.performed_or_alerted_by, Agreement.Follows, Views.call_view, Views.caller_view};
 
@@ -47,8 +48,8 @@ impl<S: ListSpace> Kernel<S> {
         self.sched.next_signal()
     }
 
-    /// A new port of task t, which signals it by the signal of that number, if there is room for one once libraries were expunged under low memory
-    /// to it.
+    /// A new port of task t, which signals it by the signal of that number, if there is room for one, at once or after
+    /// libraries were asked for memory.
     fn make_port(&mut self, t: TaskId, bit: u32) -> Option<u32>
         requires own { 16 ≤ bit }
         requires signal { bit < 32 }
@@ -60,21 +61,21 @@ impl<S: ListSpace> Kernel<S> {
         self.memory.new_port(t, bit)
     }
 
-    /// CreateMsgPort: answers the address of a new port, which signals the caller by a newly allocated signal; or 0 if the caller has no
-    /// signal left, and then no library is expunged under low memory, or there is no room for the port (autodoc exec.library/CreateMsgPort; when
-    /// libraries are asked: project rule).
+    /// CreateMsgPort: answers the address of a new port, which signals the caller by a newly allocated signal; or 0 if
+    /// the caller has no signal left, and then no library is asked for memory, or there is no room for the port
+    /// (autodoc exec.library/CreateMsgPort; when libraries are asked: project rule).
     fn create_msg_port<W: Witness>(&mut self, t: TaskId, call: &Call, out: &mut W)
         requires known { HasTask t self.old }
         requires runs { Runs t self.old }
         ensures { Follows W.hearing (does_create_msg_port t (call_view call.now)) self.old self.new (W.told out.old) (W.told out.new) }
     {
         match self.next_signal(t) {
-            None => self.answered(t, call, 0, out),
+            None => self.answer(t, call, 0, out),
             Some(bit) => match self.make_port(t, bit) {
-                None => self.answered(t, call, 0, out),
+                None => self.answer(t, call, 0, out),
                 Some(port) => {
                     self.allocate_signal(t, ANY_SIGNAL);
-                    self.answered(t, call, port, out);
+                    self.answer(t, call, port, out);
                 }
             },
         }
@@ -83,7 +84,7 @@ impl<S: ListSpace> Kernel<S> {
     /// A signal of a task, if there is a task of that number, is not allocated any more.
     fn give_back(&mut self, task: TaskId, n: u32)
         requires { is_own_signal n ≡ true }
-        ensures { self.new ≡ record self.old { schedule = frees task n self.old.schedule } }
+        ensures { self.new ≡ record self.old { schedule = frees_signal task n self.old.schedule } }
     {
         if task < self.programs.len() {
             self.deallocate_signal(task, n);
@@ -91,7 +92,7 @@ impl<S: ListSpace> Kernel<S> {
     }
 
     /// A call that frees a port: its signal is given back to its task, or the call is refused by its alert.
-    fn given_back<W: Witness>(
+    fn end_freeing<W: Witness>(
         &mut self,
         tried: Result<(TaskId, u32), Refusal>,
         t: TaskId,
@@ -106,24 +107,25 @@ impl<S: ListSpace> Kernel<S> {
         match tried {
             Ok((task, bit)) => {
                 self.give_back(task, bit);
-                self.done(t, call, out);
+                self.end_call(t, call, out);
             }
-            Err(why) => self.refused(why, t, call, out),
+            Err(why) => self.refuse(why, t, call, out),
         }
     }
 
-    /// DeleteMsgPort port: frees a port and gives its signal back to its task; 0 does nothing. HANDLE if no port begins there, PORT
-    /// if it has messages, is public, or is the reply port of a request in progress (autodoc exec.library/DeleteMsgPort; the alerts: project rule).
+    /// DeleteMsgPort port: frees a port and gives its signal back to its task; 0 does nothing. HANDLE if no port begins
+    /// there, PORT if it has messages, is public, or is the reply port of a request in progress (autodoc
+    /// exec.library/DeleteMsgPort; the alerts: project rule).
     fn delete_msg_port<W: Witness>(&mut self, t: TaskId, call: &Call, out: &mut W)
         requires { HasTask t self.old }
         ensures { Follows W.hearing (does_delete_msg_port t (call_view call.now)) self.old self.new (W.told out.old) (W.told out.new) }
     {
         let port = call.number(0);
         if port == 0 {
-            self.done(t, call, out);
+            self.end_call(t, call, out);
         } else {
             let tried = self.memory.delete_port(port);
-            self.given_back(tried, t, call, out);
+            self.end_freeing(tried, t, call, out);
         }
     }
 
@@ -142,8 +144,9 @@ impl<S: ListSpace> Kernel<S> {
             .add_port(port, name_or_empty(name), pri.cast_signed() as i8)
     }
 
-    /// AddPort port name pri: makes a port public. HANDLE if no port begins there, VALUE if the priority, read as a signed word, is
-    /// not in -128 to 127, LINK if the port is public (autodoc exec.library/AddPort; the alerts: project rule).
+    /// AddPort port name pri: makes a port public. HANDLE if no port begins there, VALUE if the priority, read as a
+    /// signed word, is not in -128 to 127, LINK if the port is public (autodoc exec.library/AddPort; the alerts:
+    /// project rule).
     fn add_port<W: Witness>(&mut self, t: TaskId, call: &Call, out: &mut W)
         requires { HasTask t self.old }
         ensures { Follows W.hearing (does_add_port t (call_view call.now)) self.old self.new (W.told out.old) (W.told out.new) }
@@ -152,11 +155,11 @@ impl<S: ListSpace> Kernel<S> {
         let pri = call.number(2);
         if is_priority(pri) {
             let tried = self.make_public(port, call.name(1), pri);
-            self.concluded(tried, t, call, out);
+            self.conclude(tried, t, call, out);
         } else if self.memory.is_port(port) {
-            self.alerted(Alert::Value, t, call, out);
+            self.alert(Alert::Value, t, call, out);
         } else {
-            self.alerted(Alert::Handle, t, call, out);
+            self.alert(Alert::Handle, t, call, out);
         }
     }
 
@@ -168,7 +171,7 @@ impl<S: ListSpace> Kernel<S> {
     {
         let port = call.number(0);
         let tried = self.memory.rem_port(port);
-        self.concluded(tried, t, call, out);
+        self.conclude(tried, t, call, out);
     }
 
     /// The address of the public port of a name, or 0. If no name is given it is the empty one.
@@ -188,24 +191,24 @@ impl<S: ListSpace> Kernel<S> {
         ensures { Follows W.hearing (does_find_port t (call_view call.now)) self.old self.new (W.told out.old) (W.told out.new) }
     {
         let port = self.public_port(call.name(0));
-        self.answered(t, call, port, out);
+        self.answer(t, call, port, out);
     }
 
     // ---- the action of a port
 
-    /// PortSignal port: the port signals its task, as a new port does. HANDLE if no port begins there (RKM Libraries, Exec Messages and
-    /// Ports: mp_Flags, PA_SIGNAL; that there is a call for it: project rule).
+    /// PortSignal port: the port signals its task, as a new port does. HANDLE if no port begins there (RKM Libraries,
+    /// Exec Messages and Ports: mp_Flags, PA_SIGNAL; that there is a call for it: project rule).
     fn port_signal<W: Witness>(&mut self, t: TaskId, call: &Call, out: &mut W)
         requires { HasTask t self.old }
         ensures { Follows W.hearing (does_port_signal t (call_view call.now)) self.old self.new (W.told out.old) (W.told out.new) }
     {
         let port = call.number(0);
         let tried = self.memory.set_action(port, PortAction::Signal);
-        self.concluded(tried, t, call, out);
+        self.conclude(tried, t, call, out);
     }
 
-    /// PortCause port name: the port causes the software interrupt of that name. HANDLE if no port begins there (RKM Libraries, Exec
-    /// Messages and Ports: mp_Flags, PA_SOFTINT; that there is a call for it: project rule).
+    /// PortCause port name: the port causes the software interrupt of that name. HANDLE if no port begins there (RKM
+    /// Libraries, Exec Messages and Ports: mp_Flags, PA_SOFTINT; that there is a call for it: project rule).
     fn port_cause<W: Witness>(&mut self, t: TaskId, call: &Call, out: &mut W)
         requires { HasTask t self.old }
         ensures { Follows W.hearing (does_port_cause t (call_view call.now)) self.old self.new (W.told out.old) (W.told out.new) }
@@ -213,24 +216,24 @@ impl<S: ListSpace> Kernel<S> {
         let port = call.number(0);
         let i = self.softint_named(&name_or_empty(call.name(1)));
         let tried = self.memory.set_action(port, PortAction::Cause(i));
-        self.concluded(tried, t, call, out);
+        self.conclude(tried, t, call, out);
     }
 
-    /// PortIgnore port: the port does nothing when a message arrives. HANDLE if no port begins there (RKM Libraries, Exec Messages and
-    /// Ports: mp_Flags, PA_IGNORE; that there is a call for it: project rule).
+    /// PortIgnore port: the port does nothing when a message arrives. HANDLE if no port begins there (RKM Libraries,
+    /// Exec Messages and Ports: mp_Flags, PA_IGNORE; that there is a call for it: project rule).
     fn port_ignore<W: Witness>(&mut self, t: TaskId, call: &Call, out: &mut W)
         requires { HasTask t self.old }
         ensures { Follows W.hearing (does_port_ignore t (call_view call.now)) self.old self.new (W.told out.old) (W.told out.new) }
     {
         let port = call.number(0);
         let tried = self.memory.set_action(port, PortAction::Ignore);
-        self.concluded(tried, t, call, out);
+        self.conclude(tried, t, call, out);
     }
 
     // ---- messages made and freed
 
-    /// NewMsg port word: answers the address of a new message with that reply port, or none for 0, and that word; or 0. HANDLE if the
-    /// reply port is not 0 and no port begins there (project rule).
+    /// NewMsg port word: answers the address of a new message with that reply port, or none for 0, and that word; or 0.
+    /// HANDLE if the reply port is not 0 and no port begins there (project rule).
     fn new_msg<W: Witness>(&mut self, t: TaskId, call: &Call, out: &mut W)
         requires { HasTask t self.old }
         ensures { Follows W.hearing (does_new_msg t (call_view call.now)) self.old self.new (W.told out.old) (W.told out.new) }
@@ -238,8 +241,8 @@ impl<S: ListSpace> Kernel<S> {
         let reply = call.number(0);
         let word = call.number(1);
         match self.memory.new_message(reply, word) {
-            Ok(message) => self.answered(t, call, message.unwrap_or(0), out),
-            Err(why) => self.refused(why, t, call, out),
+            Ok(message) => self.answer(t, call, message.unwrap_or(0), out),
+            Err(why) => self.refuse(why, t, call, out),
         }
     }
 
@@ -250,7 +253,7 @@ impl<S: ListSpace> Kernel<S> {
     {
         let message = call.number(0);
         let tried = self.memory.free_message(message);
-        self.concluded(tried, t, call, out);
+        self.conclude(tried, t, call, out);
     }
 
     // ---- what a message holds
@@ -262,7 +265,7 @@ impl<S: ListSpace> Kernel<S> {
     {
         let message = call.number(0);
         let tried = self.memory.word(message);
-        self.concluded_with(tried, t, call, out);
+        self.conclude_with(tried, t, call, out);
     }
 
     /// SetMsgWord message word: gives the message another word. HANDLE if no message begins there (project rule).
@@ -273,7 +276,7 @@ impl<S: ListSpace> Kernel<S> {
         let message = call.number(0);
         let word = call.number(1);
         let tried = self.memory.set_word(message, word);
-        self.concluded(tried, t, call, out);
+        self.conclude(tried, t, call, out);
     }
 
     /// The type of a message.
@@ -287,15 +290,15 @@ impl<S: ListSpace> Kernel<S> {
         }
     }
 
-    /// MsgType message: answers its type, 0 for a new one. HANDLE if no message begins there (RKM Libraries, Exec Messages and Ports:
-    /// ln_Type; that a new one has type 0, and the alert: project rule).
+    /// MsgType message: answers its type, 0 for a new one. HANDLE if no message begins there (RKM Libraries, Exec
+    /// Messages and Ports: ln_Type; that a new one has type 0, and the alert: project rule).
     fn msg_type<W: Witness>(&mut self, t: TaskId, call: &Call, out: &mut W)
         requires { HasTask t self.old }
         ensures { Follows W.hearing (does_msg_type t (call_view call.now)) self.old self.new (W.told out.old) (W.told out.new) }
     {
         let message = call.number(0);
         let tried = self.kind(message);
-        self.concluded_with(tried, t, call, out);
+        self.conclude_with(tried, t, call, out);
     }
 
     // ---- putting and replying
@@ -320,8 +323,9 @@ impl<S: ListSpace> Kernel<S> {
         }
     }
 
-    /// A call that puts a message, of a task or of a body: what is to be done for it is done, or the call is refused by its alert.
-    pub(crate) fn performed<W: Witness>(
+    /// A call that puts a message, of a task or of a body: what is to be done for it is done, or the call is refused by
+    /// its alert.
+    pub(crate) fn end_putting<W: Witness>(
         &mut self,
         tried: Result<Action, Refusal>,
         caller: &Caller,
@@ -334,14 +338,14 @@ impl<S: ListSpace> Kernel<S> {
         match tried {
             Ok(action) => {
                 self.perform(action);
-                self.done_by(caller, call, out);
+                self.end_call_by(caller, call, out);
             }
-            Err(why) => self.refused_by(why, caller, call, out),
+            Err(why) => self.refuse_by(why, caller, call, out),
         }
     }
 
-    /// PutMsg port message: puts a message at a port, after those that it has. HANDLE if either is none, LINK if a port has the
-    /// message (autodoc exec.library/PutMsg; the alerts: project rule).
+    /// PutMsg port message: puts a message at a port, after those that it has. HANDLE if either is none, LINK if a port
+    /// has the message (autodoc exec.library/PutMsg; the alerts: project rule).
     pub(crate) fn put_msg<W: Witness>(&mut self, caller: &Caller, call: &Call, out: &mut W)
         requires { HasCaller caller.now self.old }
         ensures { Follows W.hearing (does_put_msg_by (caller_view caller.now) (call_view call.now)) self.old self.new (W.told out.old) (W.told out.new) }
@@ -349,19 +353,19 @@ impl<S: ListSpace> Kernel<S> {
         let port = call.number(0);
         let message = call.number(1);
         let tried = self.memory.put_message(port, message);
-        self.performed(tried, caller, call, out);
+        self.end_putting(tried, caller, call, out);
     }
 
-    /// ReplyMsg message: puts a message at its reply port; one without gets the type NT_FREEMSG. HANDLE if no message begins there,
-    /// LINK if a port has it, HANDLE if no port begins at its reply port's address (autodoc exec.library/ReplyMsg; the alerts: project
-    /// rule).
+    /// ReplyMsg message: puts a message at its reply port; one without gets the type NT_FREEMSG. HANDLE if no message
+    /// begins there, LINK if a port has it, HANDLE if no port begins at its reply port's address (autodoc
+    /// exec.library/ReplyMsg; the alerts: project rule).
     pub(crate) fn reply_msg<W: Witness>(&mut self, caller: &Caller, call: &Call, out: &mut W)
         requires { HasCaller caller.now self.old }
         ensures { Follows W.hearing (does_reply_msg_by (caller_view caller.now) (call_view call.now)) self.old self.new (W.told out.old) (W.told out.new) }
     {
         let message = call.number(0);
         let tried = self.memory.reply_message(message);
-        self.performed(tried, caller, call, out);
+        self.end_putting(tried, caller, call, out);
     }
 
     // ---- taking and waiting
@@ -374,7 +378,7 @@ impl<S: ListSpace> Kernel<S> {
     {
         let port = call.number(0);
         let tried = self.memory.take_message(port);
-        self.concluded_by(tried, caller, call, out);
+        self.conclude_by(tried, caller, call, out);
     }
 
     /// The running task clears its signals of the mask, and waits for new ones.
@@ -410,7 +414,8 @@ impl<S: ListSpace> Kernel<S> {
         self.change_signals(t, 0, mask);
     }
 
-    /// The call at a port with that first message, or with none, and with that signal: it answers the message, or waits.
+    /// The call at a port with that first message, or with none, and with that signal: it answers the message, or
+    /// waits.
     fn look<W: Witness>(
         &mut self,
         message: Option<u32>,
@@ -425,14 +430,15 @@ impl<S: ListSpace> Kernel<S> {
         ensures { Follows W.hearing (looked message (2 ^ bit) t (call_view call.now)) self.old self.new (W.told out.old) (W.told out.new) }
     {
         match message {
-            Some(message) => self.answered(t, call, message, out),
+            Some(message) => self.answer(t, call, message, out),
             None => self.wait_for_message(1 << bit, t, call, out),
         }
     }
 
-    /// WaitPort port: answers the first message of the port, and leaves it there; if there is none, the task waits for the port's
-    /// signal, and looks again when it next runs, after that signal is cleared. HANDLE if no port begins there, PORT if it does not
-    /// signal the caller (autodoc exec.library/WaitPort; how a task waits and looks again, and the alerts: project rule).
+    /// WaitPort port: answers the first message of the port, and leaves it there; if there is none, the task waits for
+    /// the port's signal, and looks again when it next runs, after that signal is cleared. HANDLE if no port begins
+    /// there, PORT if it does not signal the caller (autodoc exec.library/WaitPort; how a task waits and looks again,
+    /// and the alerts: project rule).
     fn wait_port<W: Witness>(&mut self, t: TaskId, call: &Call, out: &mut W)
         requires known { HasTask t self.old }
         requires runs { Runs t self.old }
@@ -444,7 +450,7 @@ impl<S: ListSpace> Kernel<S> {
                 self.lose(t, call.awaited);
                 self.look(message, bit, t, call, out);
             }
-            Err(why) => self.refused(why, t, call, out),
+            Err(why) => self.refuse(why, t, call, out),
         }
     }
 

@@ -50,8 +50,8 @@ impl From<io::Error> for ReadFault {
 /// How many bytes one read is given room for.
 const PIECE: usize = 8192;
 
-/// Reads once into a piece, and keeps what came after the bytes so far: how many bytes came, none at the reader's end. There is room for one
-/// byte past the limit, and no more.
+/// Reads once into a piece, and keeps what came after the bytes so far: how many bytes came, none at the reader's end.
+/// There is room for one byte past the limit, and no more.
 fn read_piece<R: Read>(
     reader: &mut R,
     piece: &mut [u8; PIECE],
@@ -72,13 +72,13 @@ fn read_piece<R: Read>(
     }
 }
 
-/// All bytes that a reader has left, if they are at most `FILE_LIMIT`. Not more than one byte past the limit is read, in at most
-/// `FILE_LIMIT + 1` reads: each but the last gives a byte.
+/// All bytes that a reader has left, if they are at most `FILE_LIMIT`. Not more than one byte past the limit is read,
+/// in at most `FILE_LIMIT + 1` reads: each but the last gives a byte.
 ///
 /// # Errors
 ///
-/// `Failed` if a read answers an error, also one after which it could be made again, `TooLong` if one byte past the limit has come,
-/// and `OutOfMemory` if memory is refused, to the bytes or to the reader.
+/// `Failed` if a read answers an error, also one after which it could be made again, `TooLong` if one byte past the
+/// limit has come, and `OutOfMemory` if memory is refused, to the bytes or to the reader.
 pub fn read_limited<R: Read>(alloc: Global, reader: &mut R) -> Result<Vec<u8>, ReadFault>
     ensures within { IfOk result (λ bytes. vec_len bytes ≤ 4194304) }
     ensures whole { IfOk result (λ bytes. IfSome (R.remaining reader.old) (λ all. bytes.items ≡ all)) }

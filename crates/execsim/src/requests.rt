@@ -1,12 +1,12 @@
-//! Requests of timer.device: how they are made and freed, opened, written, begun, waited for and aborted; and how those finish whose time
-//! has come, at a tick or when system time is set. A request is named by the address of its block. The calls of `Heap` have the effects
-//! on memory; what a reply does to a task is done here.
+//! Requests of timer.device: how they are made and freed, opened, written, begun, waited for and aborted; and how those
+//! finish whose time has come, at a tick or when system time is set. A request is named by the address of its block.
+//! The calls of `Heap` have the effects on memory; what a reply does to a task is done here.
 ghost use Rattle.std.specs.Prelude.{◌≡◌, ◌^◌, false, true, pos, unwrap_or, IfOk, OnErr, OnOk, if◌then◌else◌};
 ghost use Rattle.std.specs.Int.{cast_unsigned, w32};
 ghost use Rattle.iorequest.specs.{Request.is_under_way, Requests.unit_error};
 ghost use Rattle.execmodel.specs.Requests.{does_requests, finishes_all_due, finishes_set, opened_for, request_alert, request_of, resting_alert, timer_unit, does_create_io_request, does_delete_io_request, does_open_device, does_close_device, does_set_io, does_do_io, does_send_io, does_check_io, does_wait_io, does_abort_io, does_io_secs, does_io_micros, does_io_error, does_io_flags};
 ghost use Rattle.execmodel.specs.{State.on_heap, State.on_memory, State.on_timer, Interrupts.finishes_for};
-ghost use Rattle.timerdev.specs.Timing.{due_next, looked_at, ticked, until_next};
+ghost use Rattle.timerdev.specs.Timing.{due_next, looked_at, clock_ticked, until_next};
 ghost use Rattle.execheap.specs.{Listing.IsSignal, Listing.ended_if, Listing.finishing, Refusals.alert_of};
 ghost use Rattle.execsim.specs.{Callers.HasTask, Callers.Runs, Actions.aborts_or_alerted, Actions.finishes_all_until, Actions.finishes_with, Actions.tells_or_waits, Agreement.Follows, Time.HasTimeFor, Views.call_view};
 
@@ -58,35 +58,35 @@ fn flag_word(set: bool) -> u32
 impl<S: ListSpace> Kernel<S> {
     // ---- made and freed
 
-    /// CreateIORequest port: answers the address of a new request with that reply port, or 0; 0 for port 0. HANDLE if the port is not 0
-    /// and none begins there (autodoc exec.library/CreateIORequest; the alert: project rule).
+    /// CreateIORequest port: answers the address of a new request with that reply port, or 0; 0 for port 0. HANDLE if
+    /// the port is not 0 and none begins there (autodoc exec.library/CreateIORequest; the alert: project rule).
     fn create_io_request<W: Witness>(&mut self, t: TaskId, call: &Call, out: &mut W)
         requires { HasTask t self.old }
         ensures { Follows W.hearing (does_create_io_request t (call_view call.now)) self.old self.new (W.told out.old) (W.told out.new) }
     {
         let port = call.number(0);
         if port == 0 {
-            self.answered(t, call, 0, out);
+            self.answer(t, call, 0, out);
         } else {
             match self.memory.new_request(port) {
-                Ok(request) => self.answered(t, call, request.unwrap_or(0), out),
-                Err(why) => self.refused(why, t, call, out),
+                Ok(request) => self.answer(t, call, request.unwrap_or(0), out),
+                Err(why) => self.refuse(why, t, call, out),
             }
         }
     }
 
-    /// DeleteIORequest request: frees a request; 0 does nothing. HANDLE if none begins there, IO if it is in progress, LINK if its
-    /// reply is queued (autodoc exec.library/DeleteIORequest; the alerts: project rule).
+    /// DeleteIORequest request: frees a request; 0 does nothing. HANDLE if none begins there, IO if it is in progress,
+    /// LINK if its reply is queued (autodoc exec.library/DeleteIORequest; the alerts: project rule).
     fn delete_io_request<W: Witness>(&mut self, t: TaskId, call: &Call, out: &mut W)
         requires { HasTask t self.old }
         ensures { Follows W.hearing (does_delete_io_request t (call_view call.now)) self.old self.new (W.told out.old) (W.told out.new) }
     {
         let request = call.number(0);
         if request == 0 {
-            self.done(t, call, out);
+            self.end_call(t, call, out);
         } else {
             let tried = self.memory.delete_request(request);
-            self.concluded(tried, t, call, out);
+            self.conclude(tried, t, call, out);
         }
     }
 
@@ -105,16 +105,16 @@ impl<S: ListSpace> Kernel<S> {
         }
     }
 
-    /// OpenDevice name unit request: opens a request for a unit of timer.device, and answers 0; or the word of IOERR_OPENFAIL (-1) if
-    /// there is no such device or unit, and the request is then not open. HANDLE if no request begins there, IO if it is in progress
-    /// (autodoc exec.library/OpenDevice; the alerts: project rule).
+    /// OpenDevice name unit request: opens a request for a unit of timer.device, and answers 0; or the word of
+    /// IOERR_OPENFAIL (-1) if there is no such device or unit, and the request is then not open. HANDLE if no request
+    /// begins there, IO if it is in progress (autodoc exec.library/OpenDevice; the alerts: project rule).
     fn open_device<W: Witness>(&mut self, t: TaskId, call: &Call, out: &mut W)
         requires { HasTask t self.old }
         ensures { Follows W.hearing (does_open_device t (call_view call.now)) self.old self.new (W.told out.old) (W.told out.new) }
     {
         let unit = timer_unit(name_or_empty(call.name(0)), call.number(1));
         let tried = self.open_request(call.number(2), unit);
-        self.concluded_with(tried, t, call, out);
+        self.conclude_with(tried, t, call, out);
     }
 
     /// CloseDevice request: the request is not open. HANDLE if none begins there, IO if it is in progress (autodoc
@@ -126,12 +126,13 @@ impl<S: ListSpace> Kernel<S> {
     {
         let request = call.number(0);
         let tried = self.memory.close_device(request);
-        self.concluded(tried, t, call, out);
+        self.conclude(tried, t, call, out);
     }
 
-    /// SetIO request cmd secs micros: gives a request a command and a time in seconds and microseconds. HANDLE if no request begins
-    /// there, VALUE if the command is above 65535, IO if the request is in progress (RKM Devices, Introduction to Amiga System Devices:
-    /// io_Command; Devices, timer device: tr_time; that there is a call for it, and the alerts: project rule).
+    /// SetIO request cmd secs micros: gives a request a command and a time in seconds and microseconds. HANDLE if no
+    /// request begins there, VALUE if the command is above 65535, IO if the request is in progress (RKM Devices,
+    /// Introduction to Amiga System Devices: io_Command; Devices, timer device: tr_time; that there is a call for it,
+    /// and the alerts: project rule).
     fn set_io<W: Witness>(&mut self, t: TaskId, call: &Call, out: &mut W)
         requires { HasTask t self.old }
         ensures { Follows W.hearing (does_set_io t (call_view call.now)) self.old self.new (W.told out.old) (W.told out.new) }
@@ -142,26 +143,26 @@ impl<S: ListSpace> Kernel<S> {
             let tried = self
                 .memory
                 .set_request(request, command as u16, call.number(2), call.number(3));
-            self.concluded(tried, t, call, out);
+            self.conclude(tried, t, call, out);
         } else if self.memory.is_request(request) {
-            self.alerted(Alert::Value, t, call, out);
+            self.alert(Alert::Value, t, call, out);
         } else {
-            self.alerted(Alert::Handle, t, call, out);
+            self.alert(Alert::Handle, t, call, out);
         }
     }
 
     // ---- beginning and waiting
 
-    /// SendIO request: begins a request with IOF_QUICK cleared; if that does it at once, it is replied. HANDLE if no request begins
-    /// there, IO if it is in progress or not open, LINK if its reply is queued, HANDLE if no port begins at its reply port's address
-    /// (autodoc exec.library/SendIO; the alerts: project rule).
+    /// SendIO request: begins a request with IOF_QUICK cleared; if that does it at once, it is replied. HANDLE if no
+    /// request begins there, IO if it is in progress or not open, LINK if its reply is queued, HANDLE if no port begins
+    /// at its reply port's address (autodoc exec.library/SendIO; the alerts: project rule).
     fn send_io<W: Witness>(&mut self, t: TaskId, call: &Call, out: &mut W)
         requires { HasTask t self.old }
         ensures { Follows W.hearing (does_send_io t (call_view call.now)) self.old self.new (W.told out.old) (W.told out.new) }
     {
         let request = call.number(0);
         let tried = self.memory.send_request(request);
-        self.performed(tried, &Caller::Task(t), call, out);
+        self.end_putting(tried, &Caller::Task(t), call, out);
     }
 
     /// The call that looks for a request answers its error, or waits for its reply port's signal.
@@ -172,15 +173,16 @@ impl<S: ListSpace> Kernel<S> {
         ensures { Follows W.hearing (tells_or_waits found t (call_view call.now)) self.old self.new (W.told out.old) (W.told out.new) }
     {
         match found {
-            Awaited::Done(error) => self.answered(t, call, error_word(error), out),
+            Awaited::Done(error) => self.answer(t, call, error_word(error), out),
             Awaited::UnderWay(bit) => self.wait_for_message(1 << bit, t, call, out),
         }
     }
 
-    /// WaitIO request: answers the error of a request that is done, and takes its reply, if it has one; if it is in progress, the task waits
-    /// for the signal of its reply port, and looks again when it next runs, after that signal is cleared. HANDLE if no request begins
-    /// there, IO if it never was begun, LINK if it was replied and its reply is not queued, PORT if it is in progress and its reply
-    /// port does not signal the caller (autodoc exec.library/WaitIO; how a task waits and looks again, and the alerts: project rule).
+    /// WaitIO request: answers the error of a request that is done, and takes its reply, if it has one; if it is in
+    /// progress, the task waits for the signal of its reply port, and looks again when it next runs, after that signal
+    /// is cleared. HANDLE if no request begins there, IO if it never was begun, LINK if it was replied and its reply is
+    /// not queued, PORT if it is in progress and its reply port does not signal the caller (autodoc
+    /// exec.library/WaitIO; how a task waits and looks again, and the alerts: project rule).
     fn wait_io<W: Witness>(&mut self, t: TaskId, call: &Call, out: &mut W)
         requires known { HasTask t self.old }
         requires runs { Runs t self.old }
@@ -192,13 +194,14 @@ impl<S: ListSpace> Kernel<S> {
                 self.lose(t, call.awaited);
                 self.look_for(found, t, call, out);
             }
-            Err(why) => self.refused(why, t, call, out),
+            Err(why) => self.refuse(why, t, call, out),
         }
     }
 
-    /// DoIO request: begins a request with IOF_QUICK set; if that does it at once, its error is answered, else the task waits for it as
-    /// by WaitIO. The call of a task that has waited begins nothing: it is WaitIO's. Alerts as SendIO's, and PORT if the reply port does
-    /// not signal the caller (autodoc exec.library/DoIO; the alerts: project rule).
+    /// DoIO request: begins a request with IOF_QUICK set; if that does it at once, its error is answered, else the task
+    /// waits for it as by WaitIO. The call of a task that has waited begins nothing: it is WaitIO's. Alerts as
+    /// SendIO's, and PORT if the reply port does not signal the caller (autodoc exec.library/DoIO; the alerts: project
+    /// rule).
     fn do_io<W: Witness>(&mut self, t: TaskId, call: &Call, out: &mut W)
         requires known { HasTask t self.old }
         requires runs { Runs t self.old }
@@ -210,7 +213,7 @@ impl<S: ListSpace> Kernel<S> {
             let request = call.number(0);
             match self.memory.do_request(t, request) {
                 Ok(found) => self.look_for(found, t, call, out),
-                Err(why) => self.refused(why, t, call, out),
+                Err(why) => self.refuse(why, t, call, out),
             }
         }
     }
@@ -226,19 +229,19 @@ impl<S: ListSpace> Kernel<S> {
         }
     }
 
-    /// CheckIO request: answers 0 for a request that is in progress, and else the request, and leaves its reply where it is. HANDLE if no
-    /// request begins there (autodoc exec.library/CheckIO; the alert: project rule).
+    /// CheckIO request: answers 0 for a request that is in progress, and else the request, and leaves its reply where
+    /// it is. HANDLE if no request begins there (autodoc exec.library/CheckIO; the alert: project rule).
     fn check_io<W: Witness>(&mut self, t: TaskId, call: &Call, out: &mut W)
         requires { HasTask t self.old }
         ensures { Follows W.hearing (does_check_io t (call_view call.now)) self.old self.new (W.told out.old) (W.told out.new) }
     {
         let request = call.number(0);
         let tried = self.check(request);
-        self.concluded_with(tried, t, call, out);
+        self.conclude_with(tried, t, call, out);
     }
 
-    /// A call that aborts a request: one that was in progress is replied, and 0 is answered, for any other the word of -1; or the call is
-    /// refused by its alert.
+    /// A call that aborts a request: one that was in progress is replied, and 0 is answered, for any other the word of
+    /// -1; or the call is refused by its alert.
     fn aborted<W: Witness>(
         &mut self,
         tried: Result<Option<Action>, Refusal>,
@@ -253,16 +256,17 @@ impl<S: ListSpace> Kernel<S> {
             Ok(found) => match found {
                 Some(action) => {
                     self.perform(action);
-                    self.answered(t, call, 0, out);
+                    self.answer(t, call, 0, out);
                 }
-                None => self.answered(t, call, NOT_ABORTED, out),
+                None => self.answer(t, call, NOT_ABORTED, out),
             },
-            Err(why) => self.refused(why, t, call, out),
+            Err(why) => self.refuse(why, t, call, out),
         }
     }
 
-    /// AbortIO request: a request that is in progress is replied at once, with the error IOERR_ABORTED (-2), and 0 is answered; for any other
-    /// the word of -1. HANDLE if no request begins there (autodoc exec.library/AbortIO; the alert: project rule).
+    /// AbortIO request: a request that is in progress is replied at once, with the error IOERR_ABORTED (-2), and 0 is
+    /// answered; for any other the word of -1. HANDLE if no request begins there (autodoc exec.library/AbortIO; the
+    /// alert: project rule).
     fn abort_io<W: Witness>(&mut self, t: TaskId, call: &Call, out: &mut W)
         requires { HasTask t self.old }
         ensures { Follows W.hearing (does_abort_io t (call_view call.now)) self.old self.new (W.told out.old) (W.told out.new) }
@@ -274,24 +278,24 @@ impl<S: ListSpace> Kernel<S> {
 
     // ---- what a request holds
 
-    /// IOSecs request: answers the seconds of its time. HANDLE if no request begins there (Devices, timer device: tr_time; that there is
-    /// a call for it, and the alert: project rule).
+    /// IOSecs request: answers the seconds of its time. HANDLE if no request begins there (Devices, timer device:
+    /// tr_time; that there is a call for it, and the alert: project rule).
     fn io_secs<W: Witness>(&mut self, t: TaskId, call: &Call, out: &mut W)
         requires { HasTask t self.old }
         ensures { Follows W.hearing (does_io_secs t (call_view call.now)) self.old self.new (W.told out.old) (W.told out.new) }
     {
         let tried = self.memory.secs(call.number(0));
-        self.concluded_with(tried, t, call, out);
+        self.conclude_with(tried, t, call, out);
     }
 
-    /// IOMicros request: answers the microseconds of its time. HANDLE if no request begins there (Devices, timer device: tr_time; that
-    /// there is a call for it, and the alert: project rule).
+    /// IOMicros request: answers the microseconds of its time. HANDLE if no request begins there (Devices, timer
+    /// device: tr_time; that there is a call for it, and the alert: project rule).
     fn io_micros<W: Witness>(&mut self, t: TaskId, call: &Call, out: &mut W)
         requires { HasTask t self.old }
         ensures { Follows W.hearing (does_io_micros t (call_view call.now)) self.old self.new (W.told out.old) (W.told out.new) }
     {
         let tried = self.memory.micros(call.number(0));
-        self.concluded_with(tried, t, call, out);
+        self.conclude_with(tried, t, call, out);
     }
 
     /// The error of a request as a word.
@@ -305,15 +309,15 @@ impl<S: ListSpace> Kernel<S> {
         }
     }
 
-    /// IOError request: answers its error as a word: 0, or that of IOERR_OPENFAIL (-1), IOERR_ABORTED (-2) or IOERR_NOCMD (-3). HANDLE if
-    /// no request begins there (RKM Devices, Introduction to Amiga System Devices: io_Error; that there is a call for it, and the alert: project
-    /// rule).
+    /// IOError request: answers its error as a word: 0, or that of IOERR_OPENFAIL (-1), IOERR_ABORTED (-2) or
+    /// IOERR_NOCMD (-3). HANDLE if no request begins there (RKM Devices, Introduction to Amiga System Devices:
+    /// io_Error; that there is a call for it, and the alert: project rule).
     fn io_error<W: Witness>(&mut self, t: TaskId, call: &Call, out: &mut W)
         requires { HasTask t self.old }
         ensures { Follows W.hearing (does_io_error t (call_view call.now)) self.old self.new (W.told out.old) (W.told out.new) }
     {
         let tried = self.error(call.number(0));
-        self.concluded_with(tried, t, call, out);
+        self.conclude_with(tried, t, call, out);
     }
 
     /// IOF_QUICK of a request as a word: 1 if it is set, and else 0.
@@ -327,14 +331,14 @@ impl<S: ListSpace> Kernel<S> {
         }
     }
 
-    /// IOFlags request: answers 1 if IOF_QUICK is set, and else 0. HANDLE if no request begins there (RKM Devices, Introduction to
-    /// Amiga System Devices: io_Flags; that there is a call for it, and the alert: project rule).
+    /// IOFlags request: answers 1 if IOF_QUICK is set, and else 0. HANDLE if no request begins there (RKM Devices,
+    /// Introduction to Amiga System Devices: io_Flags; that there is a call for it, and the alert: project rule).
     fn io_flags<W: Witness>(&mut self, t: TaskId, call: &Call, out: &mut W)
         requires { HasTask t self.old }
         ensures { Follows W.hearing (does_io_flags t (call_view call.now)) self.old self.new (W.told out.old) (W.told out.new) }
     {
         let tried = self.flags(call.number(0));
-        self.concluded_with(tried, t, call, out);
+        self.conclude_with(tried, t, call, out);
     }
 
     /// A call of task t on requests, by its word.
@@ -372,12 +376,13 @@ impl<S: ListSpace> Kernel<S> {
     /// The clock and system time gain a tick.
     pub(crate) fn gain_tick(&mut self)
         requires { HasTimeFor 1 self.old }
-        ensures { self.new ≡ record self.old { memory = on_timer ticked self.old.memory } }
+        ensures { self.new ≡ record self.old { memory = on_timer clock_ticked self.old.memory } }
     {
         self.memory.tick();
     }
 
-    /// The first request whose time has come, if there is one, is done, and waits no more; answered with what is to be done for its reply.
+    /// The first request whose time has come, if there is one, is done, and waits no more; answered with what is to be
+    /// done for its reply.
     fn take_due(&mut self) -> Option<(u32, Action)>
         ensures answer { result ≡ finishing self.old.memory.heap (due_next self.old.memory.timer) }
         ensures next { self.new ≡ record self.old { memory = ended_if (due_next self.old.memory.timer) self.old.memory } }
@@ -394,8 +399,8 @@ impl<S: ListSpace> Kernel<S> {
         self.perform(action);
     }
 
-    /// All requests whose time has come finish, one after another: by the due time when it came, and those of one due time in the order in
-    /// which they were begun.
+    /// All requests whose time has come finish, one after another: by the due time when it came, and those of one due
+    /// time in the order in which they were begun.
     fn finish_all_due<W: Witness>(&mut self, out: &mut W)
         ensures { Follows W.hearing finishes_all_due self.old self.new (W.told out.old) (W.told out.new) }
     {
@@ -416,7 +421,8 @@ impl<S: ListSpace> Kernel<S> {
 
     // ---- system time
 
-    /// Answers whether system time was set, and those that wait for it were not looked at since; now they are looked at.
+    /// Answers whether system time was set, and those that wait for it were not looked at since; now they are looked
+    /// at.
     fn take_setting(&mut self) -> bool
         ensures answer { result ≡ self.old.memory.timer.is_set }
         ensures next { self.new ≡ record self.old { memory = on_timer looked_at self.old.memory } }
@@ -424,8 +430,8 @@ impl<S: ListSpace> Kernel<S> {
         self.memory.take_setting()
     }
 
-    /// The first request that waits for system time and whose time has come, if there is one, is done, and waits no more; answered with
-    /// what is to be done for its reply.
+    /// The first request that waits for system time and whose time has come, if there is one, is done, and waits no
+    /// more; answered with what is to be done for its reply.
     fn take_until(&mut self) -> Option<(u32, Action)>
         ensures answer { result ≡ finishing self.old.memory.heap (until_next self.old.memory.timer) }
         ensures next { self.new ≡ record self.old { memory = ended_if (until_next self.old.memory.timer) self.old.memory } }
@@ -433,8 +439,8 @@ impl<S: ListSpace> Kernel<S> {
         self.memory.finish_until()
     }
 
-    /// All requests that wait for system time and whose time has come finish, one after another: by their times, and those of one time in
-    /// the order in which they were begun.
+    /// All requests that wait for system time and whose time has come finish, one after another: by their times, and
+    /// those of one time in the order in which they were begun.
     fn finish_all_until<W: Witness>(&mut self, out: &mut W)
         ensures { Follows W.hearing finishes_all_until self.old self.new (W.told out.old) (W.told out.new) }
     {
@@ -443,8 +449,8 @@ impl<S: ListSpace> Kernel<S> {
         }
     }
 
-    /// What follows a call on requests: if it set system time, all requests finish that wait for system time and whose time has come.
-    /// Those that wait for the clock are not looked at.
+    /// What follows a call on requests: if it set system time, all requests finish that wait for system time and whose
+    /// time has come. Those that wait for the clock are not looked at.
     pub(crate) fn finish_set<W: Witness>(&mut self, out: &mut W)
         ensures { Follows W.hearing finishes_set self.old self.new (W.told out.old) (W.told out.new) }
     {

@@ -1,4 +1,5 @@
-//! A used machine, put back to its first state with no memory taken: each part becomes what `boot` makes of the file, if it is as large.
+//! A used machine, put back to its first state with no memory taken: each part becomes what `boot` makes of the file,
+//! if it is as large.
 ghost use Rattle.std.specs.Prelude.{◌≡◌, ◌↔◌, [], length, map, nat_eq, true};
 ghost use Rattle.script.specs.Records.{task_view};
 ghost use Rattle.scheduler.specs.Schedule.{task_count, unstarted};
@@ -7,7 +8,7 @@ ghost use Rattle.execmodel.specs.State.{new_program};
 ghost use Rattle.execheap.specs.Resetting.{IsAsLarge};
 ghost use Rattle.execsim.specs.Resetting.{command_count, task_command_count};
 
-use crate::program::Program;
+use crate::progress::Program;
 use execheap::Heap;
 use execlist::space::ListSpace;
 use scheduler::Sched;
@@ -30,7 +31,8 @@ fn reset_inits(inits: &mut Vec<TaskInit>, tasks: &[TaskRecord])
     }
 }
 
-/// Makes the schedule that of these tasks, which are as many, and of which none was added. Their names and priorities are put together in `inits`.
+/// Makes the schedule that of these tasks, which are as many, and of which none was added. Their names and priorities
+/// are put together in `inits`.
 pub(crate) fn reset_sched<S: ListSpace>(
     sched: &mut Sched<S>,
     inits: &mut Vec<TaskInit>,
@@ -46,7 +48,8 @@ pub(crate) fn reset_sched<S: ListSpace>(
     sched.reset(inits.as_slice(), quantum);
 }
 
-/// Makes the programs those of these tasks, each at its first command, if they are as many and have as many commands, and answers whether they have.
+/// Makes the programs those of these tasks, each at its first command, if they are as many and have as many commands,
+/// and answers whether they have.
 pub(crate) fn reset_programs(programs: &mut Vec<Program>, tasks: &[TaskRecord]) -> bool
     ensures answer { (result ≡ true) ↔ (map command_count programs.old.items ≡ map task_command_count (map task_view tasks.now)) }
     ensures same { result ≡ true → programs.new.items ≡ map new_program (map task_view tasks.now) }

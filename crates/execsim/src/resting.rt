@@ -1,5 +1,5 @@
-//! Steps of a machine in which nothing is due: its running task does plain words, or it is idle. Between them nothing is settled, since a
-//! plain word leaves a machine settled.
+//! Steps of a machine in which nothing is due: its running task does plain words, or it is idle. Between them nothing
+//! is settled, since a plain word leaves a machine settled.
 ghost use Rattle.std.specs.Prelude.{◌≡◌, ◌≤◌, true, false, IsTrue};
 ghost use Rattle.execmodel.specs.Step.{step, steps};
 ghost use Rattle.execsim.specs.{Advancing.GoesSilently, Advancing.StepsSilently, Agreement.Follows, Callers.HasTask, Reached.IsInOrder, Resting.IsSettled, Resting.Rests};
@@ -11,7 +11,8 @@ use script::Word;
 use taskq::TaskId;
 
 impl<S: ListSpace> Kernel<S> {
-    /// Task t, which rests, does plain words that print nothing, as long as its next command is one, and at most that many. The answer is how many.
+    /// Task t, which rests, does plain words that print nothing, as long as its next command is one, and at most that
+    /// many. The answer is how many.
     #[inline(always)]
     fn silent_words(&mut self, t: TaskId, most: u32) -> u32
         requires { Rests t self.old }
@@ -26,8 +27,8 @@ impl<S: ListSpace> Kernel<S> {
         most
     }
 
-    /// Task t, which rests, does plain words, as long as its next command is one, and at most that many; it prints to a good sink only. The answer
-    /// is how many.
+    /// Task t, which rests, does plain words, as long as its next command is one, and at most that many; it prints to a
+    /// good sink only. The answer is how many.
     #[inline(never)]
     fn plain_words<W: Witness>(&mut self, t: TaskId, most: u32, out: &mut W) -> u32
         requires { Rests t self.old }
@@ -56,8 +57,9 @@ impl<S: ListSpace> Kernel<S> {
         }
     }
 
-    /// Steps of a settled machine that ask nothing of Exec, at most that many: those of an idle machine, or plain words. The answer is how many.
-    pub(crate) fn quiet_steps<W: Witness>(&mut self, most: u32, out: &mut W) -> u32
+    /// Steps of a settled machine that ask nothing of Exec, at most that many: those of an idle machine, or plain
+    /// words. The answer is how many.
+    pub(crate) fn plain_steps<W: Witness>(&mut self, most: u32, out: &mut W) -> u32
         requires { IsSettled self.old }
         ensures within { result ≤ most }
         ensures follows { Follows W.hearing (steps result) self.old self.new (W.told out.old) (W.told out.new) }
@@ -93,10 +95,11 @@ impl<S: ListSpace> Kernel<S> {
         }
     }
 
-    /// A step of a settled machine, if its running task does a plain word in it, or if it is idle; a word prints to a good sink only. A Print is looked
-    /// for first, since a log comes to one Print at a time. The answer is whether the step was done.
+    /// A step of a settled machine, if its running task does a plain word in it, or if it is idle; a word prints to a
+    /// good sink only. A Print is looked for first, since a log comes to one Print at a time. The answer is whether the
+    /// step was done.
     #[inline(always)]
-    fn quiet_step<W: Witness>(&mut self, out: &mut W) -> bool
+    fn plain_step<W: Witness>(&mut self, out: &mut W) -> bool
         requires { IsSettled self.old }
         ensures follows { IsTrue result → Follows W.hearing step self.old self.new (W.told out.old) (W.told out.new) }
         ensures settled { IsSettled self.new }
@@ -118,37 +121,43 @@ impl<S: ListSpace> Kernel<S> {
         }
     }
 
-    /// One step of a machine, which is settled if `rests` says so. The answer is whether nothing was due after it, so that the machine is settled.
+    /// One step of a machine, which is settled if `is_settled` says so. The answer is whether nothing was due after it,
+    /// so that the machine is settled.
     #[inline(always)]
-    fn next_step<W: Witness>(&mut self, rests: bool, out: &mut W) -> bool
+    fn next_step<W: Witness>(&mut self, is_settled: bool, out: &mut W) -> bool
         requires agree { IsInOrder self.old }
-        requires settled { rests ≡ true → IsSettled self.old }
+        requires settled { is_settled ≡ true → IsSettled self.old }
         ensures follows { Follows W.hearing step self.old self.new (W.told out.old) (W.told out.new) }
         ensures settled { IsTrue result → IsSettled self.new }
     {
-        if rests && self.quiet_step(out) {
+        if is_settled && self.plain_step(out) {
             return true;
         }
         self.step(out)
     }
 
-    /// One step, and those after it that ask nothing of Exec and print nothing; at most that many of these. The answer is how many these were.
-    /// The machine is settled before and after if `rests` says so; it does if the machine did plain words that print nothing, since others then
-    /// often follow.
+    /// One step, and those after it that ask nothing of Exec and print nothing; at most that many of these. The answer
+    /// is how many these were. The machine is settled before and after if `is_settled` says so; it does if the machine
+    /// did plain words that print nothing, since others then often follow.
     #[inline(always)]
-    pub(crate) fn advance<W: Witness>(&mut self, rests: &mut bool, more: u32, out: &mut W) -> u32
+    pub(crate) fn advance<W: Witness>(
+        &mut self,
+        is_settled: &mut bool,
+        more: u32,
+        out: &mut W,
+    ) -> u32
         requires agree { IsInOrder self.old }
-        requires settled { rests.old ≡ true → IsSettled self.old }
+        requires settled { is_settled.old ≡ true → IsSettled self.old }
         ensures within { result ≤ more }
         ensures steps { StepsSilently W.hearing result self.old self.new (W.told out.old) (W.told out.new) }
-        ensures settled { rests.new ≡ true → IsSettled self.new }
+        ensures settled { is_settled.new ≡ true → IsSettled self.new }
     {
-        if self.next_step(*rests, out) {
+        if self.next_step(*is_settled, out) {
             let silent = self.silent_steps(more);
-            *rests = 0 < silent;
+            *is_settled = 0 < silent;
             silent
         } else {
-            *rests = false;
+            *is_settled = false;
             0
         }
     }

@@ -1,12 +1,12 @@
-//! Signal semaphores: how they are made and freed, obtained and released. A semaphore is named by the address of its block. The calls of
-//! `Heap` have the effects on memory; which task waits and which is made ready is done here.
+//! Signal semaphores: how they are made and freed, obtained and released. A semaphore is named by the address of its
+//! block. The calls of `Heap` have the effects on memory; which task waits and which is made ready is done here.
 ghost use Rattle.std.specs.Prelude.{◌≡◌, ◌<◌, [], if◌then◌else◌, IfOk, IfSome};
 ghost use Rattle.execlist.specs.Disciplines.{by_priority};
 ghost use Rattle.taskq.specs.{declared.TaskState.TaskState, declared.Why.Why};
 ghost use Rattle.scheduler.specs.{Schedule.status_of, Schedule.waits_at_semaphore, Dispatch.arrives};
 ghost use Rattle.sigsem.specs.Semaphores.{free_sem};
 ghost use Rattle.execmodel.specs.Semaphores.{is_semaphore, is_tried_again, semaphore_size, does_semaphores, does_new_sem, does_free_sem, does_obtain_semaphore, does_attempt_semaphore, does_release_semaphore};
-ghost use Rattle.execmodel.specs.{State.Semaphore, Calls.argument, Memory.placed, GivingWay.after_asking_for_object, Objects.place_for_object, Agreement.WaitsForNone};
+ghost use Rattle.execmodel.specs.{State.Semaphore, Calls.argument, Memory.placed, LowMemory.after_asking_for_object, Objects.place_for_object, Agreement.WaitsForNone};
 ghost use Rattle.execsim.specs.{Callers.HasTask, Callers.Runs, Actions.obtains_or_alerted, Actions.passes_or_alerted, Agreement.Follows, Reached.IsInOrder, Reached.QueuesAgree, Views.call_view};
 
 use crate::call::Call;
@@ -28,7 +28,7 @@ fn attempted(has: bool) -> u32
 impl<S: ListSpace> Kernel<S> {
     // ---- made and freed
 
-    /// A new semaphore, which no task owns, if there is room for one once libraries were expunged under low memory for it.
+    /// A new semaphore, which no task owns, if there is room for one, at once or after libraries were asked for memory.
     fn make_semaphore(&mut self) -> Option<u32>
         ensures address { result ≡ place_for_object is_semaphore semaphore_size (after_asking_for_object is_semaphore semaphore_size self.old.memory) }
         ensures next { self.new ≡ record self.old {
@@ -38,15 +38,15 @@ impl<S: ListSpace> Kernel<S> {
         self.memory.new_semaphore()
     }
 
-    /// NewSem: answers the address of a new semaphore, which no task owns, or 0 (autodoc exec.library/InitSemaphore; that it takes the
-    /// memory: project rule).
+    /// NewSem: answers the address of a new semaphore, which no task owns, or 0 (autodoc exec.library/InitSemaphore;
+    /// that it takes the memory: project rule).
     #[tactic(auto, using(crate::proofs::Obtaining::semaphore_made))]
     fn new_sem<W: Witness>(&mut self, t: TaskId, call: &Call, out: &mut W)
         requires { HasTask t self.old }
         ensures { Follows W.hearing (does_new_sem t (call_view call.now)) self.old self.new (W.told out.old) (W.told out.new) }
     {
         let semaphore = self.make_semaphore();
-        self.answered(t, call, semaphore.unwrap_or(0), out);
+        self.answer(t, call, semaphore.unwrap_or(0), out);
     }
 
     /// FreeSem semaphore: frees a semaphore. HANDLE if none begins there, SEM if a task owns it (project rule).
@@ -56,7 +56,7 @@ impl<S: ListSpace> Kernel<S> {
     {
         let semaphore = call.number(0);
         let tried = self.memory.free_semaphore(semaphore);
-        self.concluded(tried, t, call, out);
+        self.conclude(tried, t, call, out);
     }
 
     // ---- obtaining
@@ -77,7 +77,8 @@ impl<S: ListSpace> Kernel<S> {
         self.sched.wait_sem();
     }
 
-    /// A call by which task t asks for a semaphore: it is done if the task has it, else the task waits; or it is refused by its alert.
+    /// A call by which task t asks for a semaphore: it is done if the task has it, else the task waits; or it is
+    /// refused by its alert.
     fn obtains<W: Witness>(
         &mut self,
         tried: Result<Obtained, Refusal>,
@@ -91,19 +92,20 @@ impl<S: ListSpace> Kernel<S> {
     {
         match tried {
             Ok(how) => match how {
-                Obtained::Owner => self.done(t, call, out),
+                Obtained::Owner => self.end_call(t, call, out),
                 Obtained::Waits => {
                     self.wait_at_semaphore(t);
                     self.waiting(t, call, out);
                 }
             },
-            Err(why) => self.refused(why, t, call, out),
+            Err(why) => self.refuse(why, t, call, out),
         }
     }
 
-    /// ObtainSemaphore semaphore: a free semaphore is the caller's, with the count 1; the owner's count is one more; any other task waits,
-    /// after those that asked before. The call of a task that has waited is complete. HANDLE if no semaphore begins there, SEM if the
-    /// count would go past 32767 (autodoc exec.library/ObtainSemaphore; the alerts: project rule).
+    /// ObtainSemaphore semaphore: a free semaphore is the caller's, with the count 1; the owner's count is one more;
+    /// any other task waits, after those that asked before. The call of a task that has waited is complete. HANDLE if
+    /// no semaphore begins there, SEM if the count would go past 32767 (autodoc exec.library/ObtainSemaphore; the
+    /// alerts: project rule).
     fn obtain_semaphore<W: Witness>(&mut self, t: TaskId, call: &Call, out: &mut W)
         requires known { HasTask t self.old }
         requires runs { Runs t self.old }
@@ -112,7 +114,7 @@ impl<S: ListSpace> Kernel<S> {
         ensures { Follows W.hearing (does_obtain_semaphore t (call_view call.now)) self.old self.new (W.told out.old) (W.told out.new) }
     {
         if self.is_tried_again(t) {
-            self.done(t, call, out);
+            self.end_call(t, call, out);
         } else {
             let semaphore = call.number(0);
             let tried = self.memory.obtain_semaphore(t, semaphore);
@@ -120,17 +122,17 @@ impl<S: ListSpace> Kernel<S> {
         }
     }
 
-    /// AttemptSemaphore semaphore: as ObtainSemaphore if no wait is needed, and answers 1; else nothing changes and the answer is 0.
-    /// HANDLE if no semaphore begins there, SEM if the count would go past 32767 (autodoc exec.library/AttemptSemaphore; the alerts:
-    /// project rule).
+    /// AttemptSemaphore semaphore: as ObtainSemaphore if no wait is needed, and answers 1; else nothing changes and the
+    /// answer is 0. HANDLE if no semaphore begins there, SEM if the count would go past 32767 (autodoc
+    /// exec.library/AttemptSemaphore; the alerts: project rule).
     fn attempt_semaphore<W: Witness>(&mut self, t: TaskId, call: &Call, out: &mut W)
         requires { HasTask t self.old }
         ensures { Follows W.hearing (does_attempt_semaphore t (call_view call.now)) self.old self.new (W.told out.old) (W.told out.new) }
     {
         let semaphore = call.number(0);
         match self.memory.attempt_semaphore(t, semaphore) {
-            Ok(has) => self.answered(t, call, attempted(has), out),
-            Err(why) => self.refused(why, t, call, out),
+            Ok(has) => self.answer(t, call, attempted(has), out),
+            Err(why) => self.refuse(why, t, call, out),
         }
     }
 
@@ -144,7 +146,8 @@ impl<S: ListSpace> Kernel<S> {
         self.sched.wake_sem(t);
     }
 
-    /// A call that releases a semaphore: the new owner, if there is one, becomes ready; or the call is refused by its alert.
+    /// A call that releases a semaphore: the new owner, if there is one, becomes ready; or the call is refused by its
+    /// alert.
     fn passes<W: Witness>(
         &mut self,
         tried: Result<Option<TaskId>, Refusal>,
@@ -160,17 +163,18 @@ impl<S: ListSpace> Kernel<S> {
             Ok(heir) => match heir {
                 Some(owner) => {
                     self.wake(owner);
-                    self.done(t, call, out);
+                    self.end_call(t, call, out);
                 }
-                None => self.done(t, call, out),
+                None => self.end_call(t, call, out),
             },
-            Err(why) => self.refused(why, t, call, out),
+            Err(why) => self.refuse(why, t, call, out),
         }
     }
 
-    /// ReleaseSemaphore semaphore: the owner has to release the semaphore once less. The last release hands it on: the first of the tasks
-    /// that wait there is the owner with the count 1, and ready; if none waits, no task owns it. HANDLE if no semaphore begins there,
-    /// SEM if the caller does not own it (autodoc exec.library/ReleaseSemaphore; the alerts: project rule).
+    /// ReleaseSemaphore semaphore: the owner has to release the semaphore once less. The last release hands it on: the
+    /// first of the tasks that wait there is the owner with the count 1, and ready; if none waits, no task owns it.
+    /// HANDLE if no semaphore begins there, SEM if the caller does not own it (autodoc exec.library/ReleaseSemaphore;
+    /// the alerts: project rule).
     fn release_semaphore<W: Witness>(&mut self, t: TaskId, call: &Call, out: &mut W)
         requires known { HasTask t self.old }
         requires agree { QueuesAgree self.old }

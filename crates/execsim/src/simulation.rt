@@ -21,7 +21,8 @@ pub enum End {
     Alerted,
 }
 
-/// Why there is no whole trace. The faults are judged in this order, and nothing is written before the first three are past.
+/// Why there is no whole trace. The faults are judged in this order, and nothing is written before the first three are
+/// past.
 #[derive(Clone, Copy, Debug, PartialEq, Eq, Error)]
 pub enum SimFault {
     /// The machine file is refused, or memory is refused to read it.
@@ -30,7 +31,7 @@ pub enum SimFault {
     /// The event text is refused, or memory is refused to read it.
     #[error("events: {0}")]
     Events(EventFault),
-    /// Memory is lacking for the machine.
+    /// Memory is refused for the machine.
     #[error("no memory")]
     Memory,
     /// A write failed: what was written is a part of the trace.
@@ -49,14 +50,15 @@ fn ended(answer: Result<Flow, WriteFault>) -> Result<End, SimFault>
     }
 }
 
-/// Runs the machine of a machine file over the events of an event text, and writes the trace of the run to `out`, which is good.
+/// Runs the machine of a machine file over the events of an event text, and writes the trace of the run to `out`, which
+/// is good.
 ///
 /// Both texts are any bytes. They are read, and the machine is made, before the first byte is written.
 ///
 /// # Errors
 ///
-/// `File` and `Events` are the first fault of the texts, and nothing is written; `Memory` means that memory is refused for the machine,
-/// and nothing is written; `Write` means that the sink failed, after a part of the trace.
+/// `File` and `Events` are the first fault of the texts, and nothing is written; `Memory` means that memory is refused
+/// for the machine, and nothing is written; `Write` means that the sink failed, after a part of the trace.
 pub fn simulate<W: Sink>(
     alloc: Global,
     file: &[u8],

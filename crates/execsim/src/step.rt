@@ -4,7 +4,7 @@ ghost use Rattle.execlist.specs.Disciplines.{by_priority};
 ghost use Rattle.script.specs.Events.{event_ticks};
 ghost use Rattle.scheduler.specs.{Schedule.IsToOneOf, Dispatch.switch_of, Dispatch.rescheduled, Dispatch.added};
 ghost use Rattle.softint.specs.Sources.{highest};
-ghost use Rattle.execmodel.specs.Step.{announced, switches, settle, does, ends, acts, acting, step, steps, request, tick, ticks, starts, all_added, event, events, task_step};
+ghost use Rattle.execmodel.specs.Step.{announced, switches, settle, does, ends, acts, step_action, step, steps, request, tick, ticks, starts, all_added, event, events, task_step};
 ghost use Rattle.execmodel.specs.{State.andthen, State.on_schedule, State.program_of, State.unless_stopped, Calls.next_call, Interrupts.interrupts};
 ghost use Rattle.execsim.specs.{Callers.HasTask, Callers.Runs, Actions.running_task_step, Agreement.Follows, Agreement.FollowsWhileGood, Agreement.Moves, Reached.IsInOrder, Resting.IsSettled, Time.HasTimeFor, Time.IsInTime, Time.IsKnown, Views.call_view};
 
@@ -81,23 +81,23 @@ impl<S: ListSpace> Kernel<S> {
 
     /// What follows each step, as `settle`. The answer is whether nothing was due, so that the machine is settled.
     #[inline(always)]
-    fn settle_again<W: Witness>(&mut self, out: &mut W) -> bool
+    fn settle_after_step<W: Witness>(&mut self, out: &mut W) -> bool
         ensures follows { Follows W.hearing settle self.old self.new (W.told out.old) (W.told out.new) }
         ensures settled { IsTrue result → IsSettled self.new }
     {
         if self.stopped {
             return false;
         }
-        if self.any_asks() {
+        if self.any_latched() {
             self.settle(out);
             return false;
         }
-        self.switch_again(out)
+        self.switch_if_due(out)
     }
 
     /// The switch of a machine that goes on and in which no source asks. The answer is whether none was due.
     #[inline(always)]
-    fn switch_again<W: Witness>(&mut self, out: &mut W) -> bool
+    fn switch_if_due<W: Witness>(&mut self, out: &mut W) -> bool
         requires going { self.old.stopped ≡ false }
         requires unasked { is_some (highest self.old.pending.latches) ≡ false }
         ensures follows { Follows W.hearing settle self.old self.new (W.told out.old) (W.told out.new) }
@@ -113,8 +113,8 @@ impl<S: ListSpace> Kernel<S> {
 
     // ---- step
 
-    /// A call of task t, by the group of its word. If it sets system time, those that wait for that are looked at after the call's own
-    /// line.
+    /// A call of task t, by the group of its word. If it sets system time, those that wait for that are looked at after
+    /// the call's own line.
     #[tactic(auto, unfolding(execmodel::specs::Step::does))]
     fn does<W: Witness>(&mut self, t: TaskId, call: &Call, out: &mut W)
         requires known { HasTask t self.old }
@@ -155,7 +155,7 @@ impl<S: ListSpace> Kernel<S> {
 
     /// Task t, which runs, makes this call, which is its next one.
     #[inline(always)]
-    fn make<W: Witness>(&mut self, t: TaskId, call: &Call, out: &mut W)
+    fn do_call<W: Witness>(&mut self, t: TaskId, call: &Call, out: &mut W)
         requires known { HasTask t self.old }
         requires runs { Runs t self.old }
         requires agree { IsInOrder self.old }
@@ -167,7 +167,7 @@ impl<S: ListSpace> Kernel<S> {
 
     /// Task t, which runs and has no call left to make, ends.
     #[inline(always)]
-    fn make_none<W: Witness>(&mut self, t: TaskId, out: &mut W)
+    fn end_task<W: Witness>(&mut self, t: TaskId, out: &mut W)
         requires known { HasTask t self.old }
         requires runs { Runs t self.old }
         requires next { next_call t self.old.scripts ≡ None }
@@ -178,7 +178,7 @@ impl<S: ListSpace> Kernel<S> {
 
     /// Task t, which runs, tries the call again that it waits in, or makes that of its next command, or ends.
     #[inline(never)]
-    fn make_call<W: Witness>(&mut self, t: TaskId, out: &mut W)
+    fn next_call<W: Witness>(&mut self, t: TaskId, out: &mut W)
         requires known { HasTask t self.old }
         requires runs { Runs t self.old }
         requires agree { IsInOrder self.old }
@@ -188,7 +188,7 @@ impl<S: ListSpace> Kernel<S> {
         match program.kept() {
             Some(kept) => {
                 let call = *kept;
-                self.make(t, &call, out);
+                self.do_call(t, &call, out);
             }
             None => match program.command() {
                 Some(command) => {
@@ -203,9 +203,9 @@ impl<S: ListSpace> Kernel<S> {
                     };
                     let count = command.count as usize;
                     self.evaluate_all(t, &command.arguments, count, &mut call.arguments);
-                    self.make(t, &call, out);
+                    self.do_call(t, &call, out);
                 }
-                None => self.make_none(t, out),
+                None => self.end_task(t, out),
             },
         }
     }
@@ -217,14 +217,14 @@ impl<S: ListSpace> Kernel<S> {
     {
         match self.running() {
             None => {}
-            Some(t) => self.make_call(t, out),
+            Some(t) => self.next_call(t, out),
         }
     }
 
     /// A software interrupt that may run does so, or else the running task does one command.
     fn run_one<W: Witness>(&mut self, out: &mut W)
         requires { IsInOrder self.old }
-        ensures { Follows W.hearing acting self.old self.new (W.told out.old) (W.told out.new) }
+        ensures { Follows W.hearing step_action self.old self.new (W.told out.old) (W.told out.new) }
     {
         match self.take_softint() {
             Some(i) => self.run_softint(i, out),
@@ -256,10 +256,11 @@ impl<S: ListSpace> Kernel<S> {
         ensures settled { IsTrue result → IsSettled self.new }
     {
         self.act(out);
-        self.settle_again(out)
+        self.settle_after_step(out)
     }
 
-    /// One step, and those after it that ask nothing of Exec; at most that many, of which there is one. The answer is how many.
+    /// One step, and those after it that ask nothing of Exec; at most that many, of which there is one. The answer is
+    /// how many.
     fn some_steps<W: Witness>(&mut self, most: u32, out: &mut W) -> u32
         requires one { 0 < most }
         requires agree { IsInOrder self.old }
@@ -268,13 +269,14 @@ impl<S: ListSpace> Kernel<S> {
         ensures follows { Follows W.hearing (steps result) self.old self.new (W.told out.old) (W.told out.new) }
     {
         if self.step(out) {
-            self.quiet_steps(most - 1, out) + 1
+            self.plain_steps(most - 1, out) + 1
         } else {
             1
         }
     }
 
-    /// Some steps, as long as the sink is good; after a failed write nothing more is simulated, and all of them are done.
+    /// Some steps, as long as the sink is good; after a failed write nothing more is simulated, and all of them are
+    /// done.
     fn some_steps_while_good<W: Witness>(&mut self, most: u32, out: &mut W) -> u32
         requires one { 0 < most }
         requires agree { W.hearing.good (W.told out.old) ≡ true → IsInOrder self.old }

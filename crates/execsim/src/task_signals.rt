@@ -2,7 +2,7 @@
 ghost use Rattle.std.specs.Prelude.{◌≡◌, ◌-◌, true, nat_eq};
 ghost use Rattle.std.specs.Int.{cast_signed, cast_unsigned, w32};
 ghost use Rattle.execlist.specs.Disciplines.{by_priority};
-ghost use Rattle.scheduler.specs.{Schedule.signals_of, Schedule.come_for, Schedule.after_wait, Schedule.allocates, Schedule.frees, Schedule.sets_signals, Dispatch.signalled};
+ghost use Rattle.scheduler.specs.{Schedule.signals_of, Schedule.come_for, Schedule.after_wait, Schedule.allocates_signal, Schedule.frees_signal, Schedule.sets_signals, Dispatch.signalled};
 ghost use Rattle.signals.specs.Signals.{grant, grant_number, is_own_signal};
 ghost use Rattle.execmodel.specs.Signals.{is_mask, does_alloc_signal, does_free_signal, does_set_signal, does_signal_by, does_wait, does_signals};
 ghost use Rattle.execsim.specs.{Callers.HasTask, Callers.Runs, Callers.HasCaller, Agreement.Follows, Views.call_view, Views.caller_view};
@@ -36,11 +36,12 @@ fn is_own_signal(n: u32) -> bool
 }
 
 impl<S: ListSpace> Kernel<S> {
-    /// The running task allocates a signal; its number, or the word of -1 for none. The word of -1 asks for the highest free one.
+    /// The running task allocates a signal; its number, or the word of -1 for none. The word of -1 asks for the highest
+    /// free one.
     pub(crate) fn allocate_signal(&mut self, t: TaskId, asked: u32) -> u32
         requires { Runs t self.old }
         ensures answer { result ≡ cast_unsigned w32 (grant_number (grant (cast_signed w32 asked) (signals_of self.old.schedule t))) }
-        ensures next { self.new ≡ record self.old { schedule = allocates t (cast_signed w32 asked) self.old.schedule } }
+        ensures next { self.new ≡ record self.old { schedule = allocates_signal t (cast_signed w32 asked) self.old.schedule } }
     {
         self.sched.alloc_signal(asked.cast_signed()).cast_unsigned()
     }
@@ -49,7 +50,7 @@ impl<S: ListSpace> Kernel<S> {
     pub(crate) fn deallocate_signal(&mut self, t: TaskId, n: u32)
         requires known { HasTask t self.old }
         requires own { is_own_signal n ≡ true }
-        ensures { self.new ≡ record self.old { schedule = frees t n self.old.schedule } }
+        ensures { self.new ≡ record self.old { schedule = frees_signal t n self.old.schedule } }
     {
         self.sched.free_signal(t, n);
     }
@@ -71,7 +72,7 @@ impl<S: ListSpace> Kernel<S> {
         ensures { Follows W.hearing (does_alloc_signal t (call_view call.now)) self.old self.new (W.told out.old) (W.told out.new) }
     {
         let signal = self.allocate_signal(t, call.number(0));
-        self.answered(t, call, signal, out);
+        self.answer(t, call, signal, out);
     }
 
     /// FreeSignal a (autodoc exec.library/FreeSignal).
@@ -81,12 +82,12 @@ impl<S: ListSpace> Kernel<S> {
     {
         let n = call.number(0);
         if is_no_signal(n) {
-            self.done(t, call, out);
+            self.end_call(t, call, out);
         } else if !is_own_signal(n) {
-            self.alerted(Alert::Mask, t, call, out);
+            self.alert(Alert::Mask, t, call, out);
         } else {
             self.deallocate_signal(t, n);
-            self.done(t, call, out);
+            self.end_call(t, call, out);
         }
     }
 
@@ -99,10 +100,10 @@ impl<S: ListSpace> Kernel<S> {
         let new = call.number(0);
         let mask = call.number(1);
         if !is_mask(mask) {
-            self.alerted(Alert::Mask, t, call, out);
+            self.alert(Alert::Mask, t, call, out);
         } else {
             let received = self.change_signals(t, new, mask);
-            self.answered(t, call, received, out);
+            self.answer(t, call, received, out);
         }
     }
 
@@ -123,8 +124,8 @@ impl<S: ListSpace> Kernel<S> {
         self.sched.wait(mask)
     }
 
-    /// Signal t mask: the task of that number receives the signals of the mask. HANDLE if there is no such task, MASK if the mask
-    /// holds a signal that scripts may not name (autodoc exec.library/Signal; the alerts: project rule).
+    /// Signal t mask: the task of that number receives the signals of the mask. HANDLE if there is no such task, MASK
+    /// if the mask holds a signal that scripts may not name (autodoc exec.library/Signal; the alerts: project rule).
     pub(crate) fn signal<W: Witness>(&mut self, caller: &Caller, call: &Call, out: &mut W)
         requires { HasCaller caller.now self.old }
         ensures { Follows W.hearing (does_signal_by (caller_view caller.now) (call_view call.now)) self.old self.new (W.told out.old) (W.told out.new) }
@@ -132,12 +133,12 @@ impl<S: ListSpace> Kernel<S> {
         let other = call.number(0);
         let mask = call.number(1);
         if !self.is_task(other) {
-            self.alerted_by(Alert::Handle, caller, call, out);
+            self.alert_by(Alert::Handle, caller, call, out);
         } else if !is_mask(mask) {
-            self.alerted_by(Alert::Mask, caller, call, out);
+            self.alert_by(Alert::Mask, caller, call, out);
         } else {
             self.signal_task(other as usize - 1, mask);
-            self.done_by(caller, call, out);
+            self.end_call_by(caller, call, out);
         }
     }
 
@@ -149,10 +150,10 @@ impl<S: ListSpace> Kernel<S> {
     {
         let mask = call.number(0);
         if !is_mask(mask) {
-            self.alerted(Alert::Mask, t, call, out);
+            self.alert(Alert::Mask, t, call, out);
         } else {
             match self.wait_for(t, mask) {
-                Some(common) => self.answered(t, call, common, out),
+                Some(common) => self.answer(t, call, common, out),
                 None => self.waiting(t, call, out),
             }
         }

@@ -3,7 +3,7 @@ ghost use Rattle.std.specs.Prelude.{◌≡◌, ◌≢◌, ◌<◌, ◌≤◌, �
 ghost use Rattle.std.specs.Int.{cast_signed, cast_unsigned, w32};
 ghost use Rattle.execlist.specs.{Lists.times, Disciplines.by_priority};
 ghost use Rattle.taskq.specs.Tasks.{is_live, is_ready};
-ghost use Rattle.scheduler.specs.{Schedule.status_of, Schedule.priority_of, Schedule.is_absent, Schedule.leaves, Schedule.removed, Dispatch.added, Dispatch.reprioritized};
+ghost use Rattle.scheduler.specs.{Schedule.status_of, Schedule.priority_of, Schedule.is_absent, Schedule.leaves, Schedule.task_removed, Dispatch.added, Dispatch.reprioritized};
 ghost use Rattle.execmodel.specs.{State.on_heap, Semaphores.dropped, Tasks.is_live_task, Tasks.is_priority, Tasks.is_caller, Tasks.found_number, Tasks.does_set_task_pri, Tasks.does_add_task, Tasks.does_rem_task, Tasks.does_find_task, Tasks.does_tasks};
 ghost use Rattle.execsim.specs.{Callers.HasTask, Callers.Runs, Agreement.Follows, Views.call_view};
 
@@ -81,7 +81,7 @@ impl<S: ListSpace> Kernel<S> {
         requires stopped { self.old.schedule.running ≢ Some t }
         requires room { t < self.old.memory.tasks }
         ensures { self.new ≡ record self.old {
-          schedule = removed t self.old.schedule;
+          schedule = task_removed t self.old.schedule;
           memory = on_heap (dropped t) self.old.memory;
         } }
     {
@@ -97,12 +97,12 @@ impl<S: ListSpace> Kernel<S> {
         let other = call.number(0);
         let pri = call.number(1);
         if !self.is_live_task(other) {
-            self.alerted(Alert::Handle, t, call, out);
+            self.alert(Alert::Handle, t, call, out);
         } else if !is_priority(pri) {
-            self.alerted(Alert::Value, t, call, out);
+            self.alert(Alert::Value, t, call, out);
         } else {
             let old = self.set_pri(other as usize - 1, pri);
-            self.answered(t, call, old, out);
+            self.answer(t, call, old, out);
         }
     }
 
@@ -113,10 +113,10 @@ impl<S: ListSpace> Kernel<S> {
     {
         let other = call.number(0);
         if !self.is_task(other) {
-            self.alerted(Alert::Handle, t, call, out);
+            self.alert(Alert::Handle, t, call, out);
         } else {
             let begins = self.add(other as usize - 1);
-            self.answered(t, call, begun(begins, other), out);
+            self.answer(t, call, begun(begins, other), out);
         }
     }
 
@@ -130,12 +130,12 @@ impl<S: ListSpace> Kernel<S> {
         let other = call.number(0);
         if is_caller(t, other) {
             self.leave(t);
-            self.done(t, call, out);
+            self.end_call(t, call, out);
         } else if !self.is_live_task(other) {
-            self.alerted(Alert::Handle, t, call, out);
+            self.alert(Alert::Handle, t, call, out);
         } else {
             self.remove_task(other as usize - 1);
-            self.done(t, call, out);
+            self.end_call(t, call, out);
         }
     }
 
@@ -160,7 +160,7 @@ impl<S: ListSpace> Kernel<S> {
         ensures { Follows W.hearing (does_find_task t (call_view call.now)) self.old self.new (W.told out.old) (W.told out.new) }
     {
         let answer = self.found_number(t, call.name(0));
-        self.answered(t, call, answer, out);
+        self.answer(t, call, answer, out);
     }
 
     /// A call of task t on tasks, by its word.

@@ -29,7 +29,7 @@ use Rattle.std.proofs.alloc.Global.TheLaws as heap_laws
 use Rattle.execsim_c.specs.Held.{Kept, held}
 use Rattle.execsim_c.specs.contracts.session.Session as session
 use Rattle.execsim_c.specs.contracts.handle.MachineHandle as C
-use Rattle.execsim_c.proofs.Values.{both, Loose}
+use Rattle.execsim_c.proofs.Values.{both, RawBox}
 
 abbrev pub R : RattleType
 R = session.the_row
@@ -41,7 +41,7 @@ pub LZ : Laws Z
 LZ = heap_laws.the_row_laws
 
 abbrev pub Lr : RattleType
-Lr = Loose R Z LZ ghosts
+Lr = RawBox R Z LZ ghosts
 
 abbrev pub al : Al
 al = record { row = Z; laws = LZ; g = ghosts; d = impl [] tnil dnil; drops = impl [] tnil dnil }

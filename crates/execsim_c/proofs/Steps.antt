@@ -1,5 +1,5 @@
 -- Events that a machine does one after another.
-use Rattle.std.proofs.Common.{◌≡◌, ◌∙◌, ℕ, ◌+◌, ◌<◌, ◌≤◌, List, [], ◌∷◌, ◌++◌, take, drop, get_or, length, refl, ap, ap₂, sym, subst, sum_by, Ok, append-nil, take_all}
+use Rattle.std.proofs.Common.{◌≡◌, ◌∙◌, ℕ, ◌+◌, ◌<◌, List, [], ◌∷◌, ◌++◌, take, drop, get_or, length, refl, ap, ap₂, sym, subst, sum_by, Ok, append-nil}
 use Rattle.std.specs.Io.KnownBytes.{Appends}
 use Rattle.std.proofs.lemmas.{List.take_more, List.drop_more, List.Concat.flat_map-append, List.Sums.sum_by-cons}
 use Rattle.exectrace.specs.{Sink.Tape, Trace.TraceLine, Trace.printed, Trace.printed_line}
@@ -57,11 +57,6 @@ does_more list k d old mid new before between after flow within so_far acts = re
       (Appends-then before.taken between.taken after.taken (printed (events (take k list) s).lines) (printed (event (get_or list k d) t).lines)
       (so_far.prints s there) (acts.writes t (so_far.agrees s there)).took);
 }
-
--- the whole list
-pub does_all : (list : List Event) (k : ℕ) (old new : Seen) (before after : Tape) → length list ≤ k
-    → Does (events (take k list)) old new before.taken after.taken → Does (events list) old new before.taken after.taken
-does_all list k old new before after past it = subst (λ (l : List Event). Does (events l) old new before.taken after.taken) (take_all k list past) it
 
 -- the time of what is left
 pub ticks_left : (list : List Event) (k : ℕ) (d : Event) → k < length list

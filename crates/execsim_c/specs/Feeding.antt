@@ -29,6 +29,6 @@ pub record IsFedTo (task : ℕ) (line : List ℕ) (before now : Kept) : Type 0 w
   pub holds : now ≡ Some new
   pub feeds : FeedsLine task line old new
 
--- a line that is no command without a variable and a jump; or it is no text
+-- a line that is not a command without a variable and a jump; or it is not a text
 abbrev pub CannotBeFed : List ℕ → Type 0
 CannotBeFed line = IsUtf8 line → fed_said (line_meaning line) ≡ None

@@ -1,4 +1,5 @@
-//! What is said if a run or a search does not have what a caller asks for: as the commands say it, but each number is called what `execsim.h` calls it.
+//! What is said if a run or a search does not have what a caller asks for: as the commands say it, but each number is
+//! called what `execsim.h` calls it.
 
 use execpicture::PictureFault;
 use logger::Options;

@@ -38,7 +38,7 @@ fn status_of_findings(is_machine_refused: bool, is_script_refused: bool, warns: 
     }
 }
 
-/// Writes what was found in a text behind what is there already, and answers whether there is more than notes.
+/// Writes what was found in a text after what is there already, and answers whether there is more than notes.
 fn add_found(
     alloc: Global,
     name: &str,
@@ -96,10 +96,12 @@ fn found_in(alloc: Global, machine: &[u8], events: &[u8]) -> Result<Found, Alloc
     Ok(Found { text, status })
 }
 
-/// Puts what `execcheck machine.toml run.events` writes of two texts at the front of `out`, and its length in bytes in `length`.
+/// Puts what `execcheck machine.toml run.events` writes of two texts at the front of `out`, and its length in bytes in
+/// `length`.
 ///
-/// 0 if nothing was found, or notes alone; 3 if there are warnings, or an alert ended the run; 1 if the machine file is refused, and 2 if the event
-/// text alone is. 5 if what was found is longer than `out`, which is left alone then; `length` says how long. 4 if memory was refused.
+/// 0 if nothing was found, or notes alone; 3 if there are warnings, or an alert ended the run; 1 if the machine file is
+/// refused, and 2 if the event text alone is. 5 if what was found is longer than `out`, which is left alone then;
+/// `length` says how long. 4 if memory was refused.
 ///
 /// Source: project rule.
 #[unsafe(no_mangle)]

@@ -5,8 +5,9 @@ use crate::logging::{hand_over_part, part, part_of};
 use logger::View;
 use std::alloc::Global;
 
-/// Puts the picture of the run of two texts from what the machine shows after step `from` to step `to` at the front of `out`, and its length in bytes
-/// in `length`: the SVG document of `execlog --svg`. `u64::MAX` for `to` is the last step.
+/// Puts the picture of the run of two texts from what the machine shows after step `from` to step `to` at the front of
+/// `out`, and its length in bytes in `length`: the SVG document of `execlog --svg`. `u64::MAX` for `to` is the last
+/// step.
 ///
 /// As `execsim_log`; 7 also if there are more steps than a picture shows.
 ///
@@ -27,8 +28,8 @@ pub extern "C" fn execsim_picture(
     hand_over_part(found, out, length)
 }
 
-/// Puts the run of two texts in the Trace Event Format at the front of `out`, and its length in bytes in `length`: the JSON document of
-/// `execlog --chrome`, of the same steps as `execsim_picture`.
+/// Puts the run of two texts in the Trace Event Format at the front of `out`, and its length in bytes in `length`: the
+/// JSON document of `execlog --chrome`, of the same steps as `execsim_picture`.
 ///
 /// As `execsim_log`.
 ///

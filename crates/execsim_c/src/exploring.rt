@@ -20,8 +20,8 @@ impl Watcher for Quiet {
     fn report(&mut self, _tried: u64, _outcomes: usize) {}
 }
 
-/// The kinds of interrupts of a mask, as the command takes them: bit 0 is PORTS, bit 1 a tick, bit 2 EXTER; no bit is those that the machine file
-/// serves.
+/// The kinds of interrupts of a mask, as the command takes them: bit 0 is PORTS, bit 1 a tick, bit 2 EXTER; no bit is
+/// those that the machine file serves.
 fn kinds_of(mask: u32) -> Result<Option<&'static str>, Failure<'static>> {
     match mask {
         0 => Ok(None),
@@ -122,14 +122,16 @@ fn hand_over_answer(found: Result<Answer, Failure<'_>>, out: &mut [u8], length: 
     }
 }
 
-/// Runs every way to insert at most `extra` interrupts into the events of the run of two texts, and puts the report of `execexplore` at the front of
-/// `out`, and its length in bytes in `length`. `kinds` is a mask of the interrupts: bit 0 PORTS, bit 1 a tick, bit 2 EXTER; 0 is ticks and the sources
-/// that the machine file serves. `see` is what is seen of a way: 0 its end, 1 its prints, 2 its trace. At most `limit` ways are tried.
+/// Runs every way to insert at most `extra` interrupts into the events of the run of two texts, and puts the report of
+/// `execexplore` at the front of `out`, and its length in bytes in `length`. `kinds` is a mask of the interrupts: bit 0
+/// PORTS, bit 1 a tick, bit 2 EXTER; 0 is ticks and the sources that the machine file serves. `see` is what is seen of
+/// a way: 0 its end, 1 its prints, 2 its trace. At most `limit` ways are tried.
 ///
-/// 0 if there is one outcome and no alert, and 3 if there are more or an alert. 5 if the report is longer than `out`, which is left alone then; `length`
-/// says how long. Otherwise `out` begins with the words of the fault, as far as there is room, and they are `length` bytes: 1 if the machine
-/// file is refused, 2 if the event text is, 4 if memory was refused, 7 if a number is out of range, and 8 if there are more ways than the limit,
-/// or more outcomes, bytes of outcomes or ticks than a search takes.
+/// 0 if there is one outcome and no alert, and 3 if there are more or an alert. 5 if the report is longer than `out`,
+/// which is left alone then; `length` says how long. Otherwise `out` begins with the words of the fault, as far as
+/// there is room, and they are `length` bytes: 1 if the machine file is refused, 2 if the event text is, 4 if memory
+/// was refused, 7 if a number is out of range, and 8 if there are more ways than the limit, or more outcomes, bytes of
+/// outcomes or ticks than a search takes.
 ///
 /// Source: project rule.
 #[unsafe(no_mangle)]
@@ -153,7 +155,8 @@ pub extern "C" fn execsim_explore(
     hand_over_answer(found, out, length)
 }
 
-/// Makes the search of `execsim_explore`, and puts the events of the first way of an outcome, from 1, at the front of `out` as an event text.
+/// Makes the search of `execsim_explore`, and puts the events of the first way of an outcome, from 1, at the front of
+/// `out` as an event text.
 ///
 /// As `execsim_explore`; 7 also if there is no such outcome.
 ///

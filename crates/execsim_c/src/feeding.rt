@@ -1,4 +1,5 @@
-//! A machine that C keeps, whose bodies grow between its events: a line is fed to a task at the end of its body, and the end of a body is seen.
+//! A machine that C keeps, whose bodies grow between its events: a line is fed to a task at the end of its body, and
+//! the end of a body is seen.
 ghost use Rattle.std.specs.Prelude.{◌≡◌, ◌≢◌, ◌⊎◌, IsSome, MatchResult, None};
 ghost use Rattle.script.specs.Commands.{command_view};
 ghost use Rattle.taskscript.specs.{Feeding.IsFed, declared.fault.FileFault.FileFault};
@@ -67,11 +68,12 @@ fn feed_line(alloc: Global, session: &mut Session, task: usize, line: &[u8]) -> 
     }
 }
 
-/// Feeds a line to a task, by its number from 0 in the order of the file: its command is the last one of the task's body then. If no step has found
-/// the task at the end of its body before, the run is that of the machine file whose body has the line from the start.
+/// Feeds a line to a task, by its number from 0 in the order of the file: its command is the last one of the task's
+/// body then. If no step has found the task at the end of its body before, the run is that of the machine file whose
+/// body has the line from the start.
 ///
-/// 0 if it is fed. Otherwise the machine is as it was: 1 if the line is no command, or has a variable or a jump; 7 if there is no such task, 4 if memory
-/// was refused, and 6 if the handle has no machine.
+/// 0 if it is fed. Otherwise the machine is as it was: 1 if the line is not a command, or has a variable or a jump; 7
+/// if there is no such task, 4 if memory was refused, and 6 if the handle has no machine.
 ///
 /// Source: project rule.
 #[unsafe(no_mangle)]
@@ -95,8 +97,8 @@ pub extern "C" fn execsim_feed(
     status
 }
 
-/// Puts the task that the next step finds at the end of its body in `task`, by its number from 0, or `u64::MAX` for none. That step ends the task,
-/// unless it is fed before.
+/// Puts the task that the next step finds at the end of its body in `task`, by its number from 0, or `u64::MAX` for
+/// none. That step ends the task, unless it is fed before.
 ///
 /// 0 if it is there, and 6 if the handle has no machine.
 ///

@@ -2,7 +2,7 @@
 ghost use Rattle.std.specs.Prelude.{◌≡◌, None, Some, option_map};
 ghost use Rattle.execsim_c.specs.Held.{Kept, held, kept_coded};
 
-use crate::loose::Loose;
+use crate::raw_box::RawBox;
 use crate::session::Session;
 use std::alloc::Global;
 use std::marker::Model;
@@ -33,10 +33,10 @@ impl MachineHandle {
     }
 
     /// The handle of a machine.
-    pub(crate) fn of(loose: Loose<Session, Global>) -> MachineHandle
+    pub(crate) fn of(loose: RawBox<Session, Global>) -> MachineHandle
         ensures { result.session ≡ Some loose.value }
     {
-        let Loose { at, alloc } = loose;
+        let RawBox { at, alloc } = loose;
         MachineHandle {
             at: at.cast::<u8>(),
             alloc,
@@ -44,14 +44,14 @@ impl MachineHandle {
     }
 
     /// The machine of a handle, if it has one.
-    pub(crate) fn into_loose(self) -> Option<Loose<Session, Global>>
+    pub(crate) fn into_raw_box(self) -> Option<RawBox<Session, Global>>
         ensures { option_map (λ l. l.value) result ≡ self.session }
     {
         let MachineHandle { at, alloc } = self;
         if at.is_null() {
             None
         } else {
-            Some(Loose {
+            Some(RawBox {
                 at: at.cast::<Session>(),
                 alloc,
             })
@@ -63,7 +63,7 @@ impl MachineHandle {
         ensures taken { option_map (λ session. session.value) result ≡ self.old.session }
         ensures closed { self.new.session ≡ None }
     {
-        match replace(self, MachineHandle::closed(alloc)).into_loose() {
+        match replace(self, MachineHandle::closed(alloc)).into_raw_box() {
             None => None,
             Some(loose) => Some(loose.into_box()),
         }
@@ -73,13 +73,13 @@ impl MachineHandle {
     pub(crate) fn put(&mut self, session: Box<Session>)
         ensures { self.new.session ≡ Some session.value }
     {
-        drop(replace(self, MachineHandle::of(Loose::of(session))));
+        drop(replace(self, MachineHandle::of(RawBox::of(session))));
     }
 }
 
 impl Drop for MachineHandle {
     fn drop(self) {
-        match self.into_loose() {
+        match self.into_raw_box() {
             None => (),
             Some(loose) => drop(loose.into_box()),
         }

@@ -1,6 +1,7 @@
-//! What a C program calls, by the header `execsim.h`: two texts in, the trace of their run out, or its log and its states (`logging`), its picture (`drawing`),
-//! what is found in them (`checking`), or a search (`exploring`); and a machine that is kept between calls (`stepping`), whose tasks and blocks are read
-//! between any two events (`reading`), and whose bodies grow between them (`feeding`).
+//! What a C program calls, by the header `execsim.h`: two texts in, the trace of their run out, or its log and its
+//! states (`logging`), its picture (`drawing`), what is found in them (`checking`), or a search (`exploring`); and a
+//! machine that is kept between calls (`stepping`), whose tasks and blocks are read between any two events (`reading`),
+//! and whose bodies grow between them (`feeding`).
 #![tactic(auto)]
 
 mod absent;
@@ -10,9 +11,9 @@ mod exploring;
 mod feeding;
 mod handle;
 mod logging;
-mod loose;
 mod names;
 mod put;
+mod raw_box;
 mod reading;
 mod refusal;
 mod run;
@@ -32,11 +33,13 @@ use crate::run::run_of;
 use crate::status::{TOO_LONG, status_of};
 use std::alloc::Global;
 
-/// Runs a machine file over an event text, and puts the trace at the front of `out`, and its length in bytes in `length`.
+/// Runs a machine file over an event text, and puts the trace at the front of `out`, and its length in bytes in
+/// `length`.
 ///
-/// 0 if the machine ran over all its events, and 3 if an alert ended the run. 5 if the trace is longer than `out`, which is left alone then;
-/// `length` says how long. Otherwise `out` begins with the words of the fault, as the program prints them, as far as there is room, and they are
-/// `length` bytes: 1 if the machine file is refused, 2 if the event text is, and 4 if memory was refused.
+/// 0 if the machine ran over all its events, and 3 if an alert ended the run. 5 if the trace is longer than `out`,
+/// which is left alone then; `length` says how long. Otherwise `out` begins with the words of the fault, as the program
+/// prints them, as far as there is room, and they are `length` bytes: 1 if the machine file is refused, 2 if the event
+/// text is, and 4 if memory was refused.
 ///
 /// Source: project rule.
 #[unsafe(no_mangle)]

@@ -102,12 +102,14 @@ pub(crate) fn hand_over_part(found: Result<Shown, Unshown>, out: &mut [u8], leng
     }
 }
 
-/// Puts the log of the steps from `from` to `to` of the run of two texts at the front of `out`, and its length in bytes in `length`: the lines of
-/// `execlog --json`, and if `words` is not 0 also those of words that print nothing, as `--plain-words` adds them. `u64::MAX` for `to` is the last step.
+/// Puts the log of the steps from `from` to `to` of the run of two texts at the front of `out`, and its length in bytes
+/// in `length`: the lines of `execlog --json`, and if `words` is not 0 also those of words that print nothing, as
+/// `--plain-words` adds them. `u64::MAX` for `to` is the last step.
 ///
-/// 0 if all is there, and 3 if an alert has stopped the machine by then. 5 if the log is longer than `out`, which is left alone then; `length` says how
-/// long. Otherwise `out` begins with the words of the fault, as far as there is room, and they are `length` bytes: 1 if the machine file is
-/// refused, 2 if the event text is, 4 if memory was refused, and 7 if the run has no such steps.
+/// 0 if all is there, and 3 if an alert has stopped the machine by then. 5 if the log is longer than `out`, which is
+/// left alone then; `length` says how long. Otherwise `out` begins with the words of the fault, as far as there is
+/// room, and they are `length` bytes: 1 if the machine file is refused, 2 if the event text is, 4 if memory was
+/// refused, and 7 if the run has no such steps.
 ///
 /// Source: project rule.
 #[unsafe(no_mangle)]
@@ -129,8 +131,8 @@ pub extern "C" fn execsim_log(
     hand_over_part(found, out, length)
 }
 
-/// Puts all that the machine of two texts shows after the step of a number at the front of `out`, and its length in bytes in `length`: the page of
-/// `execlog --state`. `u64::MAX` is the last step.
+/// Puts all that the machine of two texts shows after the step of a number at the front of `out`, and its length in
+/// bytes in `length`: the page of `execlog --state`. `u64::MAX` is the last step.
 ///
 /// As `execsim_log`.
 ///

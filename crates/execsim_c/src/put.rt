@@ -12,8 +12,8 @@ pub(crate) fn put(bytes: &[u8], out: &mut [u8])
     out[..n].copy_from_slice(bytes);
 }
 
-/// Puts these bytes at the front of a buffer, and their number in `size`, and answers the status; or 5 if there are more of them than the buffer has
-/// room for, which is left alone then.
+/// Puts these bytes at the front of a buffer, and their number in `size`, and answers the status; or 5 if there are
+/// more of them than the buffer has room for, which is left alone then.
 pub(crate) fn hand_over(bytes: &[u8], status: u32, out: &mut [u8], size: &mut u64) -> u32
     ensures size { size.new ≡ length bytes.now }
     ensures answers { (result ≡ status) ⊎ (result ≡ 5) }

@@ -63,9 +63,11 @@ pub extern "C" fn execsim_task(
     }
 }
 
-/// Puts the name of a task, by its number from 0 in the order of the file, at the front of `out`, and its length in bytes in `length`.
+/// Puts the name of a task, by its number from 0 in the order of the file, at the front of `out`, and its length in
+/// bytes in `length`.
 ///
-/// 0 if it is there, 5 if it is longer than `out`, which is left alone then, 7 if there is no such task, and 6 if the handle has no machine.
+/// 0 if it is there, 5 if it is longer than `out`, which is left alone then, 7 if there is no such task, and 6 if the
+/// handle has no machine.
 ///
 /// Source: RKM Libraries, Exec Tasks: `ln_Name`.
 #[unsafe(no_mangle)]

@@ -1,4 +1,5 @@
-//! Why a caller's buffer does not have what was asked for: the status, and words at the front of the buffer, as far as there is room.
+//! Why a caller's buffer does not have what was asked for: the status, and words at the front of the buffer, as far as
+//! there is room.
 ghost use Rattle.std.specs.Prelude.{◌≡◌, ◌⊎◌};
 ghost use Rattle.execsim_c.specs.Buffers.{IsEventsFault, IsMachineFault};
 
@@ -7,7 +8,8 @@ use execsim::SimFault;
 use std::fmt::Display;
 use std::io::{Cursor, Write};
 
-/// Puts words at the front of a buffer, and their length in bytes, or what there was room for, in `length`. Answers the status.
+/// Puts words at the front of a buffer, and their length in bytes, or what there was room for, in `length`. Answers the
+/// status.
 pub(crate) fn refuse_with<D: Display>(
     words: &D,
     status: u32,

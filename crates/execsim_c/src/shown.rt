@@ -37,7 +37,8 @@ pub struct MachineShown {
 pub struct TaskShown {
     /// The place of its next command in its code, from 0.
     pub place: u64,
-    /// 0 if it was never added, 1 if it is ready, 2 if it runs, 3 if it waits for signals, 4 if for a semaphore, 5 if it was removed.
+    /// 0 if it was never added, 1 if it is ready, 2 if it runs, 3 if it waits for signals, 4 if for a semaphore, 5 if
+    /// it was removed.
     pub state: u32,
     /// The signals that it waits for.
     pub waits_for: u32,
@@ -53,7 +54,8 @@ pub struct TaskShown {
     pub disables: i32,
 }
 
-/// What is shown of a block and of the object in it. What an object of its kind does not have is 0, or `NONE` for a task.
+/// What is shown of a block and of the object in it. What an object of its kind does not have is 0, or `NONE` for a
+/// task.
 #[repr(C)]
 #[derive(Clone, Copy)]
 pub struct BlockShown {

@@ -60,11 +60,12 @@ fn after(
     Ok(Box::new(alloc, next)?)
 }
 
-/// Reads a machine file, starts its machine, and puts that into the handle. A machine that the handle had is closed first.
+/// Reads a machine file, starts its machine, and puts that into the handle. A machine that the handle had is closed
+/// first.
 ///
-/// 0 if the machine goes on, and 3 if an alert has stopped it at its start: the handle has it, and it has the lines of the start. Otherwise the
-/// handle has no machine, and `out` begins with the words of the fault, as far as there is room, which are `length` bytes: 1 if the machine file is refused, and
-/// 4 if memory was refused.
+/// 0 if the machine goes on, and 3 if an alert has stopped it at its start: the handle has it, and it has the lines of
+/// the start. Otherwise the handle has no machine, and `out` begins with the words of the fault, as far as there is
+/// room, which are `length` bytes: 1 if the machine file is refused, and 4 if memory was refused.
 ///
 /// Source: project rule.
 #[unsafe(no_mangle)]
@@ -93,9 +94,10 @@ pub extern "C" fn execsim_open(
 
 /// Does the events of an event text, as `run 1`, one after another, and keeps their lines.
 ///
-/// 0 if the machine goes on, and 3 if an alert has stopped it. 2 if the event text is refused, or asks for more ticks than the machine has left, a million
-/// from its start on: the machine is as it was, and `out` begins with the words of the fault, as far as there is room, which are `length`
-/// bytes. 4 if memory was refused: the machine is closed. 6 if the handle has none.
+/// 0 if the machine goes on, and 3 if an alert has stopped it. 2 if the event text is refused, or asks for more ticks
+/// than the machine has left, a million from its start on: the machine is as it was, and `out` begins with the words of
+/// the fault, as far as there is room, which are `length` bytes. 4 if memory was refused: the machine is closed. 6 if
+/// the handle has none.
 ///
 /// Source: project rule.
 #[unsafe(no_mangle)]
@@ -134,9 +136,11 @@ pub extern "C" fn execsim_events(
     }
 }
 
-/// Moves the lines that the machine has printed since they were taken last to the front of `out`, and puts their length in bytes in `length`.
+/// Moves the lines that the machine has printed since they were taken last to the front of `out`, and puts their length
+/// in bytes in `length`.
 ///
-/// 0 if they were moved. 5 if they are longer than `out`: all is as it was, and `length` says how long. 6 if the handle has no machine.
+/// 0 if they were moved. 5 if they are longer than `out`: all is as it was, and `length` says how long. 6 if the handle
+/// has no machine.
 ///
 /// Source: project rule.
 #[unsafe(no_mangle)]

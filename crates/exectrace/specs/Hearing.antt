@@ -7,7 +7,7 @@ pub record Hearing : Type 1 where
   pub Told : Type 0
   -- whether it still listens
   pub good : Told → Bool
-  -- from one to the other it heard just these, or it listens no more since some of them
+  -- from one to the other it heard exactly these, or it listens no more since some of them
   pub hears : Told → Told → List TraceLine → Type 0
   -- nothing was said
   pub none : (a : Told) → hears a a []

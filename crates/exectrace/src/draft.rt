@@ -1,4 +1,5 @@
-//! A line that is being built, in fixed room. Short texts are copied in two moves of one width, which may overlap, so that no loop runs.
+//! A line that is being built, in fixed room. Short texts are copied in two moves of one width, which may overlap, so
+//! that no loop runs.
 ghost use Rattle.std.specs.Prelude.{◌≡◌, ◌+◌, ◌*◌, ◌≤◌, ◌↔◌, [], ◌++◌, length, take, IsOk, OnOk, OnErr};
 
 use std::marker::Model;
@@ -10,7 +11,8 @@ pub(crate) const ROOM: usize = 160;
 #[derive(Clone, Copy)]
 pub(crate) struct NoRoom;
 
-/// What is built of a line and is not yet handed over. Its cells are lent, so that its length can be kept in a register.
+/// What is built of a line and is not yet handed over. Its cells are lent, so that its length can be kept in a
+/// register.
 #[derive(Drop)]
 pub(crate) struct Draft<'a> {
     cells: &'a mut [u8; ROOM],
@@ -37,8 +39,8 @@ fn write_at(cells: &mut [u8; ROOM], at: usize, text: &[u8])
     cells[at..at + text.len()].copy_from_slice(text);
 }
 
-/// Writes a text, as long as that width, over the cells from a place on. All of it is read before the first byte is written, so that nothing
-/// asks at run time whether they overlap.
+/// Writes a text, as long as that width, over the cells from a place on. All of it is read before the first byte is
+/// written, so that nothing asks at run time whether they overlap.
 #[inline(always)]
 fn write_block<const WIDTH: usize>(cells: &mut [u8; ROOM], at: usize, text: &[u8])
     requires room { at + WIDTH ≤ ROOM }

@@ -68,7 +68,8 @@ pub enum Line {
     Wait(CallLine),
     /// `serve SOURCE`: an interrupt source is served.
     Serve(Name),
-    /// `timer VALUE`: a request that waits, at this address, finishes: at a serving of VERTB, or after system time was set.
+    /// `timer VALUE`: a request that waits, at this address, finishes: at a serving of VERTB, or after system time was
+    /// set.
     Timer(u32),
     /// `server NAME`: a server's body begins.
     Server(Name),

@@ -282,7 +282,8 @@ fn add_end<W: Sink>(line: &mut Draft, outcome: CallOutcome, out: &mut W)
 
 // ---- a line that has room, as mostly
 
-/// Begins a line by a name, a space and a word, if it has room. The answer is whether it has; then there is room for an end too.
+/// Begins a line by a name, a space and a word, if it has room. The answer is whether it has; then there is room for an
+/// end too.
 #[inline(always)]
 fn try_head(line: &mut Draft, name: &Name, word: &str) -> bool
     requires empty { line.old.items ≡ [] }
@@ -298,7 +299,8 @@ fn try_head(line: &mut Draft, name: &Name, word: &str) -> bool
     true
 }
 
-/// Adds a space and the name between double quotes, if there is room for it and for an end. The answer is whether there is.
+/// Adds a space and the name between double quotes, if there is room for it and for an end. The answer is whether there
+/// is.
 #[inline(always)]
 fn try_quoted(line: &mut Draft, name: &Name) -> bool
     requires { length line.old.items ≤ 146 }
@@ -328,7 +330,8 @@ fn try_value(line: &mut Draft, n: u32) -> bool
     true
 }
 
-/// Adds a space and the argument, which is that name if it is quoted, if there is room for it and for an end. The answer is whether there is.
+/// Adds a space and the argument, which is that name if it is quoted, if there is room for it and for an end. The
+/// answer is whether there is.
 #[inline(always)]
 fn try_short(line: &mut Draft, argument: &ShortArg, quoted: &Name) -> bool
     requires { length line.old.items ≤ 146 }
@@ -459,7 +462,8 @@ fn put_long_call<W: Sink>(
     hand_over(&line, out);
 }
 
-/// Puts the line of a call as `put_call` does, if each quoted argument is that name. It is built where it is called: much of it is often fixed there.
+/// Puts the line of a call as `put_call` does, if each quoted argument is that name. It is built where it is called:
+/// much of it is often fixed there.
 #[inline(always)]
 pub fn put_short_call<W: Sink>(
     name: &Name,
@@ -557,7 +561,8 @@ pub fn put_line<W: Sink>(line: &Line, out: &mut W)
     }
 }
 
-/// Writes one line to a good sink, without memory. The sink is handed the whole line at once, and again what it did not take.
+/// Writes one line to a good sink, without memory. The sink is handed the whole line at once, and again what it did not
+/// take.
 ///
 /// At most one argument of the line is quoted, and then no line is longer than 160 bytes. `Ok` leaves the sink good,
 /// and all bytes of the line were taken. At `WriteFault` only a prefix of them was: the sink failed, or took no

@@ -117,7 +117,8 @@ impl<W: Write> Sink for WriteSink<W> {
     }
 }
 
-/// Writes these bytes, at least one, in as many writes as it needs, to a sink whose last 16 writes did not all take none.
+/// Writes these bytes, at least one, in as many writes as it needs, to a sink whose last 16 writes did not all take
+/// none.
 #[cold]
 #[inline(never)]
 fn write_rest<W: Sink>(bytes: &[u8], out: &mut W) -> Result<(), WriteFault>

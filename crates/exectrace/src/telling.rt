@@ -11,7 +11,8 @@ pub enum Said<'a> {
     Switch(&'a Name),
     /// No task runs.
     Idle,
-    /// A call was made by a task or a body of that name, and this is how it ends. An argument that is a name is the one beside the arguments.
+    /// A call was made by a task or a body of that name, and this is how it ends. An argument that is a name is the one
+    /// beside the arguments.
     Call {
         by: &'a Name,
         word: Word,

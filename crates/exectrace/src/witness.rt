@@ -4,7 +4,8 @@ ghost use Rattle.exectrace.specs.{Hearing.Hearing, Heard.heard};
 
 use crate::telling::Said;
 
-/// A listener. What it makes of what it hears is its own; that it heard the run, in order, is proved of the machine once for all.
+/// A listener. What it makes of what it hears is its own; that it heard the run, in order, is proved of the machine
+/// once for all.
 pub trait Witness {
     /// How listeners of this kind hear.
     ghost hearing: { Hearing };

@@ -10,7 +10,7 @@ pub(crate) static ALERTS: [Section; 10] = [
         text: "No live task has that number, or no live object of the wanted kind begins at that
 address: it was never made, it is 0 because a call failed, or it was freed. So it
 is with the reply port of a message or of a request.",
-        shows: Example {
+        shows: Some(Example {
             machine: "[[region]]
 base = 4096
 size = 65536
@@ -27,8 +27,8 @@ code = [
                 "run 10
 ",
             ),
-        },
-        mended: Example {
+        }),
+        mended: Some(Example {
             machine: "[[region]]
 base = 4096
 size = 65536
@@ -47,14 +47,14 @@ code = [
                 "run 10
 ",
             ),
-        },
+        }),
     },
     Section {
         name: "MASK",
         title: "a signal that a script may not name",
         text: "A mask has a bit for each signal: signal 12 is $1000. Scripts may name the
 signals 12 to 31. FreeSignal takes a number from 16 to 31, or -1.",
-        shows: Example {
+        shows: Some(Example {
             machine: "[[task]]
 name = 'a'
 code = [
@@ -65,8 +65,8 @@ code = [
                 "run 10
 ",
             ),
-        },
-        mended: Example {
+        }),
+        mended: Some(Example {
             machine: "[[task]]
 name = 'a'
 code = [
@@ -78,14 +78,14 @@ code = [
                 "run 10
 ",
             ),
-        },
+        }),
     },
     Section {
         name: "VALUE",
         title: "a number is outside its range",
         text: "A priority is from -128 to 127, the command of a request is at most 65,535, and
 AllocMem and AvailMem take some bits only.",
-        shows: Example {
+        shows: Some(Example {
             machine: "[[region]]
 base = 4096
 size = 65536
@@ -101,8 +101,8 @@ code = [
                 "run 10
 ",
             ),
-        },
-        mended: Example {
+        }),
+        mended: Some(Example {
             machine: "[[region]]
 base = 4096
 size = 65536
@@ -118,14 +118,14 @@ code = [
                 "run 10
 ",
             ),
-        },
+        }),
     },
     Section {
         name: "MEM",
         title: "FreeMem of what is not such a block",
         text: "FreeMem is given the address that AllocMem returned, and the size that it was
 asked for.",
-        shows: Example {
+        shows: Some(Example {
             machine: "[[region]]
 base = 4096
 size = 65536
@@ -141,8 +141,8 @@ code = [
                 "run 10
 ",
             ),
-        },
-        mended: Example {
+        }),
+        mended: Some(Example {
             machine: "[[region]]
 base = 4096
 size = 65536
@@ -158,14 +158,14 @@ code = [
                 "run 10
 ",
             ),
-        },
+        }),
     },
     Section {
         name: "NEST",
         title: "Permit or Enable without its partner",
         text: "Each Permit ends one Forbid of the task, and each Enable one Disable. They nest
 128 deep.",
-        shows: Example {
+        shows: Some(Example {
             machine: "[[task]]
 name = 'a'
 code = [
@@ -176,8 +176,8 @@ code = [
                 "run 10
 ",
             ),
-        },
-        mended: Example {
+        }),
+        mended: Some(Example {
             machine: "[[task]]
 name = 'a'
 code = [
@@ -189,7 +189,7 @@ code = [
                 "run 10
 ",
             ),
-        },
+        }),
     },
     Section {
         name: "LINK",
@@ -197,7 +197,7 @@ code = [
         text: "A node is in one list at most, and Remove wants it in one. A message is in one
 port at most. AddPort wants a port that is not public, and RemPort one that is.
 FreeList wants a list that is empty.",
-        shows: Example {
+        shows: Some(Example {
             machine: "[[region]]
 base = 4096
 size = 65536
@@ -215,8 +215,8 @@ code = [
                 "run 10
 ",
             ),
-        },
-        mended: Example {
+        }),
+        mended: Some(Example {
             machine: "[[region]]
 base = 4096
 size = 65536
@@ -235,14 +235,14 @@ code = [
                 "run 10
 ",
             ),
-        },
+        }),
     },
     Section {
         name: "PORT",
         title: "a port that is in use, or at which the task may not wait",
         text: "A port is deleted when it is empty and not public, and no request in progress
 needs it. A task waits at a port of its own, and only if the port signals it.",
-        shows: Example {
+        shows: Some(Example {
             machine: "[[region]]
 base = 4096
 size = 65536
@@ -259,8 +259,8 @@ code = [
                 "run 10
 ",
             ),
-        },
-        mended: Example {
+        }),
+        mended: Some(Example {
             machine: "[[region]]
 base = 4096
 size = 65536
@@ -278,14 +278,15 @@ code = [
                 "run 10
 ",
             ),
-        },
+        }),
     },
     Section {
         name: "SEM",
-        title: "a semaphore whose owner is another than the call wants",
+        title: "a semaphore with another owner than the call wants, or obtained too often",
         text: "Only the owner of a semaphore may release it, and one that is owned is not
-freed.",
-        shows: Example {
+freed. An owner that obtains it again has to release it as often, which is at
+most 32,767 times: the call that would take one more is refused.",
+        shows: Some(Example {
             machine: "[[region]]
 base = 4096
 size = 65536
@@ -301,8 +302,8 @@ code = [
                 "run 10
 ",
             ),
-        },
-        mended: Example {
+        }),
+        mended: Some(Example {
             machine: "[[region]]
 base = 4096
 size = 65536
@@ -319,13 +320,13 @@ code = [
                 "run 10
 ",
             ),
-        },
+        }),
     },
     Section {
         name: "LIB",
         title: "a library is closed that is not open",
         text: "Each CloseLibrary ends one OpenLibrary.",
-        shows: Example {
+        shows: Some(Example {
             machine: "[[region]]
 base = 4096
 size = 65536
@@ -347,8 +348,8 @@ code = [
                 "run 10
 ",
             ),
-        },
-        mended: Example {
+        }),
+        mended: Some(Example {
             machine: "[[region]]
 base = 4096
 size = 65536
@@ -369,14 +370,14 @@ code = [
                 "run 10
 ",
             ),
-        },
+        }),
     },
     Section {
         name: "IO",
         title: "a request that is in progress, was never begun, or is not open",
         text: "A request is opened by OpenDevice before it is begun. While it is in progress it
 is not begun again, changed, closed or deleted; WaitIO waits for its end.",
-        shows: Example {
+        shows: Some(Example {
             machine: "[[region]]
 base = 4096
 size = 65536
@@ -394,8 +395,8 @@ code = [
                 "run 10
 ",
             ),
-        },
-        mended: Example {
+        }),
+        mended: Some(Example {
             machine: "[[region]]
 base = 4096
 size = 65536
@@ -415,6 +416,6 @@ code = [
                 "run 10
 ",
             ),
-        },
+        }),
     },
 ];

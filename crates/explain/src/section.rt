@@ -24,10 +24,10 @@ pub struct Section {
     pub title: &'static str,
     /// What there is to know of it.
     pub text: &'static str,
-    /// Texts that have it.
-    pub shows: Example,
+    /// Texts that have it; none if it takes a long text, or is not of a text.
+    pub shows: Option<Example>,
     /// The same texts, which do not have it any more.
-    pub mended: Example,
+    pub mended: Option<Example>,
 }
 
 /// All sections: of the faults, of the alerts and of the warnings.

@@ -13,8 +13,15 @@ fn push_text(out: &mut String, text: &str) -> Result<(), AllocError> {
     out.push_str("\n")
 }
 
-/// Adds the texts of an example after a sentence.
-fn push_example(out: &mut String, sentence: &str, example: &Example) -> Result<(), AllocError> {
+/// Adds the texts of an example after a sentence, if there is one.
+fn push_example(
+    out: &mut String,
+    sentence: &str,
+    example: Option<Example>,
+) -> Result<(), AllocError> {
+    let Some(example) = example else {
+        return Ok(());
+    };
     out.push_str(sentence)?;
     out.push_str("\n\n")?;
     push_text(out, example.machine)?;
@@ -27,7 +34,7 @@ fn push_example(out: &mut String, sentence: &str, example: &Example) -> Result<(
     }
 }
 
-/// A section as it is printed: its name and title, what there is to know of it, and both examples.
+/// A section as it is printed: its name and title, what there is to know of it, and its examples.
 ///
 /// # Errors
 ///
@@ -35,7 +42,7 @@ fn push_example(out: &mut String, sentence: &str, example: &Example) -> Result<(
 pub fn section_text(alloc: Global, section: &Section) -> Result<String, AllocError> {
     let (name, title, text) = (section.name, section.title, section.text);
     let mut out = format!(in alloc; "{name}: {title}\n\n{text}\n\n")?;
-    push_example(&mut out, "These texts have it:", &section.shows)?;
-    push_example(&mut out, "These do not:", &section.mended)?;
+    push_example(&mut out, "These texts have it:", section.shows)?;
+    push_example(&mut out, "These do not:", section.mended)?;
     Ok(out)
 }

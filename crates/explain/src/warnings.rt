@@ -9,7 +9,7 @@ pub(crate) static WARNINGS: [Section; 17] = [
         title: "a variable is read and never set",
         text: "A variable that nothing sets is 0. Often its name is spelled in two ways, or a @
 is missing: variables without one belong to one task.",
-        shows: Example {
+        shows: Some(Example {
             machine: "[[task]]
 name = 'a'
 code = [
@@ -18,8 +18,8 @@ code = [
 ]
 ",
             events: None,
-        },
-        mended: Example {
+        }),
+        mended: Some(Example {
             machine: "[[task]]
 name = 'a'
 code = [
@@ -28,14 +28,14 @@ code = [
 ]
 ",
             events: None,
-        },
+        }),
     },
     Section {
         name: "unused-variable",
         title: "a variable is set and never read",
         text: "What a variable holds is lost. A word need not have a variable before it: its
 answer can be left.",
-        shows: Example {
+        shows: Some(Example {
             machine: "[[task]]
 name = 'a'
 code = [
@@ -44,8 +44,8 @@ code = [
 ]
 ",
             events: None,
-        },
-        mended: Example {
+        }),
+        mended: Some(Example {
             machine: "[[task]]
 name = 'a'
 code = [
@@ -54,13 +54,13 @@ code = [
 ]
 ",
             events: None,
-        },
+        }),
     },
     Section {
         name: "unused-label",
         title: "nothing jumps to a label",
         text: "Either the jump is missing, or it names another label.",
-        shows: Example {
+        shows: Some(Example {
             machine: "[[task]]
 name = 'a'
 code = [
@@ -69,8 +69,8 @@ code = [
 ]
 ",
             events: None,
-        },
-        mended: Example {
+        }),
+        mended: Some(Example {
             machine: "[[task]]
 name = 'a'
 code = [
@@ -80,13 +80,13 @@ code = [
 ]
 ",
             events: None,
-        },
+        }),
     },
     Section {
         name: "unreachable",
         title: "nothing gets to a line",
         text: "The line before it jumps away or ends the task, and the line is not a label.",
-        shows: Example {
+        shows: Some(Example {
             machine: "[[task]]
 name = 'a'
 code = [
@@ -96,8 +96,8 @@ code = [
 ]
 ",
             events: None,
-        },
-        mended: Example {
+        }),
+        mended: Some(Example {
             machine: "[[task]]
 name = 'a'
 code = [
@@ -107,14 +107,14 @@ code = [
 ]
 ",
             events: None,
-        },
+        }),
     },
     Section {
         name: "never-added",
         title: "a task never runs",
         text: "A task with `start = false` begins when another one calls AddTask with its
 number: tasks are numbered from 1, in the order of the file.",
-        shows: Example {
+        shows: Some(Example {
             machine: "[[task]]
 name = 'a'
 start = false
@@ -123,8 +123,8 @@ code = [
 ]
 ",
             events: None,
-        },
-        mended: Example {
+        }),
+        mended: Some(Example {
             machine: "[[task]]
 name = 'a'
 start = false
@@ -139,13 +139,13 @@ code = [
 ]
 ",
             events: None,
-        },
+        }),
     },
     Section {
         name: "unknown-port",
         title: "FindPort asks for a name that no AddPort gives",
         text: "FindPort returns 0 then, and 0 is not a port.",
-        shows: Example {
+        shows: Some(Example {
             machine: "[[region]]
 base = 4096
 size = 65536
@@ -160,8 +160,8 @@ code = [
 ]
 ",
             events: None,
-        },
-        mended: Example {
+        }),
+        mended: Some(Example {
             machine: "[[region]]
 base = 4096
 size = 65536
@@ -176,13 +176,13 @@ code = [
 ]
 ",
             events: None,
-        },
+        }),
     },
     Section {
         name: "unknown-task",
         title: "FindTask asks for a name that no task has",
         text: "FindTask returns 0 then, and no task has the number 0.",
-        shows: Example {
+        shows: Some(Example {
             machine: "[[task]]
 name = 'a'
 code = [
@@ -191,8 +191,8 @@ code = [
 ]
 ",
             events: None,
-        },
-        mended: Example {
+        }),
+        mended: Some(Example {
             machine: "[[task]]
 name = 'a'
 code = [
@@ -201,13 +201,13 @@ code = [
 ]
 ",
             events: None,
-        },
+        }),
     },
     Section {
         name: "unknown-library",
         title: "OpenLibrary asks for a name that no library has",
         text: "OpenLibrary returns 0 then. A library is a table [[library]] of the file.",
-        shows: Example {
+        shows: Some(Example {
             machine: "[[region]]
 base = 4096
 size = 65536
@@ -220,8 +220,8 @@ code = [
 ]
 ",
             events: None,
-        },
-        mended: Example {
+        }),
+        mended: Some(Example {
             machine: "[[region]]
 base = 4096
 size = 65536
@@ -239,14 +239,14 @@ code = [
 ]
 ",
             events: None,
-        },
+        }),
     },
     Section {
         name: "no-memory",
         title: "no region has the memory that AllocMem asks for",
         text: "A region has the attributes of its key attrs, or MEMF_PUBLIC if it has no such key;
 AllocMem returns 0 if no region has all that are asked for, or so many bytes.",
-        shows: Example {
+        shows: Some(Example {
             machine: "[[region]]
 base = 4096
 size = 65536
@@ -259,8 +259,8 @@ code = [
 ]
 ",
             events: None,
-        },
-        mended: Example {
+        }),
+        mended: Some(Example {
             machine: "[[region]]
 base = 4096
 size = 65536
@@ -273,7 +273,7 @@ code = [
 ]
 ",
             events: None,
-        },
+        }),
     },
     Section {
         name: "waits",
@@ -282,7 +282,7 @@ code = [
 wait, or that nothing can. It is a note if other tasks still run, or if the task
 was here before, went on and came back, as one does that serves others: call such
 a task by --serves.",
-        shows: Example {
+        shows: Some(Example {
             machine: "[[task]]
 name = 'a'
 code = [
@@ -293,8 +293,8 @@ code = [
                 "run 10
 ",
             ),
-        },
-        mended: Example {
+        }),
+        mended: Some(Example {
             machine: "[[task]]
 name = 'a'
 code = [
@@ -311,7 +311,7 @@ code = [
                 "run 10
 ",
             ),
-        },
+        }),
     },
     Section {
         name: "lost-wakeup",
@@ -319,7 +319,7 @@ code = [
         text: "A signal that comes before the Wait is kept until the task asks for it, unless a
 SetSignal, another Wait or an AllocSignal takes it first. Look at the signals
 only by Wait, or look once more whether there is work before the Wait.",
-        shows: Example {
+        shows: Some(Example {
             machine: "[[task]]
 name = 'a'
 code = [
@@ -339,8 +339,8 @@ code = [
                 "run 10
 ",
             ),
-        },
-        mended: Example {
+        }),
+        mended: Some(Example {
             machine: "[[task]]
 name = 'a'
 code = [
@@ -360,14 +360,14 @@ code = [
                 "run 10
 ",
             ),
-        },
+        }),
     },
     Section {
         name: "unread",
         title: "a task waits for the signal of its port, which has a message",
         text: "A port signals its task once, however many messages come before the task waits.
 So a task takes messages until GetMsg returns 0, and waits only then.",
-        shows: Example {
+        shows: Some(Example {
             machine: "[[region]]
 base = 4096
 size = 65536
@@ -399,8 +399,8 @@ code = [
                 "run 40
 ",
             ),
-        },
-        mended: Example {
+        }),
+        mended: Some(Example {
             machine: "[[region]]
 base = 4096
 size = 65536
@@ -416,7 +416,6 @@ code = [
   'm = GetMsg p',
   'Print m',
   'JumpNZ m next',
-  'Wait $80000000',
 ]
 
 [[task]]
@@ -434,13 +433,13 @@ code = [
                 "run 40
 ",
             ),
-        },
+        }),
     },
     Section {
         name: "owner-gone",
         title: "a task waits for a semaphore whose owner has ended",
         text: "The end of a task releases nothing: it gives back what it owns before it ends.",
-        shows: Example {
+        shows: Some(Example {
             machine: "[[region]]
 base = 4096
 size = 65536
@@ -462,8 +461,8 @@ code = [
                 "run 10
 ",
             ),
-        },
-        mended: Example {
+        }),
+        mended: Some(Example {
             machine: "[[region]]
 base = 4096
 size = 65536
@@ -486,14 +485,18 @@ code = [
                 "run 10
 ",
             ),
-        },
+        }),
     },
     Section {
         name: "deadlock",
-        title: "tasks wait for each other",
-        text: "Each has what the next one waits for. If all tasks obtain semaphores in one
-order, there is no circle.",
-        shows: Example {
+        title: "tasks wait for each other in a circle",
+        text: "Each waits for what only the next one of them could do: release a semaphore, send
+a message, a reply or a signal. So none of them ever goes on. If all tasks obtain
+semaphores in one order, and none waits for another task while it owns a
+semaphore that the other one needs, there is no circle of semaphores; if one of
+two tasks sends before it waits, there is none of messages or signals. It is said
+only if no other task, no interrupt and no request could end such a wait.",
+        shows: Some(Example {
             machine: "[[region]]
 base = 4096
 size = 65536
@@ -502,27 +505,34 @@ size = 65536
 name = 'a'
 pri = 1
 code = [
+  'r = CreateMsgPort',
   '@s = NewSem',
-  '@t = NewSem',
-  'ObtainSemaphore @s',
   'Wait $1000',
-  'ObtainSemaphore @t',
+  'ObtainSemaphore @s',
+  'm = NewMsg r 0',
+  'PutMsg @p m',
+  'WaitPort r',
+  'ReleaseSemaphore @s',
 ]
 
 [[task]]
 name = 'b'
 code = [
-  'ObtainSemaphore @t',
+  '@p = CreateMsgPort',
   'Signal 1 $1000',
+  'WaitPort @p',
+  'm = GetMsg @p',
   'ObtainSemaphore @s',
+  'ReplyMsg m',
+  'ReleaseSemaphore @s',
 ]
 ",
             events: Some(
-                "run 20
+                "run 30
 ",
             ),
-        },
-        mended: Example {
+        }),
+        mended: Some(Example {
             machine: "[[region]]
 base = 4096
 size = 65536
@@ -531,28 +541,33 @@ size = 65536
 name = 'a'
 pri = 1
 code = [
+  'r = CreateMsgPort',
   '@s = NewSem',
-  '@t = NewSem',
+  'Wait $1000',
   'ObtainSemaphore @s',
-  'ObtainSemaphore @t',
-  'ReleaseSemaphore @t',
+  'm = NewMsg r 0',
+  'PutMsg @p m',
   'ReleaseSemaphore @s',
+  'WaitPort r',
 ]
 
 [[task]]
 name = 'b'
 code = [
+  '@p = CreateMsgPort',
+  'Signal 1 $1000',
+  'WaitPort @p',
+  'm = GetMsg @p',
   'ObtainSemaphore @s',
-  'ObtainSemaphore @t',
-  'ReleaseSemaphore @t',
+  'ReplyMsg m',
   'ReleaseSemaphore @s',
 ]
 ",
             events: Some(
-                "run 20
+                "run 30
 ",
             ),
-        },
+        }),
     },
     Section {
         name: "busy",
@@ -560,7 +575,7 @@ code = [
         text: "The last steps were all in a loop that changes nothing, or that only wakes other
 tasks of the loop. A task that looks again and again for something never lets
 tasks of lower priority run: let it Wait for a signal.",
-        shows: Example {
+        shows: Some(Example {
             machine: "[[task]]
 name = 'a'
 pri = 1
@@ -580,8 +595,8 @@ code = [
                 "run 2000
 ",
             ),
-        },
-        mended: Example {
+        }),
+        mended: Some(Example {
             machine: "[[task]]
 name = 'a'
 pri = 1
@@ -601,14 +616,14 @@ code = [
                 "run 2000
 ",
             ),
-        },
+        }),
     },
     Section {
         name: "ends-early",
         title: "the events end while a task runs",
         text: "No task has ended, and nothing says that one runs without end: the run is longer
 than its events. Ask for more steps.",
-        shows: Example {
+        shows: Some(Example {
             machine: "[[task]]
 name = 'a'
 code = [
@@ -621,8 +636,8 @@ code = [
                 "run 2
 ",
             ),
-        },
-        mended: Example {
+        }),
+        mended: Some(Example {
             machine: "[[task]]
 name = 'a'
 code = [
@@ -635,7 +650,7 @@ code = [
                 "run 10
 ",
             ),
-        },
+        }),
     },
     Section {
         name: "late",
@@ -643,7 +658,7 @@ code = [
         text: "The task never gets it. In a real Exec its memory may be somebody else's by then,
 and Signal writes into it. A task that gives out its address waits until nobody
 needs it any more.",
-        shows: Example {
+        shows: Some(Example {
             machine: "[[task]]
 name = 'a'
 code = [
@@ -661,8 +676,8 @@ code = [
                 "run 10
 ",
             ),
-        },
-        mended: Example {
+        }),
+        mended: Some(Example {
             machine: "[[task]]
 name = 'a'
 code = [
@@ -680,6 +695,6 @@ code = [
                 "run 10
 ",
             ),
-        },
+        }),
     },
 ];

@@ -19,8 +19,8 @@ abbrev pub is_under_way : Request → Bool
 is_under_way q = is_way q.state
 
 -- the request is open, for some unit
-abbrev pub is_open : Request → Bool
-is_open q = is_some q.unit
+abbrev pub is_opened : Request → Bool
+is_opened q = is_some q.unit
 
 -- ---- time
 
@@ -76,12 +76,12 @@ outcome now system q =
 
 -- the request with system time in its time field, if it asks for that; the seconds are modulo 2 to the power 32
 -- (project rule)
-abbrev pub told : (system : ℕ) → Request → Request
-told system q = if asks_time q then record q { secs = system / second % 2 ^ 32; micros = system % second } else q
+abbrev pub with_system_time : (system : ℕ) → Request → Request
+with_system_time system q = if asks_time q then record q { secs = system / second % 2 ^ 32; micros = system % second } else q
 
 -- the request in progress: its error is 0, and IOF_QUICK is as the caller asked, but cleared if the request is to wait
-abbrev pub begun : Bool → (system : ℕ) → Request → Request
-begun quick system q = record (told system q) { state = UnderWay; error = pos 0; quick = quick && not (is_to_wait system q) }
+abbrev pub in_progress : Bool → (system : ℕ) → Request → Request
+in_progress quick system q = record (with_system_time system q) { state = UnderWay; error = pos 0; quick = quick && not (is_to_wait system q) }
 
 -- ---- finishing
 

@@ -2,7 +2,7 @@
 use Rattle.std.specs.Prelude.{ℕ, ℤ, pos, negsuc, nat_eq, nat_le, Bool, false, ◌&&◌, ◌||◌, is_some, if◌then◌else◌, Option, Some, None, unwrap_or}
 use Rattle.execlist.specs.Pool.{Pooled, given, released, slot, written}
 use Rattle.iorequest.specs.declared.fault.ReqFault.TheVariants.{InUse, NotOpen}
-use Rattle.iorequest.specs.{declared.fault.ReqFault.ReqFault, declared.request.Request.Request, Request.idle_request, Request.is_under_way, Request.is_open}
+use Rattle.iorequest.specs.{declared.fault.ReqFault.ReqFault, declared.request.Request.Request, Request.idle_request, Request.is_under_way, Request.is_opened}
 
 -- ---- parts
 
@@ -28,7 +28,7 @@ in_use_fault r m = if is_under_way (request_at r m) then Some InUse else None
 -- request r is to begin: it is not to be in progress, and is to be open (project rule)
 abbrev pub begin_fault : ℕ → Pooled Request → Option ReqFault
 begin_fault r m =
-    if is_under_way (request_at r m) then Some InUse else (if is_open (request_at r m) then None else Some NotOpen)
+    if is_under_way (request_at r m) then Some InUse else (if is_opened (request_at r m) then None else Some NotOpen)
 
 -- ---- changes
 

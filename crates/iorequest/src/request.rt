@@ -1,6 +1,6 @@
 //! One timer request, and what comes of beginning it.
 ghost use Rattle.std.specs.Prelude.{◌≡◌, ◌+◌, ◌<◌, ◌^◌};
-ghost use Rattle.iorequest.specs.Request.{idle_request, is_under_way, is_open, is_until, is_to_wait, time_of, begun, outcome};
+ghost use Rattle.iorequest.specs.Request.{idle_request, is_under_way, is_opened, is_until, is_to_wait, time_of, in_progress, outcome};
 
 /// TR_ADDREQUEST: a reply once a time is over.
 const TR_ADDREQUEST: u16 = 9;
@@ -20,7 +20,8 @@ const IOERR_NOCMD: i8 = -3;
 /// The microseconds of a second.
 const SECOND: u64 = 1_000_000;
 
-/// How far a request has come. RKM Devices, Introduction to Amiga System Devices; that an idle one is distinguished: project rule.
+/// How far a request has come. RKM Devices, Introduction to Amiga System Devices; that an idle one is distinguished:
+/// project rule.
 #[derive(Clone, Copy, Debug)]
 pub enum ReqState {
     /// It was never begun.
@@ -99,7 +100,7 @@ impl Request {
     ///
     /// Source: autodoc exec.library/OpenDevice.
     pub fn is_open(self) -> bool
-        ensures { result ≡ is_open self }
+        ensures { result ≡ is_opened self }
     {
         self.unit.is_some()
     }
@@ -166,7 +167,7 @@ impl Request {
     ///
     /// Source: RKM Devices, Introduction to Amiga System Devices: IOF_QUICK.
     pub fn begun(self, quick: bool, sys: u64) -> Request
-        ensures { result ≡ begun quick sys self }
+        ensures { result ≡ in_progress quick sys self }
     {
         let mut next = self;
         next.state = ReqState::UnderWay;

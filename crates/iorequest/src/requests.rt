@@ -3,7 +3,7 @@ ghost use Rattle.std.specs.Prelude.{◌≡◌, ◌+◌, ◌<◌, ◌^◌, ◌≤
 ghost use Rattle.std.specs.List.{list_any};
 ghost use Rattle.execlist.specs.{Pool.IsStocked, Pool.all_free, Pool.next_number, Answers.fault_or, Answers.kept_or};
 ghost use Rattle.iorequest.specs.Requests.{is_request, request_at, request_made, request_freed, with_request, in_use_fault, begin_fault, unit_error, opened, closed, written_with, is_under_way_at};
-ghost use Rattle.iorequest.specs.{Counting.key_of, Request.is_under_way, Request.is_open, Request.time_of, Request.begun, Request.outcome, Request.finished, Request.reply_port};
+ghost use Rattle.iorequest.specs.{Counting.key_of, Request.is_under_way, Request.is_opened, Request.time_of, Request.in_progress, Request.outcome, Request.finished, Request.reply_port};
 
 use crate::fault::ReqFault;
 use crate::request::{Begun, ReqState, Request, UNIT_WAITUNTIL};
@@ -17,14 +17,14 @@ pub type ReqId = usize;
 /// IOERR_OPENFAIL: there is no such device or unit.
 const IOERR_OPENFAIL: i8 = -1;
 
-/// UNIT_VBLANK, the last of the units that count the time from the beginning of a request; the first is UNIT_MICROHZ, 0.
+/// UNIT_VBLANK, the last of the units that count the time from the beginning of a request; the first is UNIT_MICROHZ,
+/// 0.
 const UNIT_VBLANK: u32 = 1;
 
 /// Timer requests.
 ///
-/// All room is made by `new`; no other call takes memory. `under_way` and `reset` alone look at all requests, and `under_way` only if one
-/// is in progress whose reply port has the same key.
-/// RKM Devices, Timer Device.
+/// All room is made by `new`; no other call takes memory. `under_way` and `reset` alone look at all requests, and
+/// `under_way` only if one is in progress whose reply port has the same key. RKM Devices, Timer Device.
 #[derive(Drop)]
 pub struct Requests {
     requests: Pool<Request>,
@@ -75,8 +75,8 @@ impl Requests {
 
     /// Makes a request with that reply port. It is idle and not open, and every other field is 0.
     ///
-    /// The reply port is what the caller calls it by; nothing here looks at it. Answers the request's number, or PoolFull if every
-    /// request is in use. Autodoc exec.library/CreateIORequest.
+    /// The reply port is what the caller calls it by; nothing here looks at it. Answers the request's number, or
+    /// PoolFull if every request is in use. Autodoc exec.library/CreateIORequest.
     pub fn create(&mut self, port: u32) -> Result<ReqId, ReqFault>
         ensures answer { result ≡ ok_or (next_number self.old) ReqFault.PoolFull }
         ensures next { self.new ≡ request_made port self.old }
@@ -107,11 +107,11 @@ impl Requests {
 
     // ---- opening and writing
 
-    /// Opens a request for a unit of the timer, none if another device is meant. UNIT_MICROHZ (0), UNIT_VBLANK (1) and UNIT_WAITUNTIL
-    /// (3) are there; for any other the request is not open afterwards.
+    /// Opens a request for a unit of the timer, none if another device is meant. UNIT_MICROHZ (0), UNIT_VBLANK (1) and
+    /// UNIT_WAITUNTIL (3) are there; for any other the request is not open afterwards.
     ///
-    /// Answers the error, which the request has then: 0, or IOERR_OPENFAIL (-1). It is InUse if the request is in progress (project rule).
-    /// Autodoc exec.library/OpenDevice; RKM Devices, Timer Device: units.
+    /// Answers the error, which the request has then: 0, or IOERR_OPENFAIL (-1). It is InUse if the request is in
+    /// progress (project rule). Autodoc exec.library/OpenDevice; RKM Devices, Timer Device: units.
     pub fn open_device(&mut self, r: ReqId, unit: Option<u32>) -> Result<i8, ReqFault>
         requires { IsTrue (is_request r self.old) }
         ensures answer { result ≡ fault_or (in_use_fault r self.old) (unit_error unit) }
@@ -138,7 +138,8 @@ impl Requests {
         Ok(error)
     }
 
-    /// Leaves a request not open. It is InUse if the request is in progress (project rule). Autodoc exec.library/CloseDevice.
+    /// Leaves a request not open. It is InUse if the request is in progress (project rule). Autodoc
+    /// exec.library/CloseDevice.
     pub fn close_device(&mut self, r: ReqId) -> Result<(), ReqFault>
         requires { IsTrue (is_request r self.old) }
         ensures answer { result ≡ fault_or (in_use_fault r self.old) tt }
@@ -153,8 +154,8 @@ impl Requests {
         Ok(())
     }
 
-    /// Gives a request a command and a time, in seconds and microseconds. It is InUse if the request is in progress (project rule).
-    /// RKM Devices, Introduction to Amiga System Devices: `io_Command`; Timer Device: `tr_time`.
+    /// Gives a request a command and a time, in seconds and microseconds. It is InUse if the request is in progress
+    /// (project rule). RKM Devices, Introduction to Amiga System Devices: `io_Command`; Timer Device: `tr_time`.
     pub fn set(&mut self, r: ReqId, cmd: u16, secs: u32, micros: u32) -> Result<(), ReqFault>
         requires { IsTrue (is_request r self.old) }
         ensures answer { result ≡ fault_or (in_use_fault r self.old) tt }
@@ -173,22 +174,23 @@ impl Requests {
 
     // ---- beginning and finishing
 
-    /// Begins a request, with IOF_QUICK set or not, when the clock reports `now` and system time is `sys`, both in microseconds. Its error
-    /// becomes 0, and it is in progress until `finish`. TR_ADDREQUEST (9) clears IOF_QUICK if it is to wait: for a positive time to be
-    /// over, or, on UNIT_WAITUNTIL, for a system time that is still to come. TR_GETSYSTIME (10) puts system time into the time field, its
-    /// seconds modulo 2 to the power 32 (project rule).
+    /// Begins a request, with IOF_QUICK set or not, when the clock reports `now` and system time is `sys`, both in
+    /// microseconds. Its error becomes 0, and it is in progress until `finish`. TR_ADDREQUEST (9) clears IOF_QUICK if
+    /// it is to wait: for a positive time to be over, or, on UNIT_WAITUNTIL, for a system time that is still to come.
+    /// TR_GETSYSTIME (10) puts system time into the time field, its seconds modulo 2 to the power 32 (project rule).
     ///
-    /// Answers how it goes on: `Queue` with the time of the clock when it is due; `Until` with the system time when it is due; `NewTime`
-    /// for TR_SETSYSTIME (11), with what system time becomes: the caller sets it, and finishes the request with error 0; or `Finish` with
-    /// its error, which is IOERR_NOCMD (-3) for a command that the timer does not know. It is InUse if the request is in progress, and
-    /// NotOpen if it is not open (project rule). The sum of the clock and the request's time is below 2 to the power 64.
-    /// Autodoc timer.device: TR_ADDREQUEST, TR_GETSYSTIME, TR_SETSYSTIME; RKM Devices, Timer Device: UNIT_WAITUNTIL.
+    /// Answers how it goes on: `Queue` with the time of the clock when it is due; `Until` with the system time when it
+    /// is due; `NewTime` for TR_SETSYSTIME (11), with what system time becomes: the caller sets it, and finishes the
+    /// request with error 0; or `Finish` with its error, which is IOERR_NOCMD (-3) for a command that the timer does
+    /// not know. It is InUse if the request is in progress, and NotOpen if it is not open (project rule). The sum of
+    /// the clock and the request's time is below 2 to the power 64. Autodoc timer.device: TR_ADDREQUEST, TR_GETSYSTIME,
+    /// TR_SETSYSTIME; RKM Devices, Timer Device: UNIT_WAITUNTIL.
     pub fn begin(&mut self, r: ReqId, quick: bool, now: u64, sys: u64) -> Result<Begun, ReqFault>
         requires live { IsTrue (is_request r self.old) }
         requires clock { now + time_of (request_at r self.old) < 2 ^ 64 }
         ensures answer { result ≡ fault_or (begin_fault r self.old) (outcome now sys (request_at r self.old)) }
         ensures next { self.new ≡ kept_or (begin_fault r self.old) self.old
-            (with_request r (begun quick sys (request_at r self.old)) self.old) }
+            (with_request r (in_progress quick sys (request_at r self.old)) self.old) }
     {
         let request = self.request(r);
         if request.is_under_way() {
@@ -201,7 +203,8 @@ impl Requests {
         Ok(request.outcome(now, sys))
     }
 
-    /// Finishes a request that is in progress, with an error: one whose IOF_QUICK is set is done quick, any other is replied.
+    /// Finishes a request that is in progress, with an error: one whose IOF_QUICK is set is done quick, any other is
+    /// replied.
     ///
     /// Answers the reply port, to which the caller replies it, or none if it is done quick.
     /// RKM Devices, Introduction to Amiga System Devices: quick I/O.
@@ -232,13 +235,6 @@ impl Requests {
         self.requests.get(r).is_some()
     }
 
-    /// Answers the number that `create` would give, or none if every request is in use. Project rule.
-    pub fn next_request(&self) -> Option<ReqId>
-        ensures { result ≡ next_number self.now }
-    {
-        self.requests.next()
-    }
-
     /// Answers how far a request has come. RKM Devices, Introduction to Amiga System Devices.
     pub fn state(&self, r: ReqId) -> ReqState
         requires { IsTrue (is_request r self.now) }
@@ -250,7 +246,7 @@ impl Requests {
     /// Answers whether a request is open. Project rule: Exec cannot say.
     pub fn is_open(&self, r: ReqId) -> bool
         requires { IsTrue (is_request r self.now) }
-        ensures { result ≡ is_open (request_at r self.now) }
+        ensures { result ≡ is_opened (request_at r self.now) }
     {
         self.request(r).is_open()
     }

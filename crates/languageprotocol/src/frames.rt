@@ -1,5 +1,5 @@
-//! Frames, in which messages come: a head of lines that end with a carriage return and a line feed, of which one says how many bytes the message
-//! has, an empty line, and the message.
+//! Frames, in which messages come: a head of lines that end with a carriage return and a line feed, of which one says
+//! how many bytes the message has, an empty line, and the message.
 
 ghost use Rattle.std.specs.Prelude.{◌≡◌, ◌≤◌, ◌++◌, IfOk, IfSome, length};
 ghost use Rattle.languageprotocol.specs.Frames.{head_of};

@@ -15,7 +15,7 @@ pub enum Next {
     Message(Vec<u8>),
     /// No whole message yet.
     Nothing,
-    /// What is no frame.
+    /// What is not a frame.
     Bad,
 }
 

@@ -1,4 +1,5 @@
-//! The Language Server Protocol, as far as a server for texts needs it: frames, the messages in them, methods, and places in a line.
+//! The Language Server Protocol, as far as a server for texts needs it: frames, the messages in them, methods, and
+//! places in a line.
 #![tactic(auto)]
 
 mod frames;

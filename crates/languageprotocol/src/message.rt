@@ -1,4 +1,5 @@
-//! Messages: what comes in has a method, an identifier if it wants an answer, and parameters; what goes out is made here.
+//! Messages: what comes in has a method, an identifier if it wants an answer, and parameters; what goes out is made
+//! here.
 
 use crate::made::Made;
 use serde_json::{Value, json};
@@ -9,7 +10,7 @@ use std::alloc::Global;
 pub enum Refusal {
     /// What came is no JSON.
     NotJson,
-    /// It is no request.
+    /// It is not a request.
     NotARequest,
     /// There is no such method.
     UnknownMethod,

@@ -5,7 +5,8 @@ fn units_of(c: char) -> usize {
     if u32::from(c) < 0x1_0000 { 1 } else { 2 }
 }
 
-/// How many UTF-16 code units the first characters of a line have, of which there are `characters`, or fewer if the line ends.
+/// How many UTF-16 code units the first characters of a line have, of which there are `characters`, or fewer if the
+/// line ends.
 ///
 /// Source: the Language Server Protocol 3.17, Position.
 pub fn units_before(line: &str, characters: usize) -> usize {

@@ -96,11 +96,14 @@ fn add_targets(
     Ok(())
 }
 
-/// Adds the labels of some lines.
+/// Adds the labels of some lines, each once.
 fn add_labels(alloc: Global, offers: &mut Vec<Offer>, lines: &[CodeLine]) -> Made<()> {
     for line in lines {
         if let Some(name) = line.label() {
-            offers.push(offer_of(alloc, name, REFERENCE, "label")?)?;
+            let is_known = offers.iter().any(|one| one.text.as_str() == name);
+            if !is_known {
+                offers.push(offer_of(alloc, name, REFERENCE, "label")?)?;
+            }
         }
     }
     Ok(())

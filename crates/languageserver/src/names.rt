@@ -30,6 +30,15 @@ fn port_in(alloc: Global, line: &CodeLine) -> Made<Option<&str>> {
     }
 }
 
+/// Adds a name, unless it is there or is the empty text.
+fn add_once(names: &mut Vec<String>, name: String) -> Made<()> {
+    let is_known = names.iter().any(|one| one.as_str() == name.as_str());
+    if !is_known && !name.is_empty() {
+        names.push(name)?;
+    }
+    Ok(())
+}
+
 impl<'a> Query<'a> {
     /// How many items of an array are looked at: as many as it may have.
     pub(crate) fn count(&self, array: Array) -> usize {
@@ -68,11 +77,11 @@ impl<'a> Query<'a> {
         }
     }
 
-    /// The names of the items of an array.
+    /// The names of the items of an array, each once.
     fn item_names(&self, array: Array) -> Made<Vec<String>> {
         let mut names = Vec::new(self.alloc);
         for item in 0..self.count(array) {
-            names.push(self.item_name(array, item)?)?;
+            add_once(&mut names, self.item_name(array, item)?)?;
         }
         Ok(names)
     }
@@ -92,16 +101,16 @@ impl<'a> Query<'a> {
         Ok(found)
     }
 
-    /// The names of the ports that the code makes public.
+    /// The names of the ports that the code makes public, each once.
     fn port_names(&self) -> Made<Vec<String>> {
         let mut names = Vec::new(self.alloc);
         for (_, name) in self.port_lines()? {
-            names.push(name)?;
+            add_once(&mut names, name)?;
         }
         Ok(names)
     }
 
-    /// All names of a kind that the text has.
+    /// All names of a kind that the text has, each once.
     pub(crate) fn names(&self, names: Names) -> Made<Vec<String>> {
         if let Some(array) = array_named(names) {
             return self.item_names(array);

@@ -17,7 +17,8 @@ fn is_silent(word: Word) -> bool {
     }
 }
 
-/// The text of a string, as the file has it with its quotes: escapes are read, and what is left out of it is not there. Empty for what is no string.
+/// The text of a string, as the file has it with its quotes: escapes are read, and what is left out of it is not there.
+/// Empty for what is not a string.
 fn text_of(alloc: Global, string: &str) -> Result<String, AllocError> {
     if !starts_string(string) {
         return Ok(String::new(alloc));
@@ -151,7 +152,8 @@ fn push_tasks(
     Ok(())
 }
 
-/// The book of a machine file that was accepted, by its bytes and its listing: each command is where `execcheck` places it.
+/// The book of a machine file that was accepted, by its bytes and its listing: each command is where `execcheck` places
+/// it.
 ///
 /// # Errors
 ///

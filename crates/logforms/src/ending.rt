@@ -17,7 +17,8 @@ fn stops_by(alloc: Global, run: &Run, number: u64) -> Result<bool, AllocError> {
     Ok(stops_over(&mut machine, file, &events, &mut public))
 }
 
-/// The first step, tick or request, from `low` to `high`, by which an alert has stopped a run; it has by `high`, and not before `low`.
+/// The first step, tick or request, from `low` to `high`, by which an alert has stopped a run; it has by `high`, and
+/// not before `low`.
 fn first_stop(alloc: Global, run: &Run, low: u64, high: u64) -> Result<u64, AllocError>
     ensures { IfOk result (λ step. step ≤ high) }
 {
@@ -34,8 +35,8 @@ fn first_stop(alloc: Global, run: &Run, low: u64, high: u64) -> Result<u64, Allo
     Ok(high)
 }
 
-/// The step, tick or request of a run whose alert ends it, if there is one before that of a number. It is found by runs of half the length, and half of
-/// that; a run that goes on is run once.
+/// The step, tick or request of a run whose alert ends it, if there is one before that of a number. It is found by runs
+/// of half the length, and half of that; a run that goes on is run once.
 ///
 /// # Errors
 ///

@@ -6,7 +6,8 @@ ghost use Rattle.execlog.specs.Log.{turns};
 use script::Event;
 use std::alloc::{AllocError, Global};
 
-/// The most steps, ticks and requests of a run: an event text has a million steps, a million ticks and 100,000 events at most.
+/// The most steps, ticks and requests of a run: an event text has a million steps, a million ticks and 100,000 events
+/// at most.
 const MOST_TURNS: u64 = 4_000_000;
 
 /// The most ticks of a run.

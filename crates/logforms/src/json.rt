@@ -1,4 +1,5 @@
-//! The log as JSON: one object a line, for each line of the trace, and for each word that prints nothing, if that is asked for.
+//! The log as JSON: one object a line, for each line of the trace, and for each word that prints nothing, if that is
+//! asked for.
 
 use crate::events::event_of;
 use crate::rows::{Row, Written, rows_shown};

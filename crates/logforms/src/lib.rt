@@ -1,4 +1,5 @@
-//! What a log and a page of a machine are written from: the book of a machine file, rows with plain words, JSON, and what a machine shows.
+//! What a log and a page of a machine are written from: the book of a machine file, rows with plain words, JSON, and
+//! what a machine shows.
 #![tactic(auto)]
 
 mod bookmaking;

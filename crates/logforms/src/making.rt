@@ -38,7 +38,8 @@ pub fn run_events<F: Form, W: Sink>(
     write_log(alloc, machine, events, form, sink)
 }
 
-/// Runs a machine that was not started yet, that of the file, over events, and answers whether an alert has stopped it. `public` hears the run.
+/// Runs a machine that was not started yet, that of the file, over events, and answers whether an alert has stopped it.
+/// `public` hears the run.
 ///
 /// Source: project rule.
 pub fn stops_over(

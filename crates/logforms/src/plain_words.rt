@@ -1,5 +1,5 @@
-//! The words that print nothing in a trace, as lines: `NAME x = Add $00000001 $00000002 -> $00000003`, and of a jump the line of the file to which it
-//! goes.
+//! The words that print nothing in a trace, as lines: `NAME x = Add $00000001 $00000002 -> $00000003`, and of a jump
+//! the line of the file to which it goes.
 
 use crate::page::Page;
 use crate::replay::Replay;

@@ -1,4 +1,5 @@
-//! The public ports of a machine, kept as they are added and removed: the machine answers of a name only the first port that has it.
+//! The public ports of a machine, kept as they are added and removed: the machine answers of a name only the first port
+//! that has it.
 
 ghost use Rattle.std.specs.Prelude.{◌≡◌, [], false};
 

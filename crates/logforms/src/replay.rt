@@ -1,5 +1,5 @@
-//! What variables hold while the commands of an entry are gone through once more, so that the words that print nothing can be shown with their
-//! values.
+//! What variables hold while the commands of an entry are gone through once more, so that the words that print nothing
+//! can be shown with their values.
 
 use execlog::Before;
 use script::{Argument, Command, PlainWord, Variable};

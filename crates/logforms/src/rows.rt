@@ -1,4 +1,5 @@
-//! The rows of an entry, one after another: the lines that it printed, and among them, if that is asked for, the words that print nothing.
+//! The rows of an entry, one after another: the lines that it printed, and among them, if that is asked for, the words
+//! that print nothing.
 
 use crate::plain_words::{Names, line_of};
 use crate::replay::Replay;
@@ -110,7 +111,8 @@ impl<'a> Walk<'a> {
         )
     }
 
-    /// Adds the rows of the commands of an interrupt's body that print nothing, from a place up to the first that prints.
+    /// Adds the rows of the commands of an interrupt's body that print nothing, from a place up to the first that
+    /// prints.
     fn push_silent_run(&mut self, number: usize, from: usize) -> Result<(), AllocError> {
         let written = self.written;
         let (Some(body), Some(names)) = (

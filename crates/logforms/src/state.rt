@@ -32,8 +32,8 @@ fn push_title(page: &mut Page, path: &str, number: u64, last: u64) {
     page.push_str("\n\n");
 }
 
-/// The page of what a machine of a run shows after the step of a number, of which the last one has the number `last`. `path` names the machine file
-/// in the title, and `public` has heard the run so far.
+/// The page of what a machine of a run shows after the step of a number, of which the last one has the number `last`.
+/// `path` names the machine file in the title, and `public` has heard the run so far.
 ///
 /// # Errors
 ///

@@ -92,7 +92,7 @@ of_option other is = absurd is
 pub words_by_memory : (refusal : Refusal) → refusal ≡ Command failure.NoMemory → IsOfWords refusal
 words_by_memory refusal is = rw is tt
 
--- ---- what is no fault of a text
+-- ---- what is not a fault of a text
 
 no_text_of_log : (fault : LogFault) → IsNoText (of_log fault)
 no_text_of_log log.Memory = tt

@@ -158,8 +158,8 @@ impl fmt::Display for Failure<'_> {
     }
 }
 
-/// Says on standard error why what is asked for is not shown, and answers the status that the command ends with. A write that fails there
-/// changes nothing.
+/// Says on standard error why what is asked for is not shown, and answers the status that the command ends with. A
+/// write that fails there changes nothing.
 ///
 /// Source: project rule.
 pub fn report<E: Write>(failure: &Failure<'_>, err: &mut E) -> u8

@@ -1,5 +1,5 @@
-//! The command `execlog`: a run with the number of each step, its time, and the line and the text of its command; its picture; or what a machine
-//! shows after some steps.
+//! The command `execlog`: a run with the number of each step, its time, and the line and the text of its command; its
+//! picture; or what a machine shows after some steps.
 #![tactic(auto)]
 
 mod choice;

@@ -54,14 +54,14 @@ fn draw<W: Write>(
     }
 }
 
-/// Writes a picture of the part of a run that the options choose, with the name of the machine file as its title: an SVG document for the view
-/// `Svg`, and one in the Trace Event Format for any other. `end` is the number of the last step of the run. Answers whether an alert has stopped the
-/// machine by the end of the part.
+/// Writes a picture of the part of a run that the options choose, with the name of the machine file as its title: an
+/// SVG document for the view `Svg`, and one in the Trace Event Format for any other. `end` is the number of the last
+/// step of the run. Answers whether an alert has stopped the machine by the end of the part.
 ///
 /// # Errors
 ///
-/// `NoMemory` if memory is refused, `Absent` if the run has no step of a number, `Picture` if the part cannot be drawn, and `WriteFailed` if the
-/// writer does not take all.
+/// `NoMemory` if memory is refused, `Absent` if the run has no step of a number, `Picture` if the part cannot be drawn,
+/// and `WriteFailed` if the writer does not take all.
 ///
 /// Source: project rule.
 #[tactic(auto, using(crate::proofs::FailLemmas::picture_by_part, crate::proofs::FailLemmas::picture_by_fault, crate::proofs::FailLemmas::picture_by_memory))]

@@ -197,13 +197,13 @@ fn write_part<'a, W: Write>(
     }
 }
 
-/// Writes what is asked for of a run, and answers the status: 0 if all was shown, and 3 if an alert has stopped the machine by then. `paths` names
-/// the texts in sentences and titles. Options that the view does not take are ignored.
+/// Writes what is asked for of a run, and answers the status: 0 if all was shown, and 3 if an alert has stopped the
+/// machine by then. `paths` names the texts in sentences and titles. Options that the view does not take are ignored.
 ///
 /// # Errors
 ///
-/// `NoMemory` if memory is refused, `Absent` if the run does not have what is asked for, `Picture` if the part cannot be drawn, and `WriteFailed`
-/// if the writer does not take all.
+/// `NoMemory` if memory is refused, `Absent` if the run does not have what is asked for, `Picture` if the part cannot
+/// be drawn, and `WriteFailed` if the writer does not take all.
 ///
 /// Source: project rule.
 #[tactic(auto, using(crate::proofs::FailLemmas::picture_no_text, crate::proofs::FailLemmas::writing_no_text))]
@@ -318,8 +318,9 @@ fn end_asked<T: Texts, W: Write, E: Write>(
     }
 }
 
-/// Does what the words of a command line ask for, over any texts, and answers the status: 0 if all was shown and after the help, 1 if a text is
-/// refused, 2 if the command line is, 3 if an alert has stopped the machine, and 4 if memory, reading or writing failed.
+/// Does what the words of a command line ask for, over any texts, and answers the status: 0 if all was shown and after
+/// the help, 1 if a text is refused, 2 if the command line is, 3 if an alert has stopped the machine, and 4 if memory,
+/// reading or writing failed.
 ///
 /// Source: project rule.
 pub fn run_on_texts<T: Texts, W: Write, E: Write>(
@@ -360,8 +361,8 @@ fn run_buffered<R: Env + Files + AllocGlobal, W: Write + Drop, E: Write>(
     Ok(status)
 }
 
-/// Runs the command on the process's arguments, and answers the status with which it ends. Arguments that are no text are refused as a
-/// command line is.
+/// Runs the command on the process's arguments, and answers the status with which it ends. Arguments that are not text
+/// are refused as a command line is.
 ///
 /// Source: project rule.
 pub fn run_on_arguments<R: Env + Files + AllocGlobal, W: Write + Drop, E: Write>(

@@ -9,7 +9,8 @@ use logforms::{PublicPorts, Run, page_of, stops_over};
 use script::Event;
 use std::alloc::Global;
 
-/// The page of what a machine shows after the step of a number, which is the last of these events, and whether an alert has stopped it.
+/// The page of what a machine shows after the step of a number, which is the last of these events, and whether an alert
+/// has stopped it.
 ///
 /// # Errors
 ///

@@ -9,7 +9,7 @@ use Rattle.memlist.proofs.{Answered.nat_eq-other, Headers.IsAligned, Headers.IsG
 
 -- Sound regions
 
-pub record IsSound (total : ℕ) (regions : List Region) : Type 0 where
+pub record IsSoundMemory (total : ℕ) (regions : List Region) : Type 0 where
   pub aligned : list_all is_aligned regions ≡ true
   pub small : are_small total regions ≡ true
   pub apart : are_apart regions ≡ true
@@ -24,7 +24,7 @@ no_fault true true false e = cc
 no_fault true false apart e = cc
 no_fault false small apart e = cc
 
-pub sound_regions : (total : ℕ) (regions : List Region) → regions_fault total regions ≡ None → IsSound total regions
+pub sound_regions : (total : ℕ) (regions : List Region) → regions_fault total regions ≡ None → IsSoundMemory total regions
 unfolding regions_fault first_fault
 sound_regions total regions e =
     let parts = no_fault (list_all is_aligned regions) (are_small total regions) (are_apart regions) e in

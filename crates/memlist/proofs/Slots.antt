@@ -32,7 +32,7 @@ found_none a (block ∷ rest) all =
 freed_at : (a : ℕ) (v : ℕ × ℕ) (rest : Blocks) → AllFrom (a + 1) rest → freed a ((a, v) ∷ rest) ≡ rest
 freed_at a v rest all = ap (λ b. cond (not b) ((a, v) ∷ freed a rest) (freed a rest)) (nat_eq-same a) ∙ freed_none a rest all
 
--- no block is at an address that is no whole unit
+-- no block is at an address that is not a whole unit
 pub found_between : (a from : ℕ) (blocks : Blocks) (to : ℕ) → a % 8 ≢ 0 → IsLaid from blocks to → block_at a blocks ≡ None
 found_between a from [] to odd laid = refl
 found_between a from (block ∷ rest) to odd laid =

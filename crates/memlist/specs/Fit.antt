@@ -28,7 +28,7 @@ abbrev pub front : ℕ → Blocks → Region → Option ℕ
 front size blocks region = option_map (λ (gap : Gap). gap.address) (lowest_gap size (gaps region blocks))
 
 -- Where a block of that many bytes is placed. Of the suitable regions that have a gap of at least the rounded size, the
--- earliest among those of greatest priority is taken, and in it the front of the lowest such gap. None if there is no
+-- earliest among those of highest priority is taken, and in it the front of the lowest such gap. None if there is no
 -- such region, and for size 0 (project rule). (autodoc AllocMem)
 unfoldable pub fit : List Region → Blocks → ℕ → ℕ → Option ℕ
 fit regions blocks size reqs =

@@ -50,8 +50,8 @@ pub fn write(words: &mut Vec<u32>, place: usize, chunk: Chunk)
     words[place + 1] = chunk.size;
 }
 
-/// Cuts the first bytes off a gap, so that what is left is a chunk of its own before the next one. The answer is where it
-/// begins, or where the next one does if nothing is left.
+/// Cuts the first bytes off a gap, so that what is left is a chunk of its own before the next one. The answer is where
+/// it begins, or where the next one does if nothing is left.
 ///
 /// Source: RKM Libraries, Exec Memory Allocation: MemChunk.
 pub fn cut(words: &mut Vec<u32>, base: u32, gap: Gap, size: u32, next: u32) -> u32

@@ -1,5 +1,5 @@
-//! The chunk below a block, found in the table of blocks: from the block downwards, the first block that does not reach up to the
-//! one above it has a gap after it.
+//! The chunk below a block, found in the table of blocks: from the block downwards, the first block that does not reach
+//! up to the one above it has a gap after it.
 ghost use Rattle.std.specs.Prelude.{◌≡◌, ◌+◌, ◌*◌, ◌≤◌, ℕ, List, [], length, take};
 ghost use Rattle.memlist.specs.{declared.slot.Slot.Slot, Chain.IsLastBelow, Descent.IsLook, Descent.last_left};
 
@@ -37,8 +37,8 @@ fn at_base(base: u32, top: u32) -> u32
     if base < top { base } else { 0 }
 }
 
-/// The chunk before a block that has that many units below it, or 0 if there is none. The chain is walked up from its first
-/// chunk and the units down from the block, in turn: whichever comes to an end first says where it is.
+/// The chunk before a block that has that many units below it, or 0 if there is none. The chain is walked up from its
+/// first chunk and the units down from the block, in turn: whichever comes to an end first says where it is.
 ///
 /// Source: autodoc exec.library/Deallocate; how the chunk is looked for is a project rule.
 pub fn chunk_below(base: u32, slots: &[Slot], space: &FreeSpace, units: usize, address: u32) -> u32

@@ -1,7 +1,7 @@
 //! One region with its blocks and its gaps, as Exec keeps it after a MemHeader.
 //!
-//! The blocks are in a table with a slot for each unit of 8 bytes, so that a look-up is an index; the gaps are chunks in
-//! the region's own words.
+//! The blocks are in a table with a slot for each unit of 8 bytes, so that a look-up is an index; the gaps are chunks
+//! in the region's own words.
 ghost use Rattle.std.specs.Prelude.{◌≡◌, ◌-◌, ◌*◌, ◌/◌, ◌%◌, ◌<◌, ◌≤◌, ◌++◌, drop, replicate, [], IsTrue, IsSome, IfOk, IfSome, int_lt, length, map, sum_by};
 ghost use Rattle.memlist.specs.{Regions.is_aligned, Regions.is_in_reach, Blocks.block_at, Blocks.freed, Blocks.is_in, Blocks.with_block, Fit.greatest, Fit.is_suitable, Fit.lowest_gap, Chain.IsLinked, Chain.IsSpot, Chain.first_or, Areas.Area, Areas.IsLaidArea, Areas.area_gaps, Areas.empty_slot, Choice.IsLowest, Readers.gap_from, declared.gap.Gap.Gap};
 
@@ -147,8 +147,8 @@ impl MemHeader {
         self.space.gap_from(address)
     }
 
-    /// Puts a block at the front of the lowest gap that has room for it, which is the one after the chunk at an address, or the
-    /// first if that is 0; and answers the block's address.
+    /// Puts a block at the front of the lowest gap that has room for it, which is the one after the chunk at an
+    /// address, or the first if that is 0; and answers the block's address.
     ///
     /// Source: autodoc exec.library/Allocate.
     pub fn take(&mut self, before: u32, size: u64, tag: u32) -> u32

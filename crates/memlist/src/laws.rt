@@ -14,7 +14,7 @@ pub fn rounds_up()
     ensures least { (n m : ℕ) → n ≤ m → m % MEM_BLOCKSIZE ≡ 0 → round n ≤ m }
 {}
 
-/// The region that is chosen is the earliest among those of greatest priority, and none is chosen of none alone.
+/// The region that is chosen is the earliest among those of highest priority, and none is chosen of none alone.
 ///
 /// Source: RKM Libraries, Exec Memory Allocation: priorities of regions.
 pub fn chosen_is_earliest_of_greatest()

@@ -42,8 +42,8 @@ pub struct Offer {
 }
 
 impl MemList {
-    /// The memory of a machine with these regions, in the order of its file, which may have `total` bytes in all, with nothing
-    /// allocated.
+    /// The memory of a machine with these regions, in the order of its file, which may have `total` bytes in all, with
+    /// nothing allocated.
     ///
     /// The fault is that of `check_regions`; if that has none, OutOfMemory is answered if there is no memory for the
     /// list itself.
@@ -78,9 +78,9 @@ impl MemList {
     /// Allocates a block of a size in bytes, which is rounded up to a multiple of 8, and answers its address.
     ///
     /// Of `reqs` only bits 0 to 2 count: the block lies in a region that has each of them. Among these the region of
-    /// greatest priority that has a large enough gap is taken, the earliest of equals, and in it the front of the lowest
-    /// such gap. None is answered, and nothing changes, if there is no such gap or the size is 0. A `tag` of 0 makes
-    /// a plain block; any other names what owns the block.
+    /// highest priority that has a large enough gap is taken, the earliest of equals, and in it the front of the lowest
+    /// such gap. None is answered, and nothing changes, if there is no such gap or the size is 0. A `tag` of 0 makes a
+    /// plain block; any other names what owns the block.
     ///
     /// Source: autodoc exec.library/AllocMem; size 0 is a project rule.
     pub fn alloc_mem(&mut self, size: u32, reqs: u32, tag: u32) -> Option<u32>
@@ -109,8 +109,8 @@ impl MemList {
         choose(&self.headers, round(size), reqs).is_some()
     }
 
-    /// Frees a plain block: its tag is 0, and the size is not 0 and rounds up to the block's size. For anything else the
-    /// answer is `NotABlock` and nothing changes.
+    /// Frees a plain block: its tag is 0, and the size is not 0 and rounds up to the block's size. For anything else
+    /// the answer is `NotABlock` and nothing changes.
     ///
     /// Source: autodoc exec.library/FreeMem; the refusals are project rule.
     pub fn free_mem(&mut self, address: u32, size: u32) -> Result<(), NotABlock>
@@ -158,8 +158,8 @@ impl MemList {
         }
     }
 
-    /// The lowest gap of a region that begins at an address or above it; none if there is none, and past the last region. The region is
-    /// named by its place in the machine's file.
+    /// The lowest gap of a region that begins at an address or above it; none if there is none, and past the last
+    /// region. The region is named by its place in the machine's file.
     ///
     /// Source: RKM Libraries, Exec Memory Allocation: MemChunk.
     pub fn gap_from(&self, k: usize, address: u32) -> Option<Gap>
@@ -171,10 +171,10 @@ impl MemList {
         }
     }
 
-    /// The words of a region, named by its place in the machine's file: word i represents the region's base plus 4 times i.
-    /// The first two words of each free chunk are the address of the next chunk, or 0 at the end, and its size in bytes.
-    /// Read from `head` on, the chain is exactly the region's gaps, in order of address, and no two of them touch. It takes
-    /// no memory.
+    /// The words of a region, named by its place in the machine's file: word i represents the region's base plus 4
+    /// times i. The first two words of each free chunk are the address of the next chunk, or 0 at the end, and its size
+    /// in bytes. Read from `head` on, the chain is exactly the region's gaps, in order of address, and no two of them
+    /// touch. It takes no memory.
     ///
     /// Source: RKM Libraries, Exec Memory Allocation (MemChunk); the call is a project rule.
     pub fn words(&self, k: usize) -> &[u32]
@@ -184,8 +184,8 @@ impl MemList {
         self.headers[k].words()
     }
 
-    /// Where the first free chunk of a region begins, or 0 if nothing of it is free. The region is named by its place in
-    /// the machine's file. It takes no memory.
+    /// Where the first free chunk of a region begins, or 0 if nothing of it is free. The region is named by its place
+    /// in the machine's file. It takes no memory.
     ///
     /// Source: RKM Libraries, Exec Memory Allocation (MemHeader, mh_First); the call is a project rule.
     pub fn head(&self, k: usize) -> u32
@@ -195,8 +195,9 @@ impl MemList {
         self.headers[k].head()
     }
 
-    /// The bytes that are free in the regions that have each of bits 0 to 2 that is asked for; with bit 17 (MEMF_LARGEST)
-    /// the size of their greatest gap, with bit 19 (MEMF_TOTAL) their installed size. No other bit counts.
+    /// The bytes that are free in the regions that have each of bits 0 to 2 that is asked for; with bit 17
+    /// (MEMF_LARGEST) the size of their greatest gap, with bit 19 (MEMF_TOTAL) their installed size. No other bit
+    /// counts.
     ///
     /// Source: autodoc exec.library/AvailMem.
     pub fn avail(&self, reqs: u32) -> u32
@@ -264,8 +265,8 @@ fn home(headers: &[MemHeader], address: u32) -> Option<usize>
     None
 }
 
-/// The chosen region among those with a large enough gap, and its lowest such gap. Headers are looked at from the last to
-/// the first, so that the earliest of equals is kept.
+/// The chosen region among those with a large enough gap, and its lowest such gap. Headers are looked at from the last
+/// to the first, so that the earliest of equals is kept.
 fn choose(headers: &[MemHeader], size: u64, reqs: u32) -> Option<Offer>
     ensures { IsOffer headers.now size reqs headers.now result }
 {

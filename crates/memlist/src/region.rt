@@ -56,8 +56,8 @@ impl MemFault {
     }
 }
 
-/// Checks the regions of a machine, which may have `total` bytes in all: the first of Misaligned, TooLarge and Overlap that
-/// holds of them is the fault. No regions at all are accepted, and so are regions that touch.
+/// Checks the regions of a machine, which may have `total` bytes in all: the first of Misaligned, TooLarge and Overlap
+/// that holds of them is the fault. No regions at all are accepted, and so are regions that touch.
 ///
 /// Source: project rule; the attributes and priorities are those of RKM Libraries, Exec Memory Allocation.
 #[tactic(auto, unfolding(crate::specs::Regions::regions_fault))]

@@ -1,5 +1,5 @@
-//! What memory may be asked for: the attributes of a region, and what AllocMem and AvailMem take beside them, as bits of a word
-//! (exec/memory.h).
+//! What memory may be asked for: the attributes of a region, and what AllocMem and AvailMem take beside them, as bits
+//! of a word (exec/memory.h).
 
 /// Memory that each task and each interrupt may use.
 pub const MEMF_PUBLIC: u32 = 1;

@@ -8,7 +8,8 @@ use crate::region::{MEM_BLOCKSIZE, REACH};
 use std::alloc::{AllocError, Global};
 use std::marker::Model;
 
-/// The words of a region, where the first chunk among them begins, or 0 if nothing is free, and how many bytes the chunks have, as `mh_Free` does.
+/// The words of a region, where the first chunk among them begins, or 0 if nothing is free, and how many bytes the
+/// chunks have, as `mh_Free` does.
 #[derive(Drop)]
 pub struct FreeSpace {
     base: u32,
@@ -165,8 +166,8 @@ impl FreeSpace {
         }
     }
 
-    /// Takes that many bytes off the front of the lowest gap that has them, which is the one after the chunk at an address, and
-    /// answers where they begin.
+    /// Takes that many bytes off the front of the lowest gap that has them, which is the one after the chunk at an
+    /// address, and answers where they begin.
     ///
     /// Source: autodoc exec.library/Allocate.
     pub fn take(&mut self, before: u32, size: u32) -> u32
@@ -196,8 +197,8 @@ impl FreeSpace {
         u64::from(before) + u64::from(chunk.size) == u64::from(address)
     }
 
-    /// The chunk that a block of that many bytes becomes with the gap that begins at its end, if one does, if the chunk before
-    /// it begins at an address.
+    /// The chunk that a block of that many bytes becomes with the gap that begins at its end, if one does, if the chunk
+    /// before it begins at an address.
     fn upper(&self, before: u32, end: u32, size: u32) -> Chunk
         requires walk { IsWalked self.now.gaps before }
         requires high { end ≤ self.now.end }
@@ -223,7 +224,8 @@ impl FreeSpace {
         }
     }
 
-    /// Frees a block, which joins the gaps that touch it. The chunk before it begins at `before`, which is 0 if there is none.
+    /// Frees a block, which joins the gaps that touch it. The chunk before it begins at `before`, which is 0 if there
+    /// is none.
     ///
     /// Source: autodoc exec.library/Deallocate.
     pub fn join(&mut self, before: u32, address: u32, size: u32)

@@ -2,9 +2,9 @@
 -- is freed leaves nothing after.
 use Rattle.std.proofs.Common.{◌≡◌, ◌≢◌, ℕ, zero, suc, ◌<◌, ◌≤◌, true, false, cond, not, eqb, List, [], ◌∷◌, ◌++◌, length, refl, sym, ◌∙◌, ap, subst, arith, inl, inr, Option, Some, None, is_some, slice_set, IsTrue, drop, replicate, length-append, ◌⊎◌, ◌||◌, Bool, nat_lt, unwrap_or, IsSome, eq-eqb, ne_eqb, lt-ltb, length-set, length-drop}
 use Rattle.std.proofs.lemmas.{Bool.cond-true, Bool.cond-false, Bool.cases_eq, Bool.cases_lt, List.length-replicate}
-use Rattle.execlist.specs.{Order.first, Order.without, Lists.sequence, Lists.home, Lists.is_at, Lists.times, Pool.slot, Pool.Pooled, Pool.free_below}
+use Rattle.execlist.specs.{Order.first, Order.without_item, Lists.sequence, Lists.home, Lists.is_at, Lists.times, Pool.slot, Pool.Pooled, Pool.free_below}
 use Rattle.msgport.specs.declared.fault.PortFault.TheVariants.{Unknown, Link}
-use Rattle.msgport.specs.Ports.{MessagePorts, IsHeld, is_port, is_message, is_queued, is_linked, loose_fault, reply_fault, messages_of, appended, port_freed, message_freed, no_ports}
+use Rattle.msgport.specs.Ports.{MessagePorts, KeepsPorts, is_port, is_message, is_queued, is_linked, linked_fault, reply_fault, messages_of, appended, port_freed, message_freed, no_ports}
 use Rattle.msgport.specs.{Port.Port, declared.message.Message.Message}
 use Rattle.execlist.proofs.{Pools.item_of, Pools.slot_known, Pools.slot_other, Pools.slot_same, Pools.slot_new, LinkLemmas.none-there}
 
@@ -68,10 +68,10 @@ none_or None never = refl
 none_or (Some p) never = absurd (never p refl)
 
 -- what is not in a sequence leaves it as it is
-pub without_absent : (n : ℕ) (xs : List ℕ) → nat_lt 0 (times n xs) ≡ false → without n xs ≡ xs
+pub without_absent : (n : ℕ) (xs : List ℕ) → nat_lt 0 (times n xs) ≡ false → without_item n xs ≡ xs
 without_absent n [] none = refl
 without_absent n (x ∷ xs) none = by_case (eqb x n) none (without_absent n xs) where
-  by_case : (b : Bool) → nat_lt 0 (cond b (suc (times n xs)) (times n xs)) ≡ false → (nat_lt 0 (times n xs) ≡ false → without n xs ≡ xs) → cond (not b) (x ∷ without n xs) (without n xs) ≡ x ∷ xs
+  by_case : (b : Bool) → nat_lt 0 (cond b (suc (times n xs)) (times n xs)) ≡ false → (nat_lt 0 (times n xs) ≡ false → without_item n xs ≡ xs) → cond (not b) (x ∷ without_item n xs) (without_item n xs) ≡ x ∷ xs
   by_case true z rest = absurd (let bad : true ≡ false = sym (lt-ltb 0 (suc (times n xs)) (omega arith)) ∙ z in cc)
   by_case false z rest = ap (λ l. x ∷ l) (rest z)
 
@@ -86,7 +86,7 @@ no_home None none = refl
 no_home (Some h) none = absurd cc
 
 -- a message that may be put anywhere is in no port and not held
-pub loose_of : (m : ℕ) (s : MessagePorts) → loose_fault m s ≡ None → IsTrue (not (is_linked m s))
+pub loose_of : (m : ℕ) (s : MessagePorts) → linked_fault m s ≡ None → IsTrue (not (is_linked m s))
 loose_of m s none = by_case (is_message m s) (is_linked m s) none where
   by_case : (a b : Bool) → cond (not a) (Some Unknown) (cond b (Some Link) None) ≡ None → IsTrue (not b)
   by_case false b e = absurd cc
@@ -111,9 +111,9 @@ pub not_in : (all : List (List ℕ)) (n : ℕ) (o : Option ℕ) → length all �
 not_in all n o one stands none = not_listed all n o one stands (ap not none)
 
 -- what is linked stays linked to what lives
-module _ {lists : ℕ} {listings : List (Option ℕ)} {stores : ℕ} {holdings : List (Option ℕ)} {s : MessagePorts} (held : IsHeld lists listings stores holdings s) where
+module _ {lists : ℕ} {listings : List (Option ℕ)} {stores : ℕ} {holdings : List (Option ℕ)} {s : MessagePorts} (held : KeepsPorts lists listings stores holdings s) where
   -- if a port is freed that has no message and is in no list
-  pub freed_held : (p : ℕ) → ((m : ℕ) → home s.places m ≡ Some p → ⊥) → home listings p ≡ None → IsHeld lists listings stores holdings (port_freed p s)
+  pub freed_held : (p : ℕ) → ((m : ℕ) → home s.places m ≡ Some p → ⊥) → home listings p ≡ None → KeepsPorts lists listings stores holdings (port_freed p s)
   freed_held p nobody unlisted = record {
     one_list = held.one_list;
     one_store = held.one_store;
@@ -131,7 +131,7 @@ module _ {lists : ℕ} {listings : List (Option ℕ)} {stores : ℕ} {holdings :
     lives q other there = ap is_some (slot_other s.ports.slots p q None other) ∙ there
 
   -- if a message is freed that is in no port and not held
-  pub unlinked_held : (m : ℕ) → home s.places m ≡ None → home holdings m ≡ None → IsHeld lists listings stores holdings (message_freed m s)
+  pub unlinked_held : (m : ℕ) → home s.places m ≡ None → home holdings m ≡ None → KeepsPorts lists listings stores holdings (message_freed m s)
   unlinked_held m loose unheld = record {
     one_list = held.one_list;
     one_store = held.one_store;
@@ -149,7 +149,7 @@ module _ {lists : ℕ} {listings : List (Option ℕ)} {stores : ℕ} {holdings :
     lives n other there = ap is_some (slot_other s.messages.slots m n None other) ∙ there
 
   -- if a message is put at a port
-  pub appended_held : (p m : ℕ) → IsTrue (is_port p s) → IsTrue (is_message m s) → home holdings m ≡ None → IsHeld lists listings stores holdings (appended p m s)
+  pub appended_held : (p m : ℕ) → IsTrue (is_port p s) → IsTrue (is_message m s) → home holdings m ≡ None → KeepsPorts lists listings stores holdings (appended p m s)
   appended_held p m port message unheld = record {
     one_list = held.one_list;
     one_store = held.one_store;
@@ -175,7 +175,7 @@ module _ {lists : ℕ} {listings : List (Option ℕ)} {stores : ℕ} {holdings :
     port_at n q (inr other) e = held.live_port n q (sym (slot_other s.places m n (Some p) other) ∙ e)
 
   -- if a message is taken out of its port, and what else is in the ports stays
-  pub taken_held : (m : ℕ) (queues : List (List ℕ)) → length queues ≡ length s.queues → IsHeld lists listings stores holdings (record s { queues = queues; places = slice_set s.places m None })
+  pub taken_held : (m : ℕ) (queues : List (List ℕ)) → length queues ≡ length s.queues → KeepsPorts lists listings stores holdings (record s { queues = queues; places = slice_set s.places m None })
   taken_held m queues each = record {
     one_list = held.one_list;
     one_store = held.one_store;
@@ -199,7 +199,7 @@ nowhere count n h there = ap is_some (sym (slot_new ℕ count n) ∙ there)
 
 -- No port and no link, and any messages: what always holds of ports holds when all are freed.
 pub held_when_freed : (ports messages : ℕ) (all : Pooled Message) → length all.slots ≡ messages
-    → IsHeld 1 (replicate ports None) 1 (replicate messages None) (record (no_ports ports messages) { messages = all })
+    → KeepsPorts 1 (replicate ports None) 1 (replicate messages None) (record (no_ports ports messages) { messages = all })
 held_when_freed ports messages all many = record {
   one_list = refl;
   one_store = refl;
@@ -214,7 +214,7 @@ held_when_freed ports messages all many = record {
   live_listed = λ p h there. (let bad = nowhere ports p h there in cc);
 }
 
-pub held_at_first : (ports messages : ℕ) → IsHeld 1 (replicate ports None) 1 (replicate messages None) (no_ports ports messages)
+pub held_at_first : (ports messages : ℕ) → KeepsPorts 1 (replicate ports None) 1 (replicate messages None) (no_ports ports messages)
 held_at_first ports messages = held_when_freed ports messages (no_ports ports messages).messages (length-replicate {A = Option Message} messages None)
 
 -- as many numbers as before

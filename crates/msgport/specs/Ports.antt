@@ -1,7 +1,7 @@
 -- What calls on ports see: the ports and the messages by number, the messages of each port, those that are held, and the public ports
 -- (RKM Libraries, Exec Messages and Ports).
 use Rattle.std.specs.Prelude.{◌≡◌, ℕ, nat_lt, ℤ, Bool, not, ◌||◌, is_some, IsTrue, if◌then◌else◌, List, [], ◌∷◌, ◌++◌, length, drop, replicate, slice_set, Option, Some, None, unwrap_or}
-use Rattle.execlist.specs.{Order.enqueue, Order.first, Order.without, Lists.KeyData, Lists.blank, Lists.sequence, Lists.home, Lists.is_at, Lists.pri_of, Lists.times, Pool.Pooled, Pool.all_free, Pool.free_below, Pool.given, Pool.released, Pool.slot, Pool.written}
+use Rattle.execlist.specs.{Order.enqueue, Order.first, Order.without_item, Lists.KeyData, Lists.blank, Lists.sequence, Lists.home, Lists.is_at, Lists.pri_of, Lists.times, Pool.Pooled, Pool.all_free, Pool.free_below, Pool.given, Pool.released, Pool.slot, Pool.written}
 use Rattle.msgport.specs.declared.fault.PortFault.TheVariants.{NotEmpty, Link, Unknown}
 use Rattle.msgport.specs.{declared.fault.PortFault.PortFault, declared.message.Message.Message, Port.Port, Port.new_port}
 
@@ -89,12 +89,12 @@ is_public p s = nat_lt 0 (times p s.public)
 -- ---- refusals
 
 -- message m is to be there, in no port and not held
-abbrev pub loose_fault : ℕ → MessagePorts → Option PortFault
-loose_fault m s = if not (is_message m s) then Some Unknown else (if is_linked m s then Some Link else None)
+abbrev pub linked_fault : ℕ → MessagePorts → Option PortFault
+linked_fault m s = if not (is_message m s) then Some Unknown else (if is_linked m s then Some Link else None)
 
 -- port p is to be there, and message m too, in no port and not held
 abbrev pub post_fault : ℕ → ℕ → MessagePorts → Option PortFault
-post_fault p m s = if not (is_port p s) then Some Unknown else loose_fault m s
+post_fault p m s = if not (is_port p s) then Some Unknown else linked_fault m s
 
 -- port p is to be there, and message m too, and in no port
 abbrev pub reply_fault : ℕ → ℕ → MessagePorts → Option PortFault
@@ -176,12 +176,12 @@ held m s = record s { holding = s.holding ++ m ∷ [] }
 
 -- message m is not held any more
 abbrev pub let_go : ℕ → MessagePorts → MessagePorts
-let_go m s = record s { holding = without m s.holding }
+let_go m s = record s { holding = without_item m s.holding }
 
 -- message m is in no port any more
 abbrev pub left_port : ℕ → Option ℕ → MessagePorts → MessagePorts
 left_port m None s = s
-left_port m (Some p) s = record s { queues = slice_set s.queues p (without m (messages_of p s)); places = slice_set s.places m None }
+left_port m (Some p) s = record s { queues = slice_set s.queues p (without_item m (messages_of p s)); places = slice_set s.places m None }
 
 abbrev pub taken_out : ℕ → MessagePorts → MessagePorts
 taken_out m s = left_port m (home s.places m) s
@@ -200,13 +200,13 @@ made_public p name pri s = record s { keys = keyed p name pri s.keys; public = e
 
 -- port p is not public any more (autodoc exec.library/RemPort)
 abbrev pub made_private : ℕ → MessagePorts → MessagePorts
-made_private p s = record s { public = without p s.public }
+made_private p s = record s { public = without_item p s.public }
 
 -- ---- what always holds
 
 -- What the code keeps: one list of public ports and one of held messages, and what is linked lives. The listings say which port is in the
 -- first, the holdings which message is in the second.
-pub record IsHeld (lists : ℕ) (listings : List (Option ℕ)) (stores : ℕ) (holdings : List (Option ℕ)) (s : MessagePorts) : Type 0 where
+pub record KeepsPorts (lists : ℕ) (listings : List (Option ℕ)) (stores : ℕ) (holdings : List (Option ℕ)) (s : MessagePorts) : Type 0 where
   pub one_list : lists ≡ 1
   pub one_store : stores ≡ 1
   pub each_queue : length s.queues ≡ length s.ports.slots
@@ -221,7 +221,7 @@ pub record IsHeld (lists : ℕ) (listings : List (Option ℕ)) (stores : ℕ) (h
 
 -- A message that is queued is once in the port that has it and in no other, one that is held is once among those, and in no port, and
 -- a public port is once among the public ones. What is linked lives.
-pub record IsSound (s : MessagePorts) : Type 0 where
+pub record IsSoundPorts (s : MessagePorts) : Type 0 where
   pub stands : (p m : ℕ) → times m (messages_of p s) ≡ (if is_at (home s.places m) p then 1 else 0)
   pub stands_held : (m : ℕ) → times m s.holding ≡ (if is_held m s then 1 else 0)
   pub apart : (m : ℕ) → IsTrue (is_held m s) → home s.places m ≡ None

@@ -1,7 +1,7 @@
 //! The ports and the messages of a machine, by number.
 ghost use Rattle.std.specs.Prelude.{◌≡◌, ℕ, ◌<◌, ◌≤◌, [], length, replicate, false, not, find, is_ok, Some, None, IfOk, IfSome, IsSome, IsTrue, ok_or};
 ghost use Rattle.execlist.specs.{Order.first, Lists.blank, Lists.home, Lists.is_named, Pool.IsStocked, Pool.all_free, Pool.next_number, Answers.fault_or, Answers.kept_or};
-ghost use Rattle.msgport.specs.Ports.{IsSound, is_port, is_message, is_queued, is_held, is_linked, is_public, has_messages, port_at, message_at, messages_of, loose_fault, post_fault, reply_fault, queued_fault, private_fault, public_fault, delete_fault, no_ports, all_freed, port_made, message_made, port_freed, message_freed, with_port, with_message, typed, appended, posted, held, let_go, taken_out, taken_off, made_public, made_private, nt_message, nt_freemsg, nt_replymsg};
+ghost use Rattle.msgport.specs.Ports.{IsSoundPorts, is_port, is_message, is_queued, is_held, is_linked, is_public, has_messages, port_at, message_at, messages_of, linked_fault, post_fault, reply_fault, queued_fault, private_fault, public_fault, delete_fault, no_ports, all_freed, port_made, message_made, port_freed, message_freed, with_port, with_message, typed, appended, posted, held, let_go, taken_out, taken_off, made_public, made_private, nt_message, nt_freemsg, nt_replymsg};
 ghost use Rattle.msgport.specs.Port.{arrival_action, wait_bit};
 
 mod readers;
@@ -44,7 +44,7 @@ pub struct Ports<S: ListSpace> {
 impl<S: ListSpace> Model for Ports<S> {
     ghost use Rattle.std.specs.Prelude.{length};
     ghost use Rattle.execlist.specs.Lists.{sequence};
-    ghost use Rattle.msgport.specs.Ports.{IsHeld, MessagePorts};
+    ghost use Rattle.msgport.specs.Ports.{KeepsPorts, MessagePorts};
 
     ghost Value = { MessagePorts };
 
@@ -58,7 +58,7 @@ impl<S: ListSpace> Model for Ports<S> {
       keys = S.keys q.public;
     } };
 
-    ghost invariant = { λ q. IsHeld (length (S.sequences q.public)) (S.homes q.public) (length (S.sequences q.held)) (S.homes q.held) (record {
+    ghost invariant = { λ q. KeepsPorts (length (S.sequences q.public)) (S.homes q.public) (length (S.sequences q.held)) (S.homes q.held) (record {
       ports = q.ports;
       messages = q.messages;
       queues = S.sequences q.queues;
@@ -119,7 +119,8 @@ impl<S: ListSpace> Ports<S> {
         })
     }
 
-    /// Frees every port and each message below `messages`, as `new` made them; each message from there on stays, in no port and not held.
+    /// Frees every port and each message below `messages`, as `new` made them; each message from there on stays, in no
+    /// port and not held.
     ///
     /// Source: project rule.
     pub fn reset(&mut self, messages: usize)
@@ -136,8 +137,8 @@ impl<S: ListSpace> Ports<S> {
 
     // ---- making and freeing
 
-    /// Makes a port of a task, with the number of the signal (0 to 31) by which it notifies the task of a message. It has
-    /// the action PA_SIGNAL, no message, and is not public.
+    /// Makes a port of a task, with the number of the signal (0 to 31) by which it notifies the task of a message. It
+    /// has the action PA_SIGNAL, no message, and is not public.
     ///
     /// Answers its number, or PoolFull if every port is in use. Autodoc exec.library/CreateMsgPort.
     pub fn create_port(&mut self, task: TaskId, bit: u32) -> Result<PortId, PortFault>
@@ -159,8 +160,8 @@ impl<S: ListSpace> Ports<S> {
 
     /// Makes a message with a reply port, 0 for none, and a word. It is of type 0 (project rule) and in no port.
     ///
-    /// The reply port is what the caller calls it by; nothing here looks at it. Answers the message's number, or PoolFull
-    /// if every message is in use. Project rule: Exec leaves the making of messages to the program.
+    /// The reply port is what the caller calls it by; nothing here looks at it. Answers the message's number, or
+    /// PoolFull if every message is in use. Project rule: Exec leaves the making of messages to the program.
     pub fn make_msg(&mut self, reply: u32, word: u32) -> Result<MsgId, PortFault>
         ensures answer { result ≡ ok_or (next_number self.old.messages) PortFault.PoolFull }
         ensures next { self.new ≡ message_made reply word self.old }
@@ -223,12 +224,13 @@ impl<S: ListSpace> Ports<S> {
 
     /// Frees a message.
     ///
-    /// It is Unknown if there is no such message, and else Link if a port has it or it is held. Project rule, as `make_msg`.
+    /// It is Unknown if there is no such message, and else Link if a port has it or it is held. Project rule, as
+    /// `make_msg`.
     pub fn free_msg(&mut self, m: MsgId) -> Result<(), PortFault>
-        ensures answer { result ≡ fault_or (loose_fault m self.old) tt }
-        ensures next { self.new ≡ kept_or (loose_fault m self.old) self.old (message_freed m self.old) }
+        ensures answer { result ≡ fault_or (linked_fault m self.old) tt }
+        ensures next { self.new ≡ kept_or (linked_fault m self.old) self.old (message_freed m self.old) }
     {
-        match self.loose_fault(m) {
+        match self.linked_fault(m) {
             Some(fault) => Err(fault),
             None => {
                 self.free_message(m);
@@ -239,10 +241,11 @@ impl<S: ListSpace> Ports<S> {
 
     // ---- putting and taking
 
-    /// Puts a message at a port, after those that it has, as one of type NT_MESSAGE, and answers what is to be done for it.
+    /// Puts a message at a port, after those that it has, as one of type NT_MESSAGE, and answers what is to be done for
+    /// it.
     ///
-    /// It is Unknown if there is no such port or no such message, and else Link if a port has the message already, or it is held.
-    /// Autodoc exec.library/PutMsg.
+    /// It is Unknown if there is no such port or no such message, and else Link if a port has the message already, or
+    /// it is held. Autodoc exec.library/PutMsg.
     pub fn put(&mut self, p: PortId, m: MsgId) -> Result<Action, PortFault>
         ensures answer { result ≡ fault_or (post_fault p m self.old) (arrival_action (port_at p self.old)) }
         ensures next { self.new ≡ kept_or (post_fault p m self.old) self.old (posted nt_message p m self.old) }
@@ -253,8 +256,8 @@ impl<S: ListSpace> Ports<S> {
         }
     }
 
-    /// Puts a message at a port, after those that it has, as one of type NT_REPLYMSG, and answers what is to be done for
-    /// it. It is not held any more. Which port is the reply port of the message is for the caller to say.
+    /// Puts a message at a port, after those that it has, as one of type NT_REPLYMSG, and answers what is to be done
+    /// for it. It is not held any more. Which port is the reply port of the message is for the caller to say.
     ///
     /// It is Unknown if there is no such port or no such message, and else Link if a port has the message already.
     /// Autodoc exec.library/ReplyMsg.
@@ -273,12 +276,13 @@ impl<S: ListSpace> Ports<S> {
 
     /// Gives a message that has no reply port the type NT_FREEMSG.
     ///
-    /// It is Unknown if there is no such message, and else Link if a port has it or it is held. Autodoc exec.library/ReplyMsg.
+    /// It is Unknown if there is no such message, and else Link if a port has it or it is held. Autodoc
+    /// exec.library/ReplyMsg.
     pub fn reply_none(&mut self, m: MsgId) -> Result<(), PortFault>
-        ensures answer { result ≡ fault_or (loose_fault m self.old) tt }
-        ensures next { self.new ≡ kept_or (loose_fault m self.old) self.old (typed nt_freemsg m self.old) }
+        ensures answer { result ≡ fault_or (linked_fault m self.old) tt }
+        ensures next { self.new ≡ kept_or (linked_fault m self.old) self.old (typed nt_freemsg m self.old) }
     {
-        match self.loose_fault(m) {
+        match self.linked_fault(m) {
             Some(fault) => Err(fault),
             None => {
                 self.set_kind(m, NT_FREEMSG);
@@ -310,8 +314,8 @@ impl<S: ListSpace> Ports<S> {
 
     /// Takes a message out of the port that has it, wherever it is there.
     ///
-    /// It is Unknown if there is no such message, and else Link if no port has it. Autodoc exec.library/WaitIO: it takes the reply out of
-    /// its port.
+    /// It is Unknown if there is no such message, and else Link if no port has it. Autodoc exec.library/WaitIO: it
+    /// takes the reply out of its port.
     pub fn take_out(&mut self, m: MsgId) -> Result<(), PortFault>
         ensures answer { result ≡ fault_or (queued_fault m self.old) tt }
         ensures next { self.new ≡ kept_or (queued_fault m self.old) self.old (taken_out m self.old) }
@@ -327,13 +331,13 @@ impl<S: ListSpace> Ports<S> {
 
     /// Holds a message, after those that are held: it is in no port, and only a reply puts it at one.
     ///
-    /// It is Unknown if there is no such message, and else Link if a port has it or it is held. Project rule: a device holds a request that
-    /// is in progress.
+    /// It is Unknown if there is no such message, and else Link if a port has it or it is held. Project rule: a device
+    /// holds a request that is in progress.
     pub fn hold(&mut self, m: MsgId) -> Result<(), PortFault>
-        ensures answer { result ≡ fault_or (loose_fault m self.old) tt }
-        ensures next { self.new ≡ kept_or (loose_fault m self.old) self.old (held m self.old) }
+        ensures answer { result ≡ fault_or (linked_fault m self.old) tt }
+        ensures next { self.new ≡ kept_or (linked_fault m self.old) self.old (held m self.old) }
     {
-        match self.loose_fault(m) {
+        match self.linked_fault(m) {
             Some(fault) => Err(fault),
             None => {
                 self.held.add_tail(HELD, m);
@@ -342,7 +346,8 @@ impl<S: ListSpace> Ports<S> {
         }
     }
 
-    /// A message is held no more; one that is not held stays as it is. Project rule: a device that is done with a request without a reply.
+    /// A message is held no more; one that is not held stays as it is. Project rule: a device that is done with a
+    /// request without a reply.
     pub fn let_go(&mut self, m: MsgId)
         requires { IsTrue (is_message m self.old) }
         ensures gone { is_held m self.new ≡ false }
@@ -423,8 +428,8 @@ impl<S: ListSpace> Ports<S> {
         self.set_port(p, port.with_action(action));
     }
 
-    /// Answers the number of the signal (0 to 31) by which a port with the action PA_SIGNAL notifies a task of messages, or
-    /// none if the port is another task's or has another action. Autodoc exec.library/WaitPort.
+    /// Answers the number of the signal (0 to 31) by which a port with the action PA_SIGNAL notifies a task of
+    /// messages, or none if the port is another task's or has another action. Autodoc exec.library/WaitPort.
     pub fn wait_bit(&self, p: PortId, task: TaskId) -> Option<u32>
         requires { IsTrue (is_port p self.now) }
         ensures value { result ≡ wait_bit task (port_at p self.now) }
@@ -509,7 +514,7 @@ impl<S: ListSpace> Ports<S> {
 
     /// Does nothing: its clauses are what always holds of the ports and the messages, and of the numbers that are next.
     pub fn facts(&self)
-        ensures sound { IsSound self.now }
+        ensures sound { IsSoundPorts self.now }
         ensures ports { IsStocked self.now.ports }
         ensures messages { IsStocked self.now.messages }
     {
@@ -521,8 +526,8 @@ impl<S: ListSpace> Ports<S> {
     // ---- refusals
 
     // Why a message may not be freed or put anywhere, if it may not.
-    fn loose_fault(&self, m: MsgId) -> Option<PortFault>
-        ensures { result ≡ loose_fault m self.now }
+    fn linked_fault(&self, m: MsgId) -> Option<PortFault>
+        ensures { result ≡ linked_fault m self.now }
     {
         if !self.is_message(m) {
             Some(PortFault::Unknown)
@@ -540,7 +545,7 @@ impl<S: ListSpace> Ports<S> {
         if !self.is_port(p) {
             Some(PortFault::Unknown)
         } else {
-            self.loose_fault(m)
+            self.linked_fault(m)
         }
     }
 

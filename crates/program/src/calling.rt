@@ -10,7 +10,7 @@ use std::rt::{Clock, Files};
 /// The most bytes of the path by which the program is called, and one more: the system has no longer paths.
 const PATH_ROOM: usize = 4_096;
 
-/// The status if the name is no command's.
+/// The status if the name is not a command's.
 const COMMAND_LINE_REFUSED: u8 = 2;
 
 /// The command by whose name the program was called.
@@ -34,7 +34,7 @@ fn asks_for_version<R: Env>(rt: &R) -> bool {
     matches!(rt.arg(2, &mut word), Err(FillError::NotPresent))
 }
 
-/// Refuses a name that is no command's.
+/// Refuses a name that is not a command's.
 fn refuse_name<E: Write>(err: &mut E) -> u8
     ensures { result ≡ 2 }
 {
@@ -45,7 +45,22 @@ fn refuse_name<E: Write>(err: &mut E) -> u8
     COMMAND_LINE_REFUSED
 }
 
-/// Runs the command by whose name the program was called on the process's arguments, and answers the status with which it ends.
+/// Searches the ways of a run, or all states of a machine if a word of the command line asks for that.
+fn explore<R: Env + Files + Clock + AllocGlobal, W: Write + Drop, E: Write + IsTerminal>(
+    rt: &R,
+    out: W,
+    err: &mut E,
+) -> u8
+    ensures { result ≤ 5 }
+{
+    if everystate::asks_for_all(rt) {
+        return everystate::run_on_arguments(rt, out, err);
+    }
+    execexplore::run_on_arguments(rt, out, err)
+}
+
+/// Runs the command by whose name the program was called on the process's arguments, and answers the status with which
+/// it ends.
 ///
 /// Each command but `execsim`, whose command line is two paths, takes the word `--version` too.
 ///
@@ -55,7 +70,7 @@ pub fn run_as_called<
     W: Write + IsTerminal + Drop,
     E: Write + IsTerminal,
 >(rt: &R, mut out: W, err: &mut E) -> u8
-    ensures { result ≤ 4 }
+    ensures { result ≤ 5 }
 {
     let Some(command) = command_of(rt) else {
         return refuse_name(err);
@@ -66,7 +81,7 @@ pub fn run_as_called<
     match command {
         Command::Execsim => execrun::run_on_arguments(rt, out, err),
         Command::Execcheck => checker::run_on_arguments(rt, out, err),
-        Command::Execexplore => execexplore::run_on_arguments(rt, out, err),
+        Command::Execexplore => explore(rt, out, err),
         Command::Execlog => logger::run_on_arguments(rt, out, err),
     }
 }

@@ -47,8 +47,8 @@ fn ends_in(path: &[u8], end: &str) -> bool
     path.ends_with(end.as_bytes())
 }
 
-/// The command that is called by a path, which is given with a '/' before it, so that its last part comes after one. A program that no
-/// release has named has the name of its crate, and is `execsim`.
+/// The command that is called by a path, which is given with a '/' before it, so that its last part comes after one. A
+/// program that no release has named has the name of its crate, and is `execsim`.
 ///
 /// Source: project rule.
 #[tactic(auto, unfolding(crate::specs::Names::command_named))]

@@ -5,8 +5,9 @@ use crate::command::Command;
 use std::io;
 use std::io::Write;
 
-/// What follows a command's name: the version, the commit of the sources, and the kit that proved them. The forty zeros are the place of the
-/// commit, which `tools/release` writes into the linked file, since no source can name its own commit.
+/// What follows a command's name: the version, the commit of the sources, and the kit that proved them. The forty zeros
+/// are the place of the commit, which `tools/release` writes into the linked file, since no source can name its own
+/// commit.
 const VERSION: &str =
     " 1.0, commit 0000000000000000000000000000000000000000, rattle-kit-13f logic dac8208d650f15bf\n";
 

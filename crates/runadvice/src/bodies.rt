@@ -103,14 +103,27 @@ fn printing_place(code: &[Command], lines: usize) -> usize {
     code.len()
 }
 
+/// What a line of the trace says that begins, by its name.
+fn begins(line: &str) -> Option<(Owner, &str)> {
+    // Most lines are told apart by two letters.
+    match line.as_bytes() {
+        [b's', b'e', ..] => Some((Owner::Server, line.strip_prefix("server ")?)),
+        [b's', b'o', ..] => Some((Owner::Softint, line.strip_prefix("softint ")?)),
+        _ => None,
+    }
+}
+
 /// The body that begins with a line of the trace, if one does.
 pub fn begun_by<'a>(file: &'a MachineFile, line: &str) -> Option<Begun<'a>> {
-    let (kind, name) = line.split_once(" ")?;
-    let owner = match kind {
-        "server" => Owner::Server,
-        "softint" => Owner::Softint,
-        _ => return None,
-    };
+    begun_likely(file, line, 0)
+}
+
+/// The same, where its number is likely this one.
+pub fn begun_likely<'a>(file: &'a MachineFile, line: &str, likely: usize) -> Option<Begun<'a>> {
+    let (owner, name) = begins(line)?;
+    if name_of(file, owner, likely) == Some(name) {
+        return Begun::new(file, owner, likely);
+    }
     let item = (0..count_of(file, owner)).position(|item| name_of(file, owner, item)
         == Some(name))?;
     Begun::new(file, owner, item)

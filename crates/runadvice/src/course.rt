@@ -1,19 +1,21 @@
 //! What is noted of each step of a run: when each command was done last, when the bodies of interrupts were run last, and what was freed.
 ghost use Rattle.std.specs.Prelude.{◌≡◌, ◌<◌, ◌≤◌, ◌⊎◌, []};
 
-use crate::bodies::{Begun, after_line, begun_by, command_at, count_of};
-use crate::failing::Failings;
+use crate::bodies::{Begun, after_line, begun_by, begun_likely, command_at, count_of};
+use crate::failing::{Failings, may_fail, overwrites};
 use crate::next::{Next, Part};
 use crate::page::Spot;
 use crate::past::{Past, TaskPast, Time, is_reached, rank_of};
 use crate::room::Room;
 use crate::scene::Linked;
-use crate::sends::{Deed, END, Sends, field_in, is_clearing, is_sending, number_in};
-use crate::step::{Site, Turn, When, prints};
+use crate::sends::{Act, END, Sends, is_clearing, is_sending, may_finish, number_in};
+use crate::step::{Marks, Site, TaskPlace, When, prints};
 use crate::value::value_of;
 use crate::words::row_of;
 use execsim::Flow;
-use script::{Command, Event, MachineFile, Source, Variable};
+use script::{
+    Argument, Command, Event, LibraryWord, MachineFile, RequestWord, Source, Variable, Word,
+};
 use std::alloc::{AllocError, Global};
 use std::collections::HashMap;
 use std::str::from_utf8;
@@ -33,6 +35,12 @@ const VARIABLES: usize = 64;
 pub struct Course<'a> {
     pub file: &'a MachineFile,
     pub tasks: Vec<TaskPast>,
+    /// What is noted of each command of each task.
+    marks: Vec<Vec<Marks>>,
+    /// The body that began last after each number of a body, from the second on; the first is for those that began before any other of their event.
+    likely: Vec<usize>,
+    /// Whether a tick or a request can send something: there are servers, or requests of the timer.
+    has_senders: bool,
     /// When each software interrupt was run last.
     softints: Vec<Option<Time>>,
     /// When the servers of each source were run last.
@@ -45,6 +53,8 @@ pub struct Course<'a> {
     late: Vec<Option<Site>>,
     /// What has freed the object or the block at an address.
     pub freed: HashMap<u32, Site>,
+    /// What has closed the library or the request at an address last.
+    pub closed: HashMap<u32, Site>,
     /// Which signals came, which messages were put, and what was sent to tasks that had ended.
     pub sends: Sends,
     /// Which calls have failed.
@@ -72,6 +82,79 @@ fn no_past(alloc: Global, file: &MachineFile) -> Result<Vec<TaskPast>, AllocErro
     Ok(tasks)
 }
 
+/// Whether only the text of a step says all that the call of a command has sent.
+fn is_read(command: &Command) -> bool {
+    may_finish(command.word) || is_sending(command.word) && overwrites(command)
+}
+
+/// What is noted of a command.
+fn marks_of(command: &Command) -> Marks {
+    let word = command.word;
+    Marks {
+        frees: row_of(word).frees,
+        closes: is_closing(word),
+        clears: is_clearing(word),
+        fails: may_fail(command),
+        sends: is_sending(word),
+        is_read: is_read(command),
+    }
+}
+
+/// What is noted of the commands of some code.
+fn marks_in(alloc: Global, code: &[Command]) -> Result<Vec<Marks>, AllocError> {
+    let mut marks = Vec::new(alloc);
+    for command in code {
+        marks.push(marks_of(command))?;
+    }
+    Ok(marks)
+}
+
+/// What is noted of each command of the tasks of a file.
+fn all_marks(alloc: Global, file: &MachineFile) -> Result<Vec<Vec<Marks>>, AllocError> {
+    let mut marks = Vec::new(alloc);
+    for task in file.tasks() {
+        marks.push(marks_in(alloc, &task.code)?)?;
+    }
+    Ok(marks)
+}
+
+/// Whether some code may begin a request of the timer.
+fn may_begin(code: &[Command]) -> bool {
+    code.iter().any(|command| may_finish(command.word))
+}
+
+/// Whether a tick or a request of an interrupt can send something.
+fn has_senders(file: &MachineFile) -> bool {
+    file.servers().len() > 0
+        || file.tasks().iter().any(|task| may_begin(&task.code))
+        || file
+            .softints()
+            .iter()
+            .any(|softint| may_begin(&softint.code))
+}
+
+/// How many bodies of interrupts of one kind there are, at most.
+fn most_bodies(file: &MachineFile) -> usize {
+    file.servers().len().max(file.softints().len())
+}
+
+/// What an argument of a call was, by its line.
+fn value_in(command: &Command, number: usize, line: &str) -> u32 {
+    match command.arguments.get(number) {
+        Some(Argument::Number(value)) => *value,
+        Some(Argument::Variable(_)) => number_in(line.split(' ').nth(number.saturating_add(2))),
+        _ => 0,
+    }
+}
+
+/// Whether a word closes a library or a request.
+fn is_closing(word: Word) -> bool {
+    matches!(
+        word,
+        Word::Libraries(LibraryWord::CloseLibrary) | Word::Requests(RequestWord::CloseDevice)
+    )
+}
+
 /// The place of a source in the order in which they are served.
 fn place_of(source: Source) -> usize
     ensures { result < 3 }
@@ -89,12 +172,16 @@ impl<'a> Course<'a> {
         Ok(Course {
             file,
             tasks: no_past(alloc, file)?,
+            marks: all_marks(alloc, file)?,
+            likely: vec![in alloc; 0usize; most_bodies(file).saturating_add(1)]?,
+            has_senders: has_senders(file),
             softints: vec![in alloc; None; file.softints().len()]?,
             sources: [None; 3],
             asking: [false; 3],
             bodies: 0,
             late: vec![in alloc; None; VARIABLES]?,
             freed: HashMap::new(alloc),
+            closed: HashMap::new(alloc),
             sends: Sends::new(alloc, file.tasks().len())?,
             failings: Failings::new(alloc, file.tasks().len())?,
             steps: 0,
@@ -113,7 +200,7 @@ impl<'a> Course<'a> {
     }
 
     /// The command of a task at a place of its code.
-    pub fn command(&self, turn: Turn) -> Option<&'a Command> {
+    pub fn command(&self, turn: TaskPlace) -> Option<&'a Command> {
         command_at(self.file, turn.spot())
     }
 
@@ -123,7 +210,7 @@ impl<'a> Course<'a> {
     }
 
     /// The steps of a task that can be done at once, at most that many. Plain words are noted; of those that go on without end only the last ones.
-    fn part_of_task(&mut self, turn: Turn, most: u32) -> Part
+    fn part_of_task(&mut self, turn: TaskPlace, most: u32) -> Part
         requires { 0 < most }
         ensures some { 0 < result.steps }
         ensures within { result.steps ≤ most }
@@ -165,19 +252,54 @@ impl<'a> Course<'a> {
         }
     }
 
-    /// Notes what a command has freed.
-    fn note_freed(&mut self, machine: &Linked, turn: Turn, command: &Command, site: Site) {
-        if row_of(command.word).frees {
-            if let Some(address) = value_of(machine, Some(turn.task), command, 0) {
-                if self.freed.insert(address, site).is_err() {
-                    self.is_whole = false;
-                }
-            }
+    /// What is noted of a command of a task.
+    fn marks_at(&self, turn: TaskPlace) -> Option<Marks> {
+        self.marks.get(turn.task)?.get(turn.place).copied()
+    }
+
+    /// Notes what a command that frees has freed; that of 0 frees nothing.
+    fn note_freed(&mut self, machine: &Linked, turn: TaskPlace, command: &Command, site: Site) {
+        let address = value_of(machine, Some(turn.task), command, 0).unwrap_or(0);
+        if address != 0 && self.freed.insert(address, site).is_err() {
+            self.is_whole = false;
+        }
+    }
+
+    /// Notes what a command that closes has closed.
+    fn note_closed(&mut self, machine: &Linked, turn: TaskPlace, command: &Command, site: Site) {
+        let address = value_of(machine, Some(turn.task), command, 0).unwrap_or(0);
+        if self.closed.insert(address, site).is_err() {
+            self.is_whole = false;
+        }
+    }
+
+    /// Notes what a command has freed or closed, if it is of that kind.
+    fn note_ended(
+        &mut self,
+        machine: &Linked,
+        turn: TaskPlace,
+        command: &Command,
+        marks: Marks,
+        site: Site,
+    ) {
+        if marks.frees {
+            self.note_freed(machine, turn, command, site);
+        }
+        if marks.closes {
+            self.note_closed(machine, turn, command, site);
+        }
+    }
+
+    /// Notes which signals a call of a task has cleared, if it is of that kind.
+    fn note_cleared(&mut self, machine: &Linked, turn: TaskPlace, marks: Marks) {
+        if marks.clears {
+            let (spot, moment) = (Some(turn.spot()), self.moment());
+            self.sends.clear(machine, turn.task, Act { spot, moment });
         }
     }
 
     /// Notes the step of a task, unless it was of plain words, which are noted before.
-    fn note_task(&mut self, machine: &Linked, turn: Turn) {
+    fn note_task(&mut self, machine: &Linked, turn: TaskPlace) {
         let Some(command) = self.command(turn) else {
             self.fresh = self.steps;
             self.other = self.steps;
@@ -199,42 +321,63 @@ impl<'a> Course<'a> {
         self.note_call(machine, turn, command);
     }
 
-    /// Notes a call that a task has done: what it has freed, which signals it has cleared, and whether it has failed.
-    fn note_call(&mut self, machine: &Linked, turn: Turn, command: &Command) {
-        let (spot, moment) = (turn.spot(), self.moment());
-        let site = Site {
-            spot,
-            when: When::Step(moment),
+    /// Notes a call that a task has done: what it has freed or closed, which signals it has cleared, and whether it has failed.
+    fn note_call(&mut self, machine: &Linked, turn: TaskPlace, command: &Command) {
+        let Some(marks) = self.marks_at(turn) else {
+            return;
         };
-        self.note_freed(machine, turn, command, site);
-        if is_clearing(command.word) {
-            let spot = Some(spot);
-            self.sends.clear(machine, turn.task, Deed { spot, moment });
+        let site = Site {
+            spot: turn.spot(),
+            when: When::Step(self.moment()),
+        };
+        self.note_ended(machine, turn, command, marks, site);
+        self.note_cleared(machine, turn, marks);
+        if marks.fails {
+            self.failings.note(machine, self.file, turn, command, site);
         }
-        self.failings.note(machine, self.file, turn, command, site);
     }
 
-    /// Notes what a line of a command says that was sent.
+    /// Notes what the call of a command has sent, with its first two arguments.
+    fn note_sent(&mut self, machine: &Linked, word: Word, values: (u32, u32), spot: Spot) {
+        let deed = Act {
+            spot: Some(spot),
+            moment: self.moment(),
+        };
+        self.sends.note(machine, word, values, deed);
+        self.is_whole = self.is_whole && self.sends.is_whole;
+    }
+
+    /// Notes what the call of a task has sent, by its arguments, which hold what they held before; or that the task has ended, after its last command.
+    fn note_own(&mut self, machine: &Linked, turn: TaskPlace) {
+        let Some(command) = self.command(turn) else {
+            return self.note_sent(machine, END, (0, 0), turn.spot());
+        };
+        let first = value_of(machine, Some(turn.task), command, 0).unwrap_or(0);
+        let second = value_of(machine, Some(turn.task), command, 1).unwrap_or(0);
+        self.note_sent(machine, command.word, (first, second), turn.spot());
+    }
+
+    /// Notes what a line of a command, or of the end of a task, says that was sent. After the last command of another body it says nothing of it.
     fn note_line(&mut self, machine: &Linked, line: &str, spot: Spot) {
-        let word = command_at(self.file, spot).map_or(END, |command| command.word);
-        if is_sending(word) && field_in(line, 1) == word.text() {
-            let deed = Deed {
-                spot: Some(spot),
-                moment: self.moment(),
-            };
-            let values = (number_in(line, 2), number_in(line, 3));
-            self.sends.note(machine, word, values, deed);
+        match command_at(self.file, spot) {
+            Some(command) if is_sending(command.word) => {
+                let values = (value_in(command, 0, line), value_in(command, 1, line));
+                self.note_sent(machine, command.word, values, spot);
+            }
+            None if spot.task().is_some() => self.note_sent(machine, END, (0, 0), spot),
+            _ => {}
         }
     }
 
     /// Notes that the timer has finished a request, if a line says so.
     fn note_timer(&mut self, machine: &Linked, line: &str) {
         if line.starts_with("timer $") {
-            let deed = Deed {
+            let deed = Act {
                 spot: None,
                 moment: self.moment(),
             };
-            self.sends.put(machine, number_in(line, 1), deed);
+            self.sends
+                .put(machine, number_in(line.split(' ').nth(1)), deed);
         }
     }
 
@@ -249,6 +392,40 @@ impl<'a> Course<'a> {
         }
     }
 
+    /// Notes that the body of this number is the next that begins.
+    fn expect(&mut self, number: usize) {
+        if let Some(likely) = self.likely.get_mut(0) {
+            *likely = number;
+        }
+    }
+
+    /// The body that begins with a line, if one does. It is likely the one that began after the last one before.
+    fn begun(&mut self, line: &str, last: Option<Begun<'a>>) -> Option<Begun<'a>> {
+        let number = last.map_or(0, |body| body.item.saturating_add(1));
+        let likely = self.likely.get(number).copied().unwrap_or(0);
+        let body = begun_likely(self.file, line, likely)?;
+        if let Some(likely) = self.likely.get_mut(number) {
+            *likely = body.item;
+        }
+        Some(body)
+    }
+
+    /// Notes what a line says that was sent after the last body that has begun, and answers the body that has begun then.
+    fn note_next(
+        &mut self,
+        machine: &Linked,
+        line: &str,
+        last: Option<Begun<'a>>,
+    ) -> Option<Begun<'a>> {
+        if let Some(body) = self.begun(line, last) {
+            return Some(body);
+        }
+        self.note_timer(machine, line);
+        let body = after_line(last, None)?;
+        self.note_line(machine, line, body.spot(body.alerted_place()));
+        Some(body)
+    }
+
     /// Notes what the lines of some steps, a tick or a request say that was sent.
     fn note_lines(&mut self, machine: &Linked, next: Next, room: &Room) {
         let Ok(text) = from_utf8(&room.bytes) else {
@@ -257,15 +434,31 @@ impl<'a> Course<'a> {
         let mut first = self.first_spot(next);
         let mut last: Option<Begun<'a>> = None;
         for line in text.lines() {
-            last = after_line(last, begun_by(self.file, line));
-            let of_body = last.map(|body| body.spot(body.alerted_place()));
-            if let Some(spot) = first.or(of_body) {
-                self.note_line(machine, line, spot);
+            match first {
+                Some(spot) => self.note_line(machine, line, spot),
+                None => last = self.note_next(machine, line, last),
             }
             first = None;
-            self.note_timer(machine, line);
         }
         self.is_whole = self.is_whole && self.sends.is_whole;
+    }
+
+    /// Notes what a step of a task has sent in which no source was asking. Its own call has the only line of the step that says so, unless that is read.
+    fn note_alone(&mut self, machine: &Linked, turn: TaskPlace, room: &Room) {
+        match self.marks_at(turn) {
+            Some(marks) if marks.is_read => self.note_lines(machine, Next::Task(turn), room),
+            Some(marks) if !marks.sends => {}
+            _ => self.note_own(machine, turn),
+        }
+    }
+
+    /// Notes what was sent in some steps, a tick or a request, where a source was asking or not.
+    fn note_sending(&mut self, machine: &Linked, next: Next, has_asked: bool, room: &Room) {
+        match next {
+            Next::Task(turn) if !has_asked => self.note_alone(machine, turn, room),
+            Next::Nothing if !self.has_senders => {}
+            _ => self.note_lines(machine, next, room),
+        }
     }
 
     /// Notes that some bodies of interrupts were run together, at most that many, and answers that.
@@ -281,6 +474,7 @@ impl<'a> Course<'a> {
             Next::Task(turn) => return self.note_task(machine, turn),
             Next::Softint(number) => {
                 let run = self.next_bodies(when, 1);
+                self.expect(number);
                 if let Some(past) = self.softints.get_mut(number) {
                     *past = run;
                 }
@@ -395,8 +589,9 @@ impl<'a> Course<'a> {
         if matches!(one, Event::Run(_)) {
             self.note_step(machine, next, when);
         }
+        let has_asked = self.any_asks();
         self.note_served(machine, when);
-        self.note_lines(machine, next, room);
+        self.note_sending(machine, next, has_asked, room);
     }
 
     /// Empties the room before the next event; after an alert it is as the alert left it.
@@ -410,7 +605,7 @@ impl<'a> Course<'a> {
     }
 
     /// What is noted of a command of a task.
-    pub fn past(&self, turn: Turn) -> Past {
+    pub fn past(&self, turn: TaskPlace) -> Past {
         match self.tasks.get(turn.task) {
             None => Past::NONE,
             Some(past) => past.at(turn.place),
@@ -427,12 +622,12 @@ impl<'a> Course<'a> {
     }
 
     /// The commands of tasks that were done, or in which a task went on to wait, after that many steps.
-    pub fn visited_after(&self, alloc: Global, steps: u64) -> Result<Vec<Turn>, AllocError> {
+    pub fn visited_after(&self, alloc: Global, steps: u64) -> Result<Vec<TaskPlace>, AllocError> {
         let mut turns = Vec::new(alloc);
         for (task, past) in self.tasks.iter().enumerate() {
             for (place, command) in past.commands.iter().enumerate() {
                 if command.visited > steps {
-                    turns.push(Turn { task, place })?;
+                    turns.push(TaskPlace { task, place })?;
                 }
             }
         }

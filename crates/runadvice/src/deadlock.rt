@@ -1,36 +1,42 @@
-//! Tasks that wait for each other's semaphores in a circle.
+//! Tasks that wait in a circle for each other's semaphores, messages and signals.
 use crate::argument::joined;
 use crate::page::Page;
 use crate::scene::Scene;
-use crate::wait::{Waiter, awaited_text, owner_awaited};
+use crate::wait::{Awaited, Waiter, awaited_text};
 use std::alloc::AllocError;
 
+/// How many tasks of a circle are named at most.
+const MOST_NAMED: usize = 4;
+
 impl Scene<'_, '_> {
-    /// The tasks of the circle that a task is in, from that task on; none if it is in no circle.
-    pub(crate) fn circle_of(&self, task: usize) -> Result<Option<Vec<usize>>, AllocError> {
-        let mut circle = Vec::new(self.alloc);
-        let mut at = task;
-        for _turn in 0..self.machine.view().tasks {
-            circle.push(at)?;
-            match owner_awaited(self.machine, at) {
-                None => return Ok(None),
-                Some(owner) if owner == task => return Ok(Some(circle)),
-                Some(owner) => at = owner,
-            }
+    /// The names of the tasks of a circle, the first ones in the order of the file.
+    fn names_of(&self, circle: &[usize]) -> Result<String, AllocError> {
+        let alloc = self.alloc;
+        let mut tasks = Vec::from_slice(alloc, circle)?;
+        tasks.sort()?;
+        let mut names = Vec::new(alloc);
+        for task in tasks.iter().take(MOST_NAMED) {
+            let name = self.name(*task);
+            names.push(format!(in alloc; "\"{name}\"")?)?;
         }
-        Ok(None)
+        match tasks.len().saturating_sub(MOST_NAMED) {
+            0 => {}
+            1 => names.push(format!(in alloc; "1 other")?)?,
+            others => names.push(format!(in alloc; "{others} others")?)?,
+        }
+        joined(alloc, &names, " and ")
     }
 
-    /// The names of the tasks of a circle, in the order of the file.
-    fn names_of(&self, circle: &[usize]) -> Result<String, AllocError> {
-        let mut tasks = Vec::from_slice(self.alloc, circle)?;
-        tasks.sort()?;
-        let mut names = Vec::new(self.alloc);
-        for task in tasks.iter() {
-            let name = self.name(*task);
-            names.push(format!(in self.alloc; "\"{name}\"")?)?;
+    /// What a task of a circle waits for, and which task of it alone could end that.
+    fn cause(&self, waiter: &Waiter, next: usize) -> Result<String, AllocError> {
+        let alloc = self.alloc;
+        let name = self.name(next);
+        let awaited = awaited_text(alloc, waiter.awaited)?;
+        if let Awaited::Semaphore(_) = waiter.awaited {
+            return format!(in alloc; "waits for {awaited}, which task \"{name}\" owns");
         }
-        joined(self.alloc, &names, " and ")
+        let more = self.why_text(waiter, "")?;
+        format!(in alloc; "waits for {awaited}, which only task \"{name}\" could send{more}")
     }
 
     /// Adds that a task of a circle waits for the next one.
@@ -42,9 +48,8 @@ impl Scene<'_, '_> {
     ) -> Result<(), AllocError> {
         let alloc = self.alloc;
         let names = self.names_of(circle)?;
-        let owner = self.name(owner_awaited(self.machine, waiter.turn.task).unwrap_or(0));
-        let awaited = awaited_text(alloc, waiter.awaited)?;
-        let cause = format!(in alloc; "waits for {awaited}, which task \"{owner}\" owns")?;
+        let next = circle.get(1).copied().unwrap_or(waiter.turn.task);
+        let cause = self.cause(waiter, next)?;
         let reason = if circle.len() == 1 {
             format!(in alloc; "task {names} waits for itself: it {cause}")?
         } else {

@@ -1,11 +1,12 @@
 //! Why a call has answered 0 or -1: the one cause, as the machine shows it after the call. Such a call changes nothing.
-use crate::argument::request_at;
+use crate::argument::{owner_at, request_at};
 use crate::scene::Linked;
 use crate::sends::mask_of;
-use crate::step::{Site, Turn};
+use crate::step::{Site, TaskPlace};
 use crate::value::{held_by, value_of, variable_at};
 use script::{
-    Command, LibraryWord, MachineFile, MemoryWord, PortWord, RequestWord, SignalWord, Word,
+    Command, LibraryWord, ListWord, MachineFile, MemoryWord, PortWord, RequestWord, SemaphoreWord,
+    SignalWord, Word,
 };
 use std::alloc::{AllocError, Global};
 
@@ -20,6 +21,15 @@ const PUBLIC: u32 = 1;
 
 /// The bytes that a port takes (exec/ports.h).
 const PORT_SIZE: u32 = 34;
+
+/// The bytes that a list or a node, a message, a semaphore and a request take (project rule).
+const LIST_SIZE: u32 = 16;
+
+const MESSAGE_SIZE: u32 = 24;
+
+const SEMAPHORE_SIZE: u32 = 48;
+
+const REQUEST_SIZE: u32 = 40;
 
 /// The bits of requirements that name attributes of regions.
 const ATTRIBUTES: u32 = 7;
@@ -40,8 +50,10 @@ pub enum Cause {
     NoGap(u32, u32),
     /// A block has at least one byte.
     NoSize,
-    /// There are so many ports already, which is the pool.
-    NoPort(u32),
+    /// There are so many objects of that kind already, which is the pool.
+    NoObject(u32),
+    /// The port of a request is 0.
+    NoReplyPort,
     /// All signals are allocated.
     NoSignal,
     /// That signal is allocated.
@@ -64,11 +76,19 @@ pub struct Unopened {
     pub is_timer: bool,
 }
 
+/// The last AttemptSemaphore of a task that has not obtained the semaphore.
+#[derive(Clone, Copy)]
+struct Missed {
+    semaphore: u32,
+    site: Site,
+}
+
 /// What is noted of calls that have failed.
 #[derive(Drop)]
 pub struct Failings {
     calls: Vec<Option<Failure>>,
     opens: Vec<Option<Unopened>>,
+    attempts: Vec<Option<Missed>>,
     asked: u32,
 }
 
@@ -136,17 +156,38 @@ fn of_signal(machine: &Linked, task: usize, number: u32) -> Option<Cause> {
     None
 }
 
+/// Why no object of that many bytes was made.
+fn of_object(machine: &Linked, file: &MachineFile, size: u32) -> Option<Cause> {
+    of_memory(machine, size, PUBLIC).or(Some(Cause::NoObject(file.pool())))
+}
+
 /// Why no port was made.
 fn of_port(machine: &Linked, file: &MachineFile, task: usize) -> Option<Cause> {
-    of_signal(machine, task, 32)
-        .or(of_memory(machine, PORT_SIZE, PUBLIC))
-        .or(Some(Cause::NoPort(file.pool())))
+    of_signal(machine, task, 32).or(of_object(machine, file, PORT_SIZE))
+}
+
+/// Why no request was made for a port.
+fn of_request(machine: &Linked, file: &MachineFile, port: u32) -> Option<Cause> {
+    if port == 0 {
+        return Some(Cause::NoReplyPort);
+    }
+    of_object(machine, file, REQUEST_SIZE)
 }
 
 /// Whether the answer of a command goes into a variable that is an argument, so that its value is gone.
-fn overwrites(command: &Command) -> bool {
+pub(crate) fn overwrites(command: &Command) -> bool {
     let mut numbers = 0..4usize;
     command.target.is_some() && numbers.any(|number| variable_at(command, number) == command.target)
+}
+
+/// Whether a call of a command may fail, so that the cause is asked, and can be seen after it.
+pub(crate) fn may_fail(command: &Command) -> bool {
+    let is_asked = matches!(
+        command.word,
+        Word::Requests(RequestWord::OpenDevice)
+            | Word::Semaphores(SemaphoreWord::AttemptSemaphore | SemaphoreWord::ObtainSemaphore)
+    );
+    (is_asked || command.target.is_some()) && !overwrites(command)
 }
 
 /// Why a call of a task has failed.
@@ -161,6 +202,10 @@ fn cause_of(machine: &Linked, file: &MachineFile, task: usize, command: &Command
         }
         Word::Signals(SignalWord::AllocSignal) => of_signal(machine, task, first),
         Word::Ports(PortWord::CreateMsgPort) => of_port(machine, file, task),
+        Word::Ports(PortWord::NewMsg) => of_object(machine, file, MESSAGE_SIZE),
+        Word::Lists(ListWord::NewList | ListWord::NewNode) => of_object(machine, file, LIST_SIZE),
+        Word::Semaphores(SemaphoreWord::NewSem) => of_object(machine, file, SEMAPHORE_SIZE),
+        Word::Requests(RequestWord::CreateIORequest) => of_request(machine, file, first),
         _ => None,
     }
 }
@@ -181,9 +226,10 @@ pub(crate) fn cause_text(alloc: Global, cause: Cause) -> Result<String, AllocErr
             )
         }
         Cause::NoSize => format!(in alloc; ", since its size was 0"),
-        Cause::NoPort(pool) => {
+        Cause::NoObject(pool) => {
             format!(in alloc; ", since the pool was used up, which has {pool} of a kind")
         }
+        Cause::NoReplyPort => format!(in alloc; ", since its port was 0"),
         Cause::NoSignal => format!(in alloc; ", since no signal was free"),
         Cause::Allocated(number) => format!(in alloc; ", since signal {number} was not free"),
     }
@@ -195,6 +241,7 @@ impl Failings {
         Ok(Failings {
             calls: vec![in alloc; None; count]?,
             opens: vec![in alloc; None; count]?,
+            attempts: vec![in alloc; None; count]?,
             asked: 0,
         })
     }
@@ -214,12 +261,22 @@ impl Failings {
         }
     }
 
+    /// Notes that a task has asked for a semaphore: it has not obtained it if it does not own it now.
+    fn note_attempt(&mut self, machine: &Linked, task: usize, command: &Command, site: Site) {
+        let semaphore = value_of(machine, Some(task), command, 0).unwrap_or(0);
+        let is_attempt = command.word == Word::Semaphores(SemaphoreWord::AttemptSemaphore);
+        let is_missed = is_attempt && owner_at(machine, semaphore) != Some(task);
+        if let Some(last) = self.attempts.get_mut(task) {
+            *last = is_missed.then_some(Missed { semaphore, site });
+        }
+    }
+
     /// Notes a call of a task, if it has answered 0 or -1 into a variable.
     fn note_answer(
         &mut self,
         machine: &Linked,
         file: &MachineFile,
-        turn: Turn,
+        turn: TaskPlace,
         command: &Command,
         site: Site,
     ) {
@@ -239,21 +296,21 @@ impl Failings {
         }
     }
 
-    /// Notes a call of a task, if it has failed.
+    /// Notes a call of a task that may fail, if it has.
     pub(crate) fn note(
         &mut self,
         machine: &Linked,
         file: &MachineFile,
-        turn: Turn,
+        turn: TaskPlace,
         command: &Command,
         site: Site,
     ) {
-        if overwrites(command) {
-            return;
-        }
         match command.word {
             Word::Requests(RequestWord::OpenDevice) => {
                 self.note_open(machine, turn.task, command, site);
+            }
+            Word::Semaphores(SemaphoreWord::AttemptSemaphore | SemaphoreWord::ObtainSemaphore) => {
+                self.note_attempt(machine, turn.task, command, site);
             }
             _ => self.note_answer(machine, file, turn, command, site),
         }
@@ -263,6 +320,12 @@ impl Failings {
     pub(crate) fn cause(&self, site: Site) -> Option<Cause> {
         let failure = (*self.calls.get(site.spot.task()?)?)?;
         (failure.site == site).then_some(failure.cause)
+    }
+
+    /// The AttemptSemaphore of a task that has not obtained a semaphore, if the task has asked for none since.
+    pub(crate) fn missed(&self, task: usize, semaphore: u32) -> Option<Site> {
+        let last = (*self.attempts.get(task)?)?;
+        (last.semaphore == semaphore).then_some(last.site)
     }
 
     /// The OpenDevice of a request that has failed last, if it is the last of its task.

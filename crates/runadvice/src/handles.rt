@@ -5,7 +5,8 @@ use crate::course::Course;
 use crate::memory::block_around;
 use crate::rules::Fault;
 use crate::scene::Linked;
-use crate::words::{LIBRARY, LIST_OR_NODE, Wanted, row_of};
+use crate::value::variable_at;
+use crate::words::{LIBRARY, LIST_OR_NODE, Wanted, makers_of, row_of};
 use execsim::ObjectView;
 use std::alloc::{AllocError, Global};
 use taskq::TaskState;
@@ -49,8 +50,8 @@ impl Asking<'_, '_> {
             _ => return Ok(None),
         };
         let end = match state {
-            TaskState::Absent => "was not added yet",
-            TaskState::Removed => "has ended",
+            TaskState::Absent => format!(in alloc; "was not added yet; AddTask {value} adds it")?,
+            TaskState::Removed => String::from_str(alloc, "has ended")?,
             _ => return Ok(None),
         };
         let name = self.machine.task_name(number).unwrap_or("");
@@ -115,6 +116,20 @@ impl Asking<'_, '_> {
         Ok(Fault::of(0, why, false))
     }
 
+    /// Why an argument is at fault, with the words that return what is wanted, if the line has a number in its place.
+    pub(crate) fn with_makers(
+        &self,
+        makers: &str,
+        number: usize,
+        why: String,
+    ) -> Result<String, AllocError> {
+        if makers.is_empty() || variable_at(self.refused.command, number).is_some() {
+            return Ok(why);
+        }
+        let text = why.as_str();
+        format!(in self.alloc; "{text}; {makers}")
+    }
+
     /// Whether it is worth saying where a value comes from: it is 0, or the address of an object of another kind.
     fn asks_origin(&self, wanted: Wanted, value: u32) -> bool {
         match wanted {
@@ -130,6 +145,7 @@ impl Asking<'_, '_> {
             let value = self.refused.value(number);
             if value != 0 || row.may_be_none != Some(number) {
                 if let Some(why) = self.fault_of(*wanted, value)? {
+                    let why = self.with_makers(makers_of(*wanted), number, why)?;
                     return Ok(Fault::of(number, why, self.asks_origin(*wanted, value)));
                 }
             }

@@ -8,7 +8,7 @@ use crate::following::Run;
 use crate::next::{Next, next_of};
 use crate::scene::Linked;
 use crate::snapshot::{memory_shown, tasks_shown};
-use crate::step::{Turn, prints};
+use crate::step::{TaskPlace, prints};
 use execsim::Flow;
 use script::{Event, PlainWord, PortWord, Word};
 use std::alloc::{AllocError, Global};
@@ -37,6 +37,10 @@ pub struct Lap {
     pub waits: bool,
     /// Whether one was a software interrupt.
     pub has_softint: bool,
+    /// Whether no line leads out of its part of the code.
+    pub is_shut: bool,
+    /// Whether the machine showed after the last what it showed before the first.
+    is_back: bool,
     /// Whether one made a port public, or the other way, which is not compared.
     is_hidden: bool,
 }
@@ -50,19 +54,43 @@ impl Lap {
             prints: false,
             waits: false,
             has_softint: false,
+            is_shut: false,
+            is_back: false,
             is_hidden: false,
         }
     }
 
+    /// The steps of a task in a part of its code that no line leads out of.
+    pub fn shut_in(alloc: Global, stretch: Stretch) -> Result<Lap, AllocError> {
+        let mut lap = Lap::new(alloc);
+        lap.stretches.push(stretch)?;
+        lap.is_shut = true;
+        Ok(lap)
+    }
+
     /// Whether a command of a task is in the part of its code that was run.
-    pub fn has(&self, turn: Turn) -> bool {
+    pub fn has(&self, turn: TaskPlace) -> bool {
         self.stretches.iter().any(|stretch| {
             stretch.task == turn.task && stretch.first <= turn.place && turn.place <= stretch.last
         })
     }
 
+    /// Whether all steps of another lap are in the parts of the code that this one has.
+    fn covers(&self, other: &Lap) -> bool {
+        for stretch in other.stretches.iter() {
+            let task = stretch.task;
+            let (first, last) = (stretch.first, stretch.last);
+            if !self.has(TaskPlace { task, place: first })
+                || !self.has(TaskPlace { task, place: last })
+            {
+                return false;
+            }
+        }
+        self.has_softint || !other.has_softint
+    }
+
     /// Adds the place of a command.
-    fn add_place(&mut self, turn: Turn) -> Result<(), AllocError> {
+    fn add_place(&mut self, turn: TaskPlace) -> Result<(), AllocError> {
         for stretch in self.stretches.iter_mut() {
             if stretch.task == turn.task {
                 stretch.first = stretch.first.min(turn.place);
@@ -79,7 +107,7 @@ impl Lap {
     }
 
     /// Adds a step of a task.
-    pub fn add(&mut self, turn: Turn, word: Word) -> Result<(), AllocError> {
+    pub fn add(&mut self, turn: TaskPlace, word: Word) -> Result<(), AllocError> {
         self.has_call = self.has_call || prints(word);
         self.prints = self.prints || matches!(word, Word::Plain(PlainWord::Print));
         self.is_hidden = self.is_hidden
@@ -105,10 +133,10 @@ fn go_on(run: &mut Run<'_>) -> Result<bool, AllocError>
 }
 
 /// The task that runs, at its next command.
-pub fn turn_of(machine: &Linked) -> Option<Turn> {
+pub fn turn_of(machine: &Linked) -> Option<TaskPlace> {
     let task = machine.view().running?;
     let place = machine.task(task)?.place;
-    Some(Turn { task, place })
+    Some(TaskPlace { task, place })
 }
 
 /// Adds what the next step is to do: the command of a task, or a software interrupt; whether it is one of them.
@@ -141,7 +169,7 @@ fn is_waiting(machine: &Linked, next: Next) -> bool {
 fn shows_again(
     alloc: Global,
     machine: &Linked,
-    running: Option<Turn>,
+    running: Option<TaskPlace>,
     tasks: &str,
 ) -> Result<bool, AllocError> {
     if turn_of(machine) != running {
@@ -150,12 +178,15 @@ fn shows_again(
     Ok(tasks_shown(alloc, machine)?.as_str() == tasks)
 }
 
-/// The steps that bring a machine in which a task runs back to what it shows now, if some steps do. It goes on, and where no steps do it
-/// shows something else then.
-pub fn lap_of(alloc: Global, run: &mut Run<'_>) -> Result<Option<Lap>, AllocError>
+/// Some steps more of a machine in which a task runs, up to the one after which it shows what it shows now, or else as many as are looked at. None if a
+/// task ends in them, or the machine stops, or if what its memory shows is another too often.
+fn lap_from(alloc: Global, run: &mut Run<'_>) -> Result<Option<Lap>, AllocError>
     requires going { run.old.machine.failed ≡ false }
     requires good { run.old.room.state ≡ SinkState.Good }
     requires time { HasTimeFor 0 run.old.machine.seen }
+    ensures going { OnOk result (run.new.machine.failed ≡ false) }
+    ensures good { OnOk result (run.new.room.state ≡ SinkState.Good) }
+    ensures time { OnOk result (HasTimeFor 0 run.new.machine.seen) }
 {
     let running = turn_of(&run.machine);
     let tasks = tasks_shown(alloc, &run.machine)?;
@@ -170,6 +201,7 @@ pub fn lap_of(alloc: Global, run: &mut Run<'_>) -> Result<Option<Lap>, AllocErro
         lap.waits = lap.waits || is_waiting(&run.machine, next);
         if shows_again(alloc, &run.machine, running, tasks.as_str())? {
             if memory_shown(alloc, &run.machine)?.as_str() == memory.as_str() {
+                lap.is_back = true;
                 return Ok(Some(lap));
             }
             compared = compared.saturating_add(1);
@@ -177,6 +209,30 @@ pub fn lap_of(alloc: Global, run: &mut Run<'_>) -> Result<Option<Lap>, AllocErro
                 return Ok(None);
             }
         }
+    }
+    Ok(Some(lap))
+}
+
+/// The steps that bring a machine in which a task runs back to what it shows now, if some steps do; or else to what it shows later, if the steps before
+/// are in the same parts of the code, as when a quantum had begun. It goes on, and where no steps do it shows something else then.
+pub fn lap_of(alloc: Global, run: &mut Run<'_>) -> Result<Option<Lap>, AllocError>
+    requires going { run.old.machine.failed ≡ false }
+    requires good { run.old.room.state ≡ SinkState.Good }
+    requires time { HasTimeFor 0 run.old.machine.seen }
+{
+    let first = match lap_from(alloc, run)? {
+        None => return Ok(None),
+        Some(first) => first,
+    };
+    if first.is_back {
+        return Ok(Some(first));
+    }
+    let later = match lap_from(alloc, run)? {
+        None => return Ok(None),
+        Some(later) => later,
+    };
+    if later.is_back && later.covers(&first) {
+        return Ok(Some(later));
     }
     Ok(None)
 }

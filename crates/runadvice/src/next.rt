@@ -2,14 +2,14 @@
 ghost use Rattle.std.specs.Prelude.{◌≡◌};
 
 use crate::scene::Linked;
-use crate::step::Turn;
+use crate::step::TaskPlace;
 use script::{Argument, Command, PlainWord, Word};
 
 /// What the last of some steps is to do.
 #[derive(Clone, Copy)]
 pub enum Next {
     /// The next command of a task, or its end.
-    Task(Turn),
+    Task(TaskPlace),
     /// A plain word that is noted already.
     Noted,
     /// The body of the software interrupt of this number.
@@ -40,7 +40,7 @@ impl Part {
 pub fn next_of(machine: &Linked) -> Next {
     if let Some(task) = machine.next_actor() {
         if let Some(view) = machine.task(task) {
-            return Next::Task(Turn {
+            return Next::Task(TaskPlace {
                 task,
                 place: view.place,
             });

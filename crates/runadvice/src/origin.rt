@@ -104,9 +104,9 @@ impl Asking<'_, '_> {
         }
     }
 
-    /// What has freed the object or the block at an address, as the end of a sentence; nothing if nothing has.
-    pub fn freed_text(&self, address: u32) -> Result<String, AllocError> {
-        match self.course.freed.get(&address).copied() {
+    /// The command that was done to what is at an address, as the end of a sentence; nothing if none was.
+    fn done_text(&self, site: Option<Site>, verb: &str) -> Result<String, AllocError> {
+        match site {
             None => Ok(String::new(self.alloc)),
             Some(site) => {
                 let word = self
@@ -114,8 +114,18 @@ impl Asking<'_, '_> {
                     .map_or("", |command| command.word.text());
                 let place = self.site_text(site)?;
                 let time = when_text(self.alloc, site.when)?;
-                format!(in self.alloc; ": {word} {place} freed it {time}")
+                format!(in self.alloc; ": {word} {place} {verb} it {time}")
             }
         }
+    }
+
+    /// What has freed the object or the block at an address, as the end of a sentence; nothing if nothing has.
+    pub fn freed_text(&self, address: u32) -> Result<String, AllocError> {
+        self.done_text(self.course.freed.get(&address).copied(), "freed")
+    }
+
+    /// What has closed the library or the request at an address, as the end of a sentence; nothing if nothing has.
+    pub(crate) fn closed_text(&self, address: u32) -> Result<String, AllocError> {
+        self.done_text(self.course.closed.get(&address).copied(), "closed")
     }
 }

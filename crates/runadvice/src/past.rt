@@ -2,7 +2,7 @@
 ghost use Rattle.std.specs.Prelude.{◌<◌, ◌≤◌};
 
 use crate::next::{Next, Part, Way, way_after};
-use crate::step::{Turn, When};
+use crate::step::{TaskPlace, When};
 use script::{Command, MachineFile, Variable};
 use std::alloc::{AllocError, Global};
 
@@ -81,7 +81,7 @@ impl TaskPast {
 
     /// Notes the plain words that the task does after some steps, whatever its variables hold, and answers the steps up to the last of them or to the
     /// call after them, at most that many.
-    pub fn part(&mut self, code: &[Command], turn: Turn, most: u32, steps: u64) -> Part
+    pub fn part(&mut self, code: &[Command], turn: TaskPlace, most: u32, steps: u64) -> Part
         requires { 0 < most }
         ensures some { 0 < result.steps }
         ensures within { result.steps ≤ most }
@@ -101,7 +101,7 @@ impl TaskPast {
                 if has_line && done > 0 {
                     return Part::new(done, Next::Noted);
                 }
-                return Part::new(done + 1, Next::Task(Turn { place, ..turn }));
+                return Part::new(done + 1, Next::Task(TaskPlace { place, ..turn }));
             }
             self.note_done(place, step);
             match way {

@@ -42,6 +42,11 @@ impl Fault {
     }
 }
 
+/// Whether a mask is rather the number of a signal, 12 to 31: it would name more than one signal.
+fn is_likely_number(mask: u32) -> bool {
+    12 <= mask && mask < 32 && mask.count_ones() > 1
+}
+
 impl Asking<'_, '_> {
     /// Whether an argument is a variable that AllocSignal has set.
     fn is_allocated(&self, number: usize) -> bool {
@@ -60,7 +65,7 @@ impl Asking<'_, '_> {
         let alloc = self.alloc;
         let mask = self.refused.value(number);
         let bit = (mask & 0xFFF).trailing_zeros();
-        let hint = if mask < 32 && self.is_allocated(number) {
+        let hint = if mask < 32 && (is_likely_number(mask) || self.is_allocated(number)) {
             let own = 1u32 << mask;
             format!(in alloc; " (the mask of signal {mask} is ${own:08X})")?
         } else {
@@ -97,6 +102,7 @@ impl Asking<'_, '_> {
         let Some(block) = self.machine.block(address) else {
             let unfound = self.unfound_text(address)?;
             let why = format!(in alloc; "is not the address of a block{unfound}")?;
+            let why = self.with_makers("AllocMem returns the address of one", 0, why)?;
             return Ok(Fault::of(0, why, address == 0));
         };
         if !matches!(block.object, ObjectView::Plain) {
@@ -203,14 +209,33 @@ impl Asking<'_, '_> {
     /// The alert SEM of a semaphore as its owner has it, with what its owner has to do.
     fn owned_fault(&self, end: &str) -> Result<Fault, AllocError> {
         let alloc = self.alloc;
-        let why = match owner_at(self.machine, self.refused.value(0)) {
-            None => format!(in alloc; "is a semaphore that no task owns; {end}")?,
+        let address = self.refused.value(0);
+        let missed = self.missed_text(address)?;
+        let why = match owner_at(self.machine, address) {
+            None => format!(in alloc; "is a semaphore that no task owns; {end}{missed}")?,
             Some(owner) => {
                 let name = self.machine.task_name(owner).unwrap_or("");
-                format!(in alloc; "is a semaphore that task \"{name}\" owns; {end}")?
+                format!(in alloc; "is a semaphore that task \"{name}\" owns; {end}{missed}")?
             }
         };
         Ok(Fault::of(0, why, false))
+    }
+
+    /// That the task of the call has asked for a semaphore in vain before, as the end of a sentence, if that was the last time it asked for one.
+    fn missed_text(&self, address: u32) -> Result<String, AllocError> {
+        let missed = match self.refused.task() {
+            None => None,
+            Some(task) => self.course.failings.missed(task, address),
+        };
+        match missed {
+            None => Ok(String::new(self.alloc)),
+            Some(site) => {
+                let (place, time) = (self.site_text(site)?, when_text(self.alloc, site.when)?);
+                format!(in self.alloc;
+                    "; AttemptSemaphore {place} returned 0 {time}, so it was not obtained"
+                )
+            }
+        }
     }
 
     /// The alert LIB.
@@ -224,7 +249,8 @@ impl Asking<'_, '_> {
                 .map_or("", |library| library.name.as_str()),
             _ => "",
         };
-        let why = format!(in self.alloc; "is the base of \"{name}\", which is not open")?;
+        let closed = self.closed_text(self.refused.value(0))?;
+        let why = format!(in self.alloc; "is the base of \"{name}\", which is not open{closed}")?;
         Ok(Fault::of(0, why, false))
     }
 
@@ -239,7 +265,7 @@ impl Asking<'_, '_> {
                     "is a request in progress; WaitIO waits until it is done, AbortIO ends it"
                 }
                 ReqState::Idle if request.is_open() || row.flaw == Flaw::TakenReply => {
-                    "is a request that was never begun"
+                    "is a request that was never begun; SendIO begins it"
                 }
                 _ => return Ok(Fault::of(number, self.unopened_text(address)?, false)),
             },
@@ -251,7 +277,13 @@ impl Asking<'_, '_> {
     fn unopened_text(&self, address: u32) -> Result<String, AllocError> {
         let alloc = self.alloc;
         let Some(failed) = self.course.failings.unopened(address) else {
-            return format!(in alloc; "is a request that is not open; OpenDevice opens it");
+            let closed = self.closed_text(address)?;
+            let hint = if closed.as_str().is_empty() {
+                "; OpenDevice opens it"
+            } else {
+                closed.as_str()
+            };
+            return format!(in alloc; "is a request that is not open{hint}");
         };
         let (place, time) = (
             self.site_text(failed.site)?,
@@ -295,7 +327,9 @@ impl Asking<'_, '_> {
                 "by WaitIO or GetMsg",
             ),
             Flaw::TakenReply => {
-                Fault::new(alloc, Some(0), "is a request whose reply was taken already")
+                let why =
+                    "is a request whose reply was taken already, so nothing has to be awaited";
+                Fault::new(alloc, Some(0), why)
             }
             Flaw::NeededPort => self.delete_fault(),
             Flaw::Owned(end) => self.owned_fault(end),

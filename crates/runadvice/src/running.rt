@@ -4,7 +4,9 @@ use crate::course::RECENT;
 use crate::lap::{Lap, Stretch, turn_of};
 use crate::page::{Page, Spot};
 use crate::scene::{Linked, Scene};
-use crate::step::Turn;
+use crate::shut::shut_part;
+use crate::step::TaskPlace;
+use script::{Argument, Command, TaskWord, Word};
 use std::alloc::AllocError;
 use taskq::TaskState;
 
@@ -14,13 +16,24 @@ const MOST_NAMED: usize = 4;
 /// What the machine shows of the task that runs at the end.
 #[derive(Drop)]
 pub struct Running {
-    turn: Turn,
+    turn: TaskPlace,
     /// The tasks that are ready and never ran, as the end of a sentence.
     ready: String,
     /// What of the interrupts may change what the tasks do; nothing if nothing may.
     changers: String,
     /// Whether a task has ended.
     is_one_over: bool,
+}
+
+/// What is said of tasks that run in a loop.
+#[derive(Clone, Copy)]
+struct Looped {
+    /// That they run without end, or may.
+    claim: &'static str,
+    /// How many of the last steps were in the loop.
+    steps: u64,
+    /// What the steps come to.
+    effect: &'static str,
 }
 
 /// Whether a task has ended.
@@ -33,8 +46,16 @@ fn any_ended(machine: &Linked) -> bool {
     })
 }
 
-/// What the steps of a lap come to, which brings the machine back to what it showed.
-fn effect_of(lap: &Lap) -> &'static str {
+/// Whether some code ends another task than the one that runs it.
+fn ends_other(code: &[Command]) -> bool {
+    code.iter().any(|command| {
+        command.word == Word::Tasks(TaskWord::RemTask)
+            && !matches!(command.arguments[0], Argument::Number(0))
+    })
+}
+
+/// What the steps of a lap come to, which brings the machine back to what it showed; of steps that were done, or are the next ones.
+fn effect_of(lap: &Lap, is_done: bool) -> &'static str {
     if lap.stretches.len() > 1 {
         return match (lap.waits, lap.prints) {
             (true, false) => "; they only wake each other, and nothing else changes",
@@ -43,10 +64,13 @@ fn effect_of(lap: &Lap) -> &'static str {
             (false, true) => "; they take turns and print the same again and again",
         };
     }
-    match (lap.has_call, lap.prints) {
-        (false, _) => ", without a call, and changed nothing",
-        (true, false) => ", and changed nothing",
-        (true, true) => ", and printed the same again and again",
+    match (lap.has_call, lap.prints, is_done) {
+        (false, _, true) => ", without a call, and changed nothing",
+        (false, _, false) => ", without a call, and change nothing",
+        (true, false, true) => ", and changed nothing",
+        (true, false, false) => ", and change nothing",
+        (true, true, true) => ", and printed the same again and again",
+        (true, true, false) => ", and print the same again and again",
     }
 }
 
@@ -133,37 +157,81 @@ impl Scene<'_, '_> {
         Ok(text)
     }
 
-    /// Adds that tasks run without end, if that many steps were all in a lap, or else that they may.
+    /// Which steps were in a part of the code, or are: the last ones, that many, or for 0 the next ones.
+    fn steps_text(&self, steps: u64) -> Result<String, AllocError> {
+        match steps {
+            0 => format!(in self.alloc; "the next steps are all"),
+            1 => format!(in self.alloc; "the last step was"),
+            _ => {
+                let steps = grouped(self.alloc, steps)?;
+                format!(in self.alloc; "the last {steps} steps were all")
+            }
+        }
+    }
+
+    /// Adds that tasks run without end, or may, in the parts of the code that a lap has, with what its steps come to.
     fn add_loop<'a>(
         &self,
         page: &mut Page<'a>,
         running: &Running,
         lap: &Lap,
-        sure: Option<u64>,
+        looped: Looped,
     ) -> Result<(), AllocError> {
         let alloc = self.alloc;
-        let effect = match sure {
-            None => "",
-            Some(_) => effect_of(lap),
-        };
-        let steps = grouped(alloc, sure.unwrap_or(RECENT))?;
+        let Looped {
+            claim,
+            steps,
+            effect,
+        } = looped;
+        let steps = self.steps_text(steps)?;
         let parts = self.stretches_text(page, lap)?;
         let (parts, ready) = (parts.as_str(), running.ready.as_str());
-        let changers = running.changers.as_str();
+        let changers = if lap.is_shut {
+            ""
+        } else {
+            running.changers.as_str()
+        };
         let until = if changers.is_empty() {
             String::new(alloc)
         } else {
             format!(in alloc; "; only {changers} may change that")?
         };
-        let claim = claim_of(lap, sure.is_some());
-        let reason = format!(in alloc;
-            "{claim}: the last {steps} steps were all in {parts}{effect}{until}{ready}"
-        )?;
+        let reason = format!(in alloc; "{claim}: {steps} in {parts}{effect}{until}{ready}")?;
         page.warn(running.turn.spot(), "busy", reason.as_str())
     }
 
+    /// Whether other code may end a task.
+    fn may_be_ended(&self, task: usize) -> bool {
+        let file = self.course.file;
+        let mut tasks = file.tasks().iter().enumerate();
+        tasks.any(|(number, other)| number != task && ends_other(&other.code))
+            || file
+                .softints()
+                .iter()
+                .any(|softint| ends_other(&softint.code))
+            || file.servers().iter().any(|server| ends_other(&server.code))
+    }
+
+    /// The part of the code that the running task is in and cannot leave, if it is in one, no task has ended, and no other code ends a task.
+    fn shut_lap(&self, running: &Running) -> Result<Option<Lap>, AllocError> {
+        if running.is_one_over {
+            return Ok(None);
+        }
+        let turn = running.turn;
+        let Some(task) = self.course.file.tasks().get(turn.task) else {
+            return Ok(None);
+        };
+        if self.may_be_ended(turn.task) {
+            return Ok(None);
+        }
+        match shut_part(self.alloc, &task.code, turn)? {
+            None => Ok(None),
+            Some(stretch) => Ok(Some(Lap::shut_in(self.alloc, stretch)?)),
+        }
+    }
+
     /// The command that a task does next or did last, by its place, and which of them it is, in words.
-    fn next_text(&self, turn: Turn) -> Result<(usize, String), AllocError> {
+    fn next_text(&self, turn: TaskPlace) -> Result<(usize, String), AllocError> {
         let before = turn.place.saturating_sub(1);
         let (place, end) = match self.course.command(turn) {
             None => (
@@ -173,7 +241,7 @@ impl Scene<'_, '_> {
             Some(_) if self.course.past(turn).done > 0 => (turn.place, " comes next once more"),
             Some(_) => (turn.place, " comes next"),
         };
-        let text = match self.course.command(Turn { place, ..turn }) {
+        let text = match self.course.command(TaskPlace { place, ..turn }) {
             None => {
                 let text = "its code has no command, and it ends at its next step";
                 String::from_str(self.alloc, text)?
@@ -215,13 +283,29 @@ impl Scene<'_, '_> {
     ) -> Result<(), AllocError> {
         if let Some(lap) = lap {
             let steps = self.steps_in(&lap)?;
-            if steps > 0 {
-                return self.add_loop(page, running, &lap, Some(steps));
-            }
+            let looped = Looped {
+                claim: claim_of(&lap, true),
+                steps,
+                effect: effect_of(&lap, steps > 0),
+            };
+            return self.add_loop(page, running, &lap, looped);
+        }
+        if let Some(lap) = self.shut_lap(running)? {
+            let looped = Looped {
+                claim: claim_of(&lap, true),
+                steps: self.steps_in(&lap)?,
+                effect: "; no line leads out of there",
+            };
+            return self.add_loop(page, running, &lap, looped);
         }
         if self.course.stale_steps() >= RECENT {
             let lap = self.recent_lap()?;
-            return self.add_loop(page, running, &lap, None);
+            let looped = Looped {
+                claim: claim_of(&lap, false),
+                steps: RECENT,
+                effect: "",
+            };
+            return self.add_loop(page, running, &lap, looped);
         }
         self.add_early_end(page, running)
     }

@@ -17,7 +17,7 @@ pub const END: Word = Word::Tasks(TaskWord::RemTask);
 
 /// What was done, and when.
 #[derive(Clone, Copy)]
-pub struct Deed {
+pub struct Act {
     /// The command that did it; none if it was the timer.
     pub spot: Option<Spot>,
     /// The number of the step, tick or request in which it was.
@@ -27,26 +27,26 @@ pub struct Deed {
 /// The last time that a signal came to a task.
 #[derive(Clone, Copy)]
 pub struct Came {
-    pub sent: Deed,
+    pub sent: Act,
     /// The command of the task that has cleared it since.
-    pub gone: Option<Deed>,
+    pub gone: Option<Act>,
 }
 
 /// What is noted of what was sent.
 #[derive(Drop)]
 pub struct Sends {
-    /// The last time that a signal came to a task, by both.
-    signals: HashMap<usize, Came>,
+    /// The last time that each signal came to each task.
+    signals: Vec<Option<Came>>,
     /// Which signals came to each task and were not cleared.
     kept: Vec<u32>,
     /// The task to which each signal came last.
     aims: Vec<Option<usize>>,
     /// What has put a message, or the reply of a request, into a port.
-    pub puts: HashMap<u32, Deed>,
+    pub puts: HashMap<u32, Act>,
     /// When each task ended; 0 if it did not.
     pub ended: Vec<u64>,
     /// What was sent to each task after its end.
-    pub late: Vec<Option<Deed>>,
+    pub late: Vec<Option<Act>>,
     /// Whether nothing was lost when memory was refused.
     pub is_whole: bool,
 }
@@ -84,19 +84,25 @@ pub(crate) fn is_clearing(word: Word) -> bool {
     )
 }
 
-/// A field of a line, from 0; none if it has not so many.
-pub(crate) fn field_in(line: &str, number: usize) -> &str {
-    for (i, field) in line.split(' ').enumerate() {
-        if i == number {
-            return field;
-        }
-    }
-    ""
+/// Whether a word may let the timer finish requests, which its own line does not say.
+pub(crate) fn may_finish(word: Word) -> bool {
+    matches!(
+        word,
+        Word::Requests(RequestWord::DoIO | RequestWord::SendIO)
+    )
+}
+
+/// The signal after the last one of a mask.
+fn end_of(mask: u32) -> u32 {
+    SIGNALS.saturating_sub(mask.leading_zeros())
 }
 
 /// The number that a field of a line is, or 0.
-pub(crate) fn number_in(line: &str, number: usize) -> u32 {
-    number_of(field_in(line, number).as_bytes()).unwrap_or(0)
+pub(crate) fn number_in(field: Option<&str>) -> u32 {
+    match field {
+        None => 0,
+        Some(field) => number_of(field.as_bytes()).unwrap_or(0),
+    }
 }
 
 /// The place of what is noted of a signal of a task.
@@ -109,7 +115,7 @@ impl Sends {
     /// Nothing is noted of that many tasks.
     pub(crate) fn new(alloc: Global, count: usize) -> Result<Sends, AllocError> {
         Ok(Sends {
-            signals: HashMap::new(alloc),
+            signals: vec![in alloc; None; count.saturating_mul(SIGNALS as usize)]?,
             kept: vec![in alloc; 0u32; count]?,
             aims: vec![in alloc; None; SIGNALS as usize]?,
             puts: HashMap::new(alloc),
@@ -121,7 +127,7 @@ impl Sends {
 
     /// The last time that a signal came to a task, if it did.
     pub(crate) fn came(&self, task: usize, signal: u32) -> Option<Came> {
-        self.signals.get(&key(task, signal)).copied()
+        *self.signals.get(key(task, signal))?
     }
 
     /// The task to which a signal came last.
@@ -131,13 +137,13 @@ impl Sends {
 
     /// Notes that a signal came to a task, or was cleared.
     fn set(&mut self, task: usize, signal: u32, came: Came) {
-        if self.signals.insert(key(task, signal), came).is_err() {
-            self.is_whole = false;
+        if let Some(last) = self.signals.get_mut(key(task, signal)) {
+            *last = Some(came);
         }
     }
 
     /// Notes that a signal came to a task.
-    fn add(&mut self, task: usize, signal: u32, deed: Deed) {
+    fn add(&mut self, task: usize, signal: u32, deed: Act) {
         self.set(
             task,
             signal,
@@ -152,14 +158,14 @@ impl Sends {
     }
 
     /// Notes that signals were sent to a task.
-    fn come(&mut self, machine: &Linked, task: usize, mask: u32, deed: Deed) {
+    fn come(&mut self, machine: &Linked, task: usize, mask: u32, deed: Act) {
         if is_over(machine, task) {
             if let Some(late) = self.late.get_mut(task) {
                 *late = Some(deed);
             }
             return;
         }
-        for signal in 0..SIGNALS {
+        for signal in mask.trailing_zeros()..end_of(mask) {
             if mask & mask_of(signal) != 0 {
                 self.add(task, signal, deed);
             }
@@ -170,14 +176,14 @@ impl Sends {
     }
 
     /// Notes that a task has given itself signals.
-    fn set_own(&mut self, machine: &Linked, mask: u32, deed: Deed) {
+    fn set_own(&mut self, machine: &Linked, mask: u32, deed: Act) {
         if let Some(task) = deed.spot.and_then(|spot| spot.task()) {
             self.come(machine, task, mask, deed);
         }
     }
 
     /// Notes that a message, or the reply of a request, was put into the port that has it.
-    pub(crate) fn put(&mut self, machine: &Linked, message: u32, deed: Deed) {
+    pub(crate) fn put(&mut self, machine: &Linked, message: u32, deed: Act) {
         let Some(address) = machine.port_with(message) else {
             return;
         };
@@ -192,7 +198,7 @@ impl Sends {
     }
 
     /// Notes that a task has ended, if it has: that of a number, or for 0 the one whose command it was.
-    fn end(&mut self, machine: &Linked, number: u32, deed: Deed) {
+    fn end(&mut self, machine: &Linked, number: u32, deed: Act) {
         let own = deed.spot.and_then(|spot| spot.task());
         let task = match (number, own) {
             (0, None) => return,
@@ -207,7 +213,7 @@ impl Sends {
     }
 
     /// Notes a call of a word that sends, with its first two arguments.
-    pub(crate) fn note(&mut self, machine: &Linked, word: Word, values: (u32, u32), deed: Deed) {
+    pub(crate) fn note(&mut self, machine: &Linked, word: Word, values: (u32, u32), deed: Act) {
         let (first, second) = values;
         match word {
             Word::Signals(SignalWord::SetSignal) => self.set_own(machine, first & second, deed),
@@ -221,7 +227,7 @@ impl Sends {
     }
 
     /// Notes that a command has cleared a signal that came, unless one did before.
-    fn take(&mut self, task: usize, signal: u32, deed: Deed) {
+    fn take(&mut self, task: usize, signal: u32, deed: Act) {
         if let Some(came) = self.came(task, signal) {
             self.set(
                 task,
@@ -235,7 +241,7 @@ impl Sends {
     }
 
     /// Notes which of the signals that came to a task its command has cleared.
-    pub(crate) fn clear(&mut self, machine: &Linked, task: usize, deed: Deed) {
+    pub(crate) fn clear(&mut self, machine: &Linked, task: usize, deed: Act) {
         let received = machine.task(task).map_or(0, |view| view.received);
         let kept = self.kept.get(task).copied().unwrap_or(0);
         let cleared = kept & !received;
@@ -245,7 +251,7 @@ impl Sends {
         if let Some(kept) = self.kept.get_mut(task) {
             *kept &= received;
         }
-        for signal in 0..SIGNALS {
+        for signal in cleared.trailing_zeros()..end_of(cleared) {
             if cleared & mask_of(signal) != 0 {
                 self.take(task, signal, deed);
             }

@@ -23,16 +23,33 @@ pub struct Site {
 
 /// What is about to be done: the next command of a task.
 #[derive(Clone, Copy, PartialEq, Eq)]
-pub struct Turn {
+pub struct TaskPlace {
     pub task: usize,
     pub place: usize,
 }
 
-impl Turn {
+impl TaskPlace {
     /// That command.
     pub fn spot(self) -> Spot {
         Spot::of_task(self.task, self.place)
     }
+}
+
+/// What is noted of a call that a task has done, beside when that was.
+#[derive(Clone, Copy)]
+pub struct Marks {
+    /// Whether it frees the object or the block that its first argument names.
+    pub frees: bool,
+    /// Whether it closes the library or the request that its first argument names.
+    pub closes: bool,
+    /// Whether it may clear signals of its task.
+    pub clears: bool,
+    /// Whether it may fail, so that the cause is asked.
+    pub fails: bool,
+    /// Whether it sends, or ends a task.
+    pub sends: bool,
+    /// Whether only the text of its step says all that it has sent.
+    pub is_read: bool,
 }
 
 /// When something was done, in words.

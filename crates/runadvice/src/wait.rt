@@ -1,7 +1,7 @@
 //! What a task waits for, as the machine shows it.
 use crate::argument::owner_at;
 use crate::scene::Linked;
-use crate::step::Turn;
+use crate::step::TaskPlace;
 use script::{PortWord, RequestWord, Word};
 use std::alloc::{AllocError, Global};
 use taskq::{TaskState, Why};
@@ -23,7 +23,7 @@ pub enum Awaited {
 #[derive(Clone, Copy)]
 pub struct Waiter {
     /// Its call.
-    pub turn: Turn,
+    pub turn: TaskPlace,
     pub awaited: Awaited,
     /// The signals that it has received and does not wait for.
     pub received: u32,
@@ -50,7 +50,7 @@ pub fn wait_of(machine: &Linked, task: usize) -> Option<Waiter> {
     };
     let call = machine.call(task)?;
     Some(Waiter {
-        turn: Turn {
+        turn: TaskPlace {
             task,
             place: view.place,
         },

@@ -1,5 +1,6 @@
 //! What is said of each task that waits when the events end.
 use crate::argument::{counted, grouped, port_at, request_at};
+use crate::memory::{Block, blocks_of};
 use crate::page::Page;
 use crate::scene::{Linked, Scene};
 use crate::wait::{Awaited, Waiter, awaited_text, owner_awaited, wait_of};
@@ -50,13 +51,8 @@ impl Verdict {
     }
 }
 
-/// Why no message and no reply wakes a task that waits at a port, if none does.
-fn mute_text(machine: &Linked, awaited: Awaited) -> &'static str {
-    let port = match awaited {
-        Awaited::Message(port) => port,
-        Awaited::Request(request) => request_at(machine, request).map_or(0, |one| one.port),
-        _ => 0,
-    };
+/// Why no message and no reply at a port wakes a task, if none does.
+fn mute_text(machine: &Linked, port: u32) -> &'static str {
     match port_at(machine, port).map_or(PortAction::Signal, |port| port.action) {
         PortAction::Signal => "",
         PortAction::Ignore => "; PortIgnore has set its port to wake nobody",
@@ -144,6 +140,21 @@ impl Scene<'_, '_> {
         }
     }
 
+    /// The port at which a message or a reply would end a wait: that of the call, of its request, or of an awaited signal; 0 if there is none.
+    fn port_of(&self, waiter: &Waiter, blocks: &[Block]) -> Result<u32, AllocError> {
+        Ok(match waiter.awaited {
+            Awaited::Message(port) => port,
+            Awaited::Request(request) => {
+                request_at(self.machine, request).map_or(0, |one| one.port)
+            }
+            _ => self
+                .awaited_ports(waiter, blocks)?
+                .get(0)
+                .copied()
+                .unwrap_or(0),
+        })
+    }
+
     /// Of a wait for a semaphore.
     fn of_semaphore(&self, waiter: &Waiter) -> Result<Verdict, AllocError> {
         let Some(owner) = owner_awaited(self.machine, waiter.turn.task) else {
@@ -206,6 +217,7 @@ impl Scene<'_, '_> {
         page: &mut Page<'a>,
         waiter: &Waiter,
         wakers: &str,
+        blocks: &[Block],
     ) -> Result<(), AllocError> {
         let alloc = self.alloc;
         let verdict = match waiter.awaited {
@@ -215,12 +227,15 @@ impl Scene<'_, '_> {
         let awaited = awaited_text(alloc, waiter.awaited)?;
         let lost = self.lost_text(page, waiter)?;
         let why = self.why_text(waiter, verdict.end.as_str())?;
-        let (verb, mute) = (
-            verb_of(verdict.level),
-            mute_text(self.machine, waiter.awaited),
-        );
+        let verb = verb_of(verdict.level);
+        let mute = mute_text(self.machine, self.port_of(waiter, blocks)?);
+        let unsent = if self.is_idle() && wakers.is_empty() && lost.is_none() {
+            self.unsent_text(waiter, blocks)?
+        } else {
+            String::new(alloc)
+        };
         let text = words_of(&lost);
-        let reason = format!(in alloc; "{verb} {awaited}{mute}{text}{why}")?;
+        let reason = format!(in alloc; "{verb} {awaited}{mute}{text}{unsent}{why}")?;
         let grade = (severity_of(verdict.level), rule_of(&lost, verdict.rule));
         let mut found = page.finding(waiter.turn.spot(), None, grade, reason.as_str())?;
         relate_lost(page, &mut found, &lost)?;
@@ -235,12 +250,14 @@ impl Scene<'_, '_> {
         waiter: &Waiter,
         wakers: &str,
         ports: &[Unread],
+        ties: &[Option<usize>],
+        blocks: &[Block],
     ) -> Result<(), AllocError> {
-        if let Some(circle) = self.circle_of(waiter.turn.task)? {
+        if let Some(circle) = self.circle_of(waiter.turn.task, ties)? {
             return self.add_deadlock(page, &circle, waiter);
         }
         match unread_by(waiter, ports) {
-            None => self.add_waiter(page, waiter, wakers),
+            None => self.add_waiter(page, waiter, wakers, blocks),
             Some(port) => self.add_unread(page, waiter.turn, port),
         }
     }
@@ -253,9 +270,11 @@ impl Scene<'_, '_> {
             String::new(self.alloc)
         };
         let ports = unread_ports(self.alloc, self.machine)?;
+        let ties = self.ties(&ports)?;
+        let blocks = blocks_of(self.alloc, self.machine)?;
         for task in 0..self.machine.view().tasks {
             if let Some(waiter) = wait_of(self.machine, task) {
-                self.add_wait(page, &waiter, wakers.as_str(), &ports)?;
+                self.add_wait(page, &waiter, wakers.as_str(), &ports, &ties, &blocks)?;
             }
         }
         self.add_lates(page)

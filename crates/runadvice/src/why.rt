@@ -5,8 +5,8 @@ use crate::memory::blocks_of;
 use crate::origin::kind_of_owner;
 use crate::page::{Page, Spot, name_of};
 use crate::scene::{Linked, Scene};
-use crate::sends::{Came, Deed, mask_of};
-use crate::step::Turn;
+use crate::sends::{Act, Came, mask_of};
+use crate::step::TaskPlace;
 use crate::wait::{Awaited, Waiter};
 use execadvice::Severity;
 use execsim::ObjectView;
@@ -69,7 +69,7 @@ pub(crate) fn unread_by(waiter: &Waiter, ports: &[Unread]) -> Option<Unread> {
 }
 
 /// Some signals in words.
-fn mask_text(alloc: Global, mask: u32) -> Result<String, AllocError> {
+pub(crate) fn mask_text(alloc: Global, mask: u32) -> Result<String, AllocError> {
     if mask.count_ones() == 1 {
         let signal = mask.trailing_zeros();
         return format!(in alloc; "{signal}");
@@ -88,7 +88,7 @@ fn received_text(alloc: Global, waiter: &Waiter) -> Result<String, AllocError> {
 
 impl Scene<'_, '_> {
     /// Who did something.
-    fn who_text(&self, deed: Deed) -> Result<String, AllocError> {
+    fn who_text(&self, deed: Act) -> Result<String, AllocError> {
         let Some(spot) = deed.spot else {
             return format!(in self.alloc; "the timer");
         };
@@ -101,17 +101,17 @@ impl Scene<'_, '_> {
     }
 
     /// The word of a command that was done.
-    fn word_of(&self, deed: Deed) -> Option<Word> {
+    pub(crate) fn word_of(&self, deed: Act) -> Option<Word> {
         Some(command_at(self.course.file, deed.spot?)?.word)
     }
 
     /// Whether something was done by the word Signal.
-    fn is_signal(&self, deed: Deed) -> bool {
+    fn is_signal(&self, deed: Act) -> bool {
         self.word_of(deed) == Some(Word::Signals(SignalWord::Signal))
     }
 
     /// The line of a command that was done; nothing if it was the timer.
-    fn line_text(&self, page: &Page<'_>, deed: Deed) -> Result<String, AllocError> {
+    fn line_text(&self, page: &Page<'_>, deed: Act) -> Result<String, AllocError> {
         match deed.spot {
             None => Ok(String::new(self.alloc)),
             Some(spot) => {
@@ -122,7 +122,7 @@ impl Scene<'_, '_> {
     }
 
     /// The name of a public port, if a task has given it one by AddPort.
-    fn port_name(&self, port: u32) -> Option<&str> {
+    pub(crate) fn port_name(&self, port: u32) -> Option<&str> {
         for task in self.course.file.tasks() {
             for command in task.code.iter() {
                 let name = command.name.as_str();
@@ -137,7 +137,7 @@ impl Scene<'_, '_> {
     }
 
     /// A port in words.
-    fn port_text(&self, port: u32) -> Result<String, AllocError> {
+    pub(crate) fn port_text(&self, port: u32) -> Result<String, AllocError> {
         match self.port_name(port) {
             None => format!(in self.alloc; "${port:08X}"),
             Some(name) => format!(in self.alloc; "\"{name}\""),
@@ -160,7 +160,7 @@ impl Scene<'_, '_> {
     pub(crate) fn add_unread<'a>(
         &self,
         page: &mut Page<'a>,
-        turn: Turn,
+        turn: TaskPlace,
         port: Unread,
     ) -> Result<(), AllocError> {
         let (signal, message) = (port.signal, port.message);
@@ -184,14 +184,14 @@ impl Scene<'_, '_> {
 
     /// Whether a signal that a command has cleared is missing where its task waits: the wait itself has not taken it, and where tasks still run no
     /// other wait has, as in a task that waits in turn at several lines.
-    fn is_lost(&self, turn: Turn, gone: Deed) -> bool {
+    fn is_lost(&self, turn: TaskPlace, gone: Act) -> bool {
         let is_cleared = self.word_of(gone) == Some(Word::Signals(SignalWord::SetSignal));
         gone.spot != Some(turn.spot()) && (is_cleared || self.is_idle())
     }
 
     /// The signal of a mask that a task has received and another of its commands has cleared, the last if there are several.
-    fn lost(&self, turn: Turn, mask: u32) -> Option<(u32, Came, Deed)> {
-        let mut last: Option<(u32, Came, Deed)> = None;
+    pub(crate) fn lost(&self, turn: TaskPlace, mask: u32) -> Option<(u32, Came, Act)> {
+        let mut last: Option<(u32, Came, Act)> = None;
         for signal in 0..32 {
             if mask & mask_of(signal) != 0 {
                 if let Some(came) = self.course.sends.came(turn.task, signal) {
@@ -238,8 +238,8 @@ impl Scene<'_, '_> {
     }
 
     /// Of some signals of a task the one that came last.
-    fn last(&self, task: usize, mask: u32) -> Option<(u32, Deed)> {
-        let mut last: Option<(u32, Deed)> = None;
+    fn last(&self, task: usize, mask: u32) -> Option<(u32, Act)> {
+        let mut last: Option<(u32, Act)> = None;
         for signal in 0..32 {
             if mask & mask_of(signal) != 0 {
                 if let Some(came) = self.course.sends.came(task, signal) {
@@ -255,7 +255,7 @@ impl Scene<'_, '_> {
     }
 
     /// That a signal was sent, as a part of a sentence.
-    fn sent_text(&self, signal: u32, deed: Deed) -> Result<String, AllocError> {
+    fn sent_text(&self, signal: u32, deed: Act) -> Result<String, AllocError> {
         let (who, moment) = (self.who_text(deed)?, deed.moment);
         if self.is_signal(deed) {
             return format!(in self.alloc; "; {who} sent signal {signal} at step {moment}");
@@ -264,7 +264,7 @@ impl Scene<'_, '_> {
     }
 
     /// The first signal of a mask that was last sent to another task, which has it still, and that task; none while tasks still run, which may take it.
-    fn astray(&self, turn: Turn, mask: u32) -> Option<(u32, Deed, usize)> {
+    fn astray(&self, turn: TaskPlace, mask: u32) -> Option<(u32, Act, usize)> {
         if !self.is_idle() {
             return None;
         }
@@ -282,7 +282,12 @@ impl Scene<'_, '_> {
     }
 
     /// Which other signal came, or to which other task, as a part of a sentence; nothing if that is not known.
-    fn other_text(&self, turn: Turn, mask: u32, received: u32) -> Result<String, AllocError> {
+    pub(crate) fn other_text(
+        &self,
+        turn: TaskPlace,
+        mask: u32,
+        received: u32,
+    ) -> Result<String, AllocError> {
         if let Some((signal, deed)) = self.last(turn.task, received & !mask) {
             let (sent, wanted) = (self.sent_text(signal, deed)?, mask_text(self.alloc, mask)?);
             return format!(in self.alloc; "{sent}; this Wait is for {wanted}");
@@ -314,7 +319,7 @@ impl Scene<'_, '_> {
     }
 
     /// Adds that something was sent to a task that had ended.
-    fn add_late<'a>(&self, page: &mut Page<'a>, task: usize, deed: Deed) -> Result<(), AllocError> {
+    fn add_late<'a>(&self, page: &mut Page<'a>, task: usize, deed: Act) -> Result<(), AllocError> {
         let Some(spot) = deed.spot else {
             return Ok(());
         };

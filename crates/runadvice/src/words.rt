@@ -212,7 +212,9 @@ fn list_row(word: ListWord) -> Row {
             Row::of(&[LIST, NODE]).or(Flaw::LinkedNode(1))
         }
         ListWord::Insert => Row::of(&[LIST, NODE, NODE]).or_none(2).or(Flaw::Place),
-        ListWord::Remove => Row::of(&[NODE]).said("is a node that is in no list"),
+        ListWord::Remove => {
+            Row::of(&[NODE]).said("is a node that is in no list, so nothing has to be removed")
+        }
         ListWord::RemHead | ListWord::RemTail | ListWord::First | ListWord::Last => {
             Row::of(&[LIST]).zero(EMPTY)
         }
@@ -295,7 +297,7 @@ fn semaphore_row(word: SemaphoreWord) -> Row {
 fn library_row(word: LibraryWord) -> Row {
     match word {
         LibraryWord::OpenLibrary => Row::of(&[]).zero(
-            ", since no library has that name in that version, or no memory fitted",
+            ", because no library has that name in that version, or no gap was large enough",
         ),
         LibraryWord::CloseLibrary => Row::of(&[BASE]).or_none(0).freeing(),
         LibraryWord::RemLibrary => Row::of(&[BASE]).freeing(),
@@ -338,6 +340,29 @@ pub fn row_of(word: Word) -> Row {
         Word::Semaphores(word) => semaphore_row(word),
         Word::Libraries(word) => library_row(word),
         Word::Requests(word) => request_row(word),
+    }
+}
+
+/// Which words return the address of an object of that kind; nothing if it is no such kind.
+fn makers_of_kind(kind: &str) -> &'static str {
+    match kind {
+        "a list" => "NewList returns the address of one",
+        "a node" => "NewNode returns the address of one",
+        "a list or a node" => "NewList and NewNode return the address of one",
+        "a port" => "CreateMsgPort and FindPort return the address of one",
+        "a message" => "NewMsg, GetMsg and WaitPort return the address of one",
+        "a semaphore" => "NewSem returns the address of one",
+        "a timer request" => "CreateIORequest returns the address of one",
+        "the base of a loaded library" => "OpenLibrary returns it",
+        _ => "",
+    }
+}
+
+/// Which words return what an argument has to name; nothing if it is no object.
+pub(crate) fn makers_of(wanted: Wanted) -> &'static str {
+    match wanted {
+        Wanted::Object(kind) => makers_of_kind(kind),
+        _ => "",
     }
 }
 

@@ -1,6 +1,6 @@
-//! Tables of mistakes: texts that are checked, each with the answer that the checker has to give. A table has machine files,
-//! `NAME.machines`, event texts, `NAME.events`, or both texts of a run, `NAME.endings`. It begins with a comment, and then has for each
-//! text, after an empty line,
+//! Tables of mistakes: texts that are checked, each with the answer that the checker has to give. A table has machine
+//! files, `NAME.machines`, event texts, `NAME.events`, or both texts of a run, `NAME.endings`. It begins with a
+//! comment, and then has for each text, after an empty line,
 //!
 //! ```text
 //! == what is wrong

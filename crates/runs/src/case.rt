@@ -47,7 +47,8 @@ fn print_difference(
     Ok(())
 }
 
-/// Whether the program comes to what is wanted of it on list spaces of the type S. If it does not, the first difference is printed.
+/// Whether the program comes to what is wanted of it on list spaces of the type S. If it does not, the first difference
+/// is printed.
 fn is_met<S: ListSpace>(rt: &HostRuntime, table: &str, case: &Case<'_>) -> io::Result<bool>
     ensures { IfOk result (λ same. same ≡ true
         → IsOutcome (file_of case.now.machine.now) (script_of case.now.events.now) case.now.status case.now.written.now) }
@@ -60,8 +61,8 @@ fn is_met<S: ListSpace>(rt: &HostRuntime, table: &str, case: &Case<'_>) -> io::R
     Ok(false)
 }
 
-/// Whether the program comes to what is wanted of it, on lists in vectors and on linked cells: then both write the same bytes. If it
-/// does not, the first difference is printed.
+/// Whether the program comes to what is wanted of it, on lists in vectors and on linked cells: then both write the same
+/// bytes. If it does not, the first difference is printed.
 ///
 /// # Errors
 ///
@@ -91,8 +92,8 @@ fn names_version(machine: &str) -> bool {
     false
 }
 
-/// Compares a run, and once more with `version = 1` before the machine file if it names no version: that is the version of such a file. The
-/// second time it is made on linked cells alone, as the program makes it.
+/// Compares a run, and once more with `version = 1` before the machine file if it names no version: that is the version
+/// of such a file. The second time it is made on linked cells alone, as the program makes it.
 ///
 /// # Errors
 ///

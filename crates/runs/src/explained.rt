@@ -41,14 +41,28 @@ fn is_as_said(
     Ok(false)
 }
 
+/// Compares what is found in the texts of an example, if there is one, with whether they are to have it.
+fn compare_example(
+    rt: &HostRuntime,
+    name: &str,
+    example: Option<Example>,
+    has: bool,
+    which: &str,
+) -> io::Result<Tally> {
+    match example {
+        None => Ok(Tally::none()),
+        Some(example) => Ok(Tally::of_one(is_as_said(rt, name, &example, has, which)?)),
+    }
+}
+
 /// Compares what is found in the texts of each section with what it says of them.
 pub(crate) fn compare_sections(rt: &HostRuntime) -> io::Result<Tally> {
     let mut tally = Tally::none();
     for section in &sections(rt.alloc())? {
         let name = section.name;
-        let first = is_as_said(rt, name, &section.shows, true, "first")?;
-        let second = is_as_said(rt, name, &section.mended, false, "second")?;
-        tally = tally.with(Tally::of_one(first)).with(Tally::of_one(second));
+        let first = compare_example(rt, name, section.shows, true, "first")?;
+        let second = compare_example(rt, name, section.mended, false, "second")?;
+        tally = tally.with(first).with(second);
     }
     Ok(tally)
 }

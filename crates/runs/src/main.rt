@@ -1,16 +1,17 @@
 //! Makes whole runs of the simulator and whole answers of the checker, and compares each with what is in its data.
 //!
-//! Each argument is a table of runs, `NAME.runs`, a table of mistakes, `NAME.machines`, `NAME.events` or `NAME.endings`, or an example, of
-//! which `NAME.toml`, `NAME.events` and `NAME.trace` are beside each other; `sections` is what `execcheck --explain` prints.
+//! Each argument is a table of runs, `NAME.runs`, a table of mistakes, `NAME.machines`, `NAME.events` or
+//! `NAME.endings`, or an example, of which `NAME.toml`, `NAME.events` and `NAME.trace` are beside each other;
+//! `sections` is what `execcheck --explain` prints.
 //!
-//! Where the first argument is `grow`, it makes a part of a machine instead, or a machine, whose allocations are to be refused. If it is
-//! `words`, it prints what a line may have beside each word that the other arguments name.
+//! Where the first argument is `allocate`, it makes a part of a machine instead, or a machine, whose allocations are to
+//! be refused. If it is `words`, it prints what a line may have beside each word that the other arguments name.
 #![tactic(auto)]
 
 mod advice;
+mod allocations;
 mod case;
 mod explained;
-mod growing;
 mod outcome;
 mod part;
 mod run;
@@ -69,10 +70,11 @@ fn compare(rt: &HostRuntime, name: &str) -> io::Result<Tally> {
     compare_example(rt, name)
 }
 
-/// Prints a line for each argument, with how many it compares, and a last line with how many there are. The status is 1 if one differs.
+/// Prints a line for each argument, with how many it compares, and a last line with how many there are. The status is 1
+/// if one differs.
 fn main(rt: HostRuntime) -> io::Result<ExitCode> {
-    if growing::is_asked(&rt) {
-        return Ok(growing::grow(&rt));
+    if allocations::is_asked(&rt) {
+        return Ok(allocations::allocate(&rt));
     }
     if words::is_requested(&rt)? {
         return words::print_rows(&rt);

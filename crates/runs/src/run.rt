@@ -16,7 +16,8 @@ pub struct Run {
     pub end: End,
 }
 
-/// Runs the machine of a machine file over the events of an event text, on list spaces of the type S, and keeps the whole trace.
+/// Runs the machine of a machine file over the events of an event text, on list spaces of the type S, and keeps the
+/// whole trace.
 ///
 /// # Errors
 ///

@@ -11,8 +11,9 @@
 //! a part of the texts => a part of what is written
 //! ```
 //!
-//! The last section may lack. Where it is, the run is made once with each of its lines: the machine file or the event text has
-//! `{}` at the place of the line's first part, and what is written has it at that of the second, or has no place.
+//! The last section may lack. Where it is, the run is made once with each of its lines: the machine file or the event
+//! text has `{}` at the place of the line's first part, and what is written has it at that of the second, or has no
+//! place.
 use crate::case::{Case, compare_run};
 use crate::tally::Tally;
 use std::alloc::{AllocError, Global};

@@ -1,5 +1,5 @@
-//! Prints what a line may have beside a word. After the argument `words` each argument is the text of a word; its row has the text,
-//! `answers` or `silent`, and the kinds of the word's arguments from left to right.
+//! Prints what a line may have beside a word. After the argument `words` each argument is the text of a word; its row
+//! has the text, `answers` or `silent`, and the kinds of the word's arguments from left to right.
 use script::{Kind, Word, word_of};
 use std::process::ExitCode;
 use std::{env, io};
@@ -38,7 +38,8 @@ pub(crate) fn is_requested(rt: &HostRuntime) -> io::Result<bool> {
     }
 }
 
-/// Prints the row of each word whose text is an argument. The status is 1 if a text is no word's; it is named, and nothing is printed after.
+/// Prints the row of each word whose text is an argument. The status is 1 if a text is not a word's; it is named, and
+/// nothing is printed after.
 pub(crate) fn print_rows(rt: &HostRuntime) -> io::Result<ExitCode> {
     for text in env::args(rt)?.skip(2) {
         let text = text.as_str();

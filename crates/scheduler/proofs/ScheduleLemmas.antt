@@ -1,14 +1,14 @@
 -- What follows from a schedule's being sound, and the schedules that calls on the tasks lead to.
 use Rattle.std.proofs.Common.{◌≡◌, ◌≢◌, ℕ, ◌<◌, zero, suc, Bool, true, false, cond, List, [], ◌∷◌, Option, Some, None, IfSome, length, slice_set, refl, sym, ap, ◌∙◌, arith, ℤ, eq-eqb}
 use Rattle.std.proofs.lemmas.List.{set-get_or}
-use Rattle.execlist.specs.{Order.enqueue, Order.first, Order.without, Lists.times, Disciplines.pri_at, Disciplines.by_priority}
+use Rattle.execlist.specs.{Order.enqueue, Order.first, Order.without_item, Lists.times, Disciplines.pri_at, Disciplines.by_priority}
 use Rattle.taskq.specs.declared.TaskState.TheVariants.{Absent, Ready, Running, Waiting, Removed}
 use Rattle.taskq.specs.{Tasks.Tasks, Tasks.state_at, Tasks.is_ready, declared.TaskState.TaskState, declared.Why.TheVariants.Signals, declared.Why.TheVariants.Sem}
 use Rattle.execlist.proofs.PlainLemmas.{without_fresh}
 use Rattle.signals.specs.Signals.{SignalSets}
 use Rattle.forbid.specs.Nesting.{Nesting}
-use Rattle.scheduler.specs.Schedule.{Schedule, status_of, switch_for, begins, waits_for, waits_at_semaphore, leaves, departs, removed, with_priority}
-use Rattle.scheduler.specs.{declared.Switch.Switch, declared.Switch.TheVariants.To, Dispatch.arrives, Dispatch.switch_of, Dispatch.displaced, Dispatch.after_switch, Dispatch.rescheduled, Dispatch.reprioritized, Sound.IsSound, Sound.IsToReady, Sound.is_running, Sound.is_task}
+use Rattle.scheduler.specs.Schedule.{Schedule, status_of, switch_for, begins, waits_for, waits_at_semaphore, leaves, departs, task_removed, with_priority}
+use Rattle.scheduler.specs.{declared.Switch.Switch, declared.Switch.TheVariants.To, Dispatch.arrives, Dispatch.switch_of, Dispatch.displaced, Dispatch.after_switch, Dispatch.rescheduled, Dispatch.reprioritized, Sound.IsSoundSchedule, Sound.IsToReady, Sound.is_running, Sound.is_task}
 
 -- ---- the running task
 
@@ -28,26 +28,26 @@ runs Removed e = cc
 
 -- the running task passes that test
 is_running-runner : (states : List TaskState) (running : Option ℕ) (signals : List SignalSets) (nestings : List Nesting) (r : ℕ)
-    → IsSound states running signals nestings → running ≡ Some r → is_running (state_at states r) ≡ true
+    → IsSoundSchedule states running signals nestings → running ≡ Some r → is_running (state_at states r) ≡ true
 is_running-runner states running signals nestings r sound e =
     sound.one_runs r ∙ ap (λ o. is_task o r) e ∙ eq-eqb r r refl
 
 -- the running task is in the state of running
 pub runner_runs : (states : List TaskState) (running : Option ℕ) (signals : List SignalSets) (nestings : List Nesting) (r : ℕ)
-    → IsSound states running signals nestings → running ≡ Some r → state_at states r ≡ Running
+    → IsSoundSchedule states running signals nestings → running ≡ Some r → state_at states r ≡ Running
 runner_runs states running signals nestings r sound e =
     runs (state_at states r) (is_running-runner states running signals nestings r sound e)
 
 -- the running task is one of the file
 pub runner_known : (states : List TaskState) (running : Option ℕ) (signals : List SignalSets) (nestings : List Nesting) (r : ℕ)
-    → IsSound states running signals nestings → running ≡ Some r → r < length states
+    → IsSoundSchedule states running signals nestings → running ≡ Some r → r < length states
 runner_known states running signals nestings r sound e =
     let runs = runner_runs states running signals nestings r sound e in
     is_known states r (λ absent. cc)
 
 -- the running task, if any, is one of the file
 pub running_known : (states : List TaskState) (running : Option ℕ) (signals : List SignalSets) (nestings : List Nesting)
-    → IsSound states running signals nestings → IfSome running (λ t. t < length states)
+    → IsSoundSchedule states running signals nestings → IfSome running (λ t. t < length states)
 running_known states None signals nestings sound = tt
 running_known states (Some r) signals nestings sound = runner_known states (Some r) signals nestings r sound refl
 
@@ -107,7 +107,7 @@ arrived s q t a b c d = ap (λ queue. record s { queue = queue }) (tasks_are q _
 
 -- the tasks with t running, and a full quantum
 pub begun : (s : Schedule) (q : Tasks) (t : ℕ)
-    → q.ready ≡ without t s.queue.ready → q.states ≡ slice_set s.queue.states t Running
+    → q.ready ≡ without_item t s.queue.ready → q.states ≡ slice_set s.queue.states t Running
     → q.pris ≡ s.queue.pris → q.names ≡ s.queue.names
     → record s { queue = q; running = Some t; left = s.quantum; idle = false } ≡ begins t s
 unfolding begins
@@ -141,7 +141,7 @@ displaced_is s q r e put_back =
 -- the tasks with the running one removed: it was not among the ready ones
 pub retired : (s : Schedule) (q : Tasks) (t : ℕ) → state_at s.queue.states t ≡ Running
     → times t s.queue.ready ≡ cond (is_ready (state_at s.queue.states t)) 1 0
-    → q.ready ≡ without t s.queue.ready → q.states ≡ slice_set s.queue.states t Removed
+    → q.ready ≡ without_item t s.queue.ready → q.states ≡ slice_set s.queue.states t Removed
     → q.pris ≡ s.queue.pris → q.names ≡ s.queue.names
     → record s { queue = q; running = None } ≡ leaves t s
 unfolding leaves
@@ -151,9 +151,9 @@ retired s q t running once a b c d =
 
 -- the tasks with t removed
 pub removed_is : (s : Schedule) (q : Tasks) (t : ℕ)
-    → q.ready ≡ without t s.queue.ready → q.states ≡ slice_set s.queue.states t Removed
-    → q.pris ≡ s.queue.pris → q.names ≡ s.queue.names → record s { queue = q } ≡ removed t s
-unfolding removed
+    → q.ready ≡ without_item t s.queue.ready → q.states ≡ slice_set s.queue.states t Removed
+    → q.pris ≡ s.queue.pris → q.names ≡ s.queue.names → record s { queue = q } ≡ task_removed t s
+unfolding task_removed
 removed_is s q t a b c d = ap (λ queue. record s { queue = queue }) (tasks_are q _ _ _ _ a b c d)
 
 -- the test of the state of being ready
@@ -170,15 +170,15 @@ ready_again states t e = sym (ap (slice_set states t) (sym (was_ready (state_at 
 
 -- the tasks with another priority of t
 pub reprioritized_is : (s : Schedule) (q : Tasks) (t : ℕ) (pri : ℤ)
-    → q.ready ≡ cond (is_ready (state_at s.queue.states t)) (enqueue (pri_at q.pris) (without t s.queue.ready) t) s.queue.ready
+    → q.ready ≡ cond (is_ready (state_at s.queue.states t)) (enqueue (pri_at q.pris) (without_item t s.queue.ready) t) s.queue.ready
     → q.states ≡ s.queue.states → q.pris ≡ slice_set s.queue.pris t pri → q.names ≡ s.queue.names
     → record s { queue = q } ≡ reprioritized by_priority t pri s
 unfolding reprioritized arrives
 reprioritized_is s q t pri a b c d = by_case (is_ready (state_at s.queue.states t)) refl a where
   by_case : (b : Bool) → is_ready (state_at s.queue.states t) ≡ b
-      → q.ready ≡ cond b (enqueue (pri_at q.pris) (without t s.queue.ready) t) s.queue.ready
+      → q.ready ≡ cond b (enqueue (pri_at q.pris) (without_item t s.queue.ready) t) s.queue.ready
       → record s { queue = q } ≡ cond b (arrives by_priority t (departs t (with_priority t pri s))) (with_priority t pri s)
   by_case true ready order =
-      let arrival = order ∙ ap (λ pris. enqueue (pri_at pris) (without t s.queue.ready) t) c in
+      let arrival = order ∙ ap (λ pris. enqueue (pri_at pris) (without_item t s.queue.ready) t) c in
       ap (λ queue. record s { queue = queue }) (tasks_are q _ _ _ _ arrival (b ∙ ready_again s.queue.states t ready) c d)
   by_case false other order = ap (λ queue. record s { queue = queue }) (tasks_are q _ _ _ _ order b c d)

@@ -11,12 +11,12 @@ use Rattle.scheduler.specs.{declared.Switch.Switch, declared.Switch.TheVariants.
 -- ---- moving between states
 
 -- task t is put into the ready sequence, where the discipline puts a task that arrives
-abbrev pub stands_ready : Discipline → ℕ → Schedule → Schedule
-stands_ready d t s = record s { queue = record s.queue { ready = d.arrival (pri_at s.queue.pris) s.queue.ready t } }
+abbrev pub joins_ready : Discipline → ℕ → Schedule → Schedule
+joins_ready d t s = record s { queue = record s.queue { ready = d.arrival (pri_at s.queue.pris) s.queue.ready t } }
 
 -- task t becomes ready (RKM Libraries, Exec Tasks: scheduling)
 unfoldable pub arrives : Discipline → ℕ → Schedule → Schedule
-arrives d t s = stands_ready d t (with_status t Ready s)
+arrives d t s = joins_ready d t (with_status t Ready s)
 
 -- ---- the switch of a settle
 

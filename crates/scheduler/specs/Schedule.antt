@@ -2,7 +2,7 @@
 -- here leave open how the ready sequence is kept: none of them puts a task into it.
 use Rattle.std.specs.Prelude.{ℕ, ◌-◌, ◌<◌, ℤ, Bool, true, false, not, ◌&&◌, ◌||◌, if◌then◌else◌, nat_eq, int_lt, int_le, bit_and, List, [], length, find, replicate, Option, None, Some, Result, Ok, Err, slice_index_or, slice_set}
 use Rattle.std.specs.List.{range_with_len}
-use Rattle.execlist.specs.{Order.without, Disciplines.pri_at}
+use Rattle.execlist.specs.{Order.without_item, Disciplines.pri_at}
 use Rattle.taskq.specs.declared.TaskState.TheVariants.{Absent, Ready, Running, Waiting, Removed}
 use Rattle.taskq.specs.{Tasks.Tasks, Tasks.state_at, Tasks.name_at, Tasks.is_live, Tasks.is_live_named, declared.TaskState.TaskState, declared.Why.Why, declared.Why.TheVariants.Signals, declared.Why.TheVariants.Sem}
 use Rattle.signals.specs.Signals.{SignalSets, initial_sets, taken_signals, after_take, grant, after_grant, after_set, after_free}
@@ -33,8 +33,8 @@ abbrev pub task_count : Schedule → ℕ
 task_count s = length s.queue.states
 
 -- the name of task t
-abbrev pub name_of : Schedule → ℕ → List ℕ
-name_of s t = name_at s.queue.names t
+abbrev pub task_name : Schedule → ℕ → List ℕ
+task_name s t = name_at s.queue.names t
 
 -- the priority of task t
 abbrev pub priority_of : Schedule → ℕ → ℤ
@@ -122,7 +122,7 @@ renewed (Some r) s = if is_switching_allowed (Some r) s && is_quantum_over s the
 -- task t leaves the ready sequence and runs, with a full quantum (project rule); the machine is not idle any more
 unfoldable pub begins : ℕ → Schedule → Schedule
 begins t s = record s {
-  queue = record s.queue { states = (with_status t Running s).queue.states; ready = without t s.queue.ready };
+  queue = record s.queue { states = (with_status t Running s).queue.states; ready = without_item t s.queue.ready };
   running = Some t;
   left = s.quantum;
   idle = false;
@@ -155,11 +155,11 @@ leaves t s = record (with_status t Removed s) { running = None }
 
 -- task t leaves the ready sequence
 abbrev pub departs : ℕ → Schedule → Schedule
-departs t s = record s { queue = record s.queue { ready = without t s.queue.ready } }
+departs t s = record s { queue = record s.queue { ready = without_item t s.queue.ready } }
 
 -- a live task that does not run is ended (autodoc exec.library/RemTask)
-unfoldable pub removed : ℕ → Schedule → Schedule
-removed t s = departs t (with_status t Removed s)
+unfoldable pub task_removed : ℕ → Schedule → Schedule
+task_removed t s = departs t (with_status t Removed s)
 
 -- the live task of that name, if any (autodoc exec.library/FindTask)
 unfoldable pub found : List ℕ → Schedule → Option ℕ
@@ -186,8 +186,8 @@ unfoldable pub waits_for : ℕ → ℕ → Schedule → Schedule
 waits_for t mask s = record (with_status t (Waiting (Signals mask)) s) { running = None }
 
 -- task t takes the signals of the mask that it has received
-unfoldable pub takes : ℕ → ℕ → Schedule → Schedule
-takes t mask s = with_signals t (after_take mask (signals_of s t)) s
+unfoldable pub takes_signals : ℕ → ℕ → Schedule → Schedule
+takes_signals t mask s = with_signals t (after_take mask (signals_of s t)) s
 
 -- the received signals that are in the mask; none if there are none
 abbrev pub come_for : ℕ → SignalSets → Option ℕ
@@ -195,23 +195,23 @@ come_for mask sets = if nat_eq (taken_signals mask sets) 0 then None else Some (
 
 -- the running task takes the signals of the mask that it has received, or waits for them if there are none
 abbrev pub after_wait : ℕ → ℕ → Schedule → Schedule
-after_wait t mask s = if nat_eq (taken_signals mask (signals_of s t)) 0 then waits_for t mask s else takes t mask s
+after_wait t mask s = if nat_eq (taken_signals mask (signals_of s t)) 0 then waits_for t mask s else takes_signals t mask s
 
 -- the running task clears the signals of the mask that it has received, and waits for new ones (autodoc WaitPort; project rule)
 abbrev pub clears_and_waits : ℕ → ℕ → Schedule → Schedule
-clears_and_waits t mask s = waits_for t mask (takes t mask s)
+clears_and_waits t mask s = waits_for t mask (takes_signals t mask s)
 
 -- task t allocates signal n, or for -1 the highest free signal; if none is given, nothing changes
-unfoldable pub allocates : ℕ → ℤ → Schedule → Schedule
-allocates t n s = with_signals t (after_grant (grant n (signals_of s t)) (signals_of s t)) s
+unfoldable pub allocates_signal : ℕ → ℤ → Schedule → Schedule
+allocates_signal t n s = with_signals t (after_grant (grant n (signals_of s t)) (signals_of s t)) s
 
 -- the received signals of task t that are in the mask become those of `new`; the others stay
 unfoldable pub sets_signals : ℕ → (new mask : ℕ) → Schedule → Schedule
 sets_signals t new mask s = with_signals t (after_set new mask (signals_of s t)) s
 
 -- Signal n of a live task is not allocated any more. A task that is not live has none to give back (project rule).
-unfoldable pub frees : ℕ → ℕ → Schedule → Schedule
-frees t n s = if is_live (status_of s t) then with_signals t (after_free n (signals_of s t)) s else s
+unfoldable pub frees_signal : ℕ → ℕ → Schedule → Schedule
+frees_signal t n s = if is_live (status_of s t) then with_signals t (after_free n (signals_of s t)) s else s
 
 -- ---- semaphores
 

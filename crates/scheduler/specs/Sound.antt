@@ -34,7 +34,7 @@ is_task None t = false
 is_task (Some r) t = r == t
 
 -- each task has signals and a nesting, and exactly the running task is in the state of running
-pub record IsSound (states : List TaskState) (running : Option ℕ) (signals : List SignalSets) (nestings : List Nesting) : Type 0 where
+pub record IsSoundSchedule (states : List TaskState) (running : Option ℕ) (signals : List SignalSets) (nestings : List Nesting) : Type 0 where
   pub signals_of_each : length signals ≡ length states
   pub nestings_of_each : length nestings ≡ length states
   pub one_runs : (t : ℕ) → is_running (state_at states t) ≡ is_task running t

@@ -1,12 +1,12 @@
-//! The running task, its quantum, and the signals and the nesting of each task.
-//! A `Sched` decides which task runs; what a task does while it runs is not kept here. Its calls on signals are in `task_signals`, and
-//! those of Forbid and Disable in `nesting`.
+//! The running task, its quantum, and the signals and the nesting of each task. A `Sched` decides which task runs; what
+//! a task does while it runs is not kept here. Its calls on signals are in `task_signals`, and those of Forbid and
+//! Disable in `nesting`.
 #![tactic(auto)]
 
 ghost use Rattle.std.specs.Prelude.{◌≡◌, ◌≢◌, ℕ, ◌<◌, ◌≤◌, length, slice_set, map, if◌then◌else◌, Some, None, IsTrue, IsSome, IfSome, IfOk};
 ghost use Rattle.execlist.specs.{Lists.times, Order.enqueue, Disciplines.by_priority, Disciplines.pri_at};
 ghost use Rattle.taskq.specs.Tasks.{state_at, is_live, is_ready};
-ghost use Rattle.scheduler.specs.Schedule.{task_count, name_of, priority_of, status_of, unstarted, is_absent, leaves, removed, found, switch_for, IsToOneOf, takes_over, begins, renewed, quantum_ticked, waits_at_semaphore, is_at_semaphore};
+ghost use Rattle.scheduler.specs.Schedule.{task_count, task_name, priority_of, status_of, unstarted, is_absent, leaves, task_removed, found, switch_for, IsToOneOf, takes_over, begins, renewed, quantum_ticked, waits_at_semaphore, is_at_semaphore};
 ghost use Rattle.scheduler.specs.{Dispatch.arrives, Dispatch.displaced, Dispatch.switch_of, Dispatch.after_switch, Dispatch.rescheduled, Dispatch.added, Dispatch.reprioritized, Sound.is_stopped, Sound.IsToReady, Settled.begins_anew, Settled.stays};
 
 mod nesting;
@@ -49,7 +49,7 @@ pub struct Sched<S: ListSpace> {
 
 impl<S: ListSpace> Model for Sched<S> {
     ghost use Rattle.std.specs.Prelude.{◌≡◌, true, if◌then◌else◌};
-    ghost use Rattle.scheduler.specs.{Schedule.Schedule, Sound.IsSound, Settled.is_settled};
+    ghost use Rattle.scheduler.specs.{Schedule.Schedule, Sound.IsSoundSchedule, Settled.is_settled};
 
     ghost Value = { Schedule };
 
@@ -63,7 +63,7 @@ impl<S: ListSpace> Model for Sched<S> {
       idle = s.idle;
     } };
 
-    ghost invariant = { λ s. IsSound s.queue.states s.running s.signals.items s.nests.items
+    ghost invariant = { λ s. IsSoundSchedule s.queue.states s.running s.signals.items s.nests.items
         × ((if s.settled then is_settled (record {
           queue = s.queue;
           running = s.running;
@@ -103,7 +103,8 @@ impl<S: ListSpace> Sched<S> {
         })
     }
 
-    /// Makes the schedule as `new` made it, with these names, first priorities and full quantum: of as many tasks as there are.
+    /// Makes the schedule as `new` made it, with these names, first priorities and full quantum: of as many tasks as
+    /// there are.
     ///
     /// Source: project rule.
     pub fn reset(&mut self, tasks: &[TaskInit], quantum: u8)
@@ -179,7 +180,7 @@ impl<S: ListSpace> Sched<S> {
     /// Source: RKM Libraries, Exec Tasks: `ln_Name`.
     pub fn name(&self, t: TaskId) -> &Name
         requires { t < task_count self.now }
-        ensures { result.now.bytes ≡ name_of self.now t }
+        ensures { result.now.bytes ≡ task_name self.now t }
     {
         self.queue.name(t)
     }
@@ -260,7 +261,7 @@ impl<S: ListSpace> Sched<S> {
     pub fn remove(&mut self, t: TaskId)
         requires live { IsTrue (is_live (status_of self.old t)) }
         requires stopped { self.old.running ≢ Some t }
-        ensures next { self.new ≡ removed t self.old }
+        ensures next { self.new ≡ task_removed t self.old }
         ensures tasks { task_count self.new ≡ task_count self.old }
     {
         self.settled = false;
@@ -287,10 +288,10 @@ impl<S: ListSpace> Sched<S> {
     /// Lets another task run, or the machine be idle, if that is due, and answers what the machine turned
     /// to.
     ///
-    /// If no task runs, the first ready task does, and if there is none the machine is idle, which is
-    /// answered once. A running task that allows switching is pre-empted by a ready one of higher priority, and by one of equal
-    /// priority if its quantum has ended; it then is ready, after those of its priority. A quantum that has ended
-    /// otherwise begins anew. A task that begins to run has a full quantum.
+    /// If no task runs, the first ready task does, and if there is none the machine is idle, which is answered once. A
+    /// running task that allows switching is pre-empted by a ready one of higher priority, and by one of equal priority
+    /// if its quantum has ended; it then is ready, after those of its priority. A quantum that has ended otherwise
+    /// begins anew. A task that begins to run has a full quantum.
     ///
     /// Source: RKM Libraries, Exec Tasks: task scheduling. Project rule: when a quantum begins.
     #[inline(always)]

@@ -53,8 +53,8 @@ impl<S: ListSpace> Sched<S> {
         self.nests.len()
     }
 
-    /// Answers the ready task that is to run after `after`, or the one that is to run next for none; none at the end, and if `after` is not
-    /// ready.
+    /// Answers the ready task that is to run after `after`, or the one that is to run next for none; none at the end,
+    /// and if `after` is not ready.
     ///
     /// Source: RKM Libraries, Exec Tasks: task scheduling.
     pub fn ready_after(&self, after: Option<TaskId>) -> Option<TaskId>

@@ -1,9 +1,10 @@
-//! The signals of the tasks: how they come, are taken and waited for, allocated and freed (RKM Libraries, Exec Signals).
+//! The signals of the tasks: how they come, are taken and waited for, allocated and freed (RKM Libraries, Exec
+//! Signals).
 ghost use Rattle.std.specs.Prelude.{◌≡◌, negsuc, ◌<◌, ◌≤◌, not, nat_eq, Some, IsSome, IfSome};
 ghost use Rattle.std.specs.Borrow.{sem};
 ghost use Rattle.execlist.specs.Disciplines.{by_priority};
 ghost use Rattle.signals.specs.Signals.{taken_signals, after_post, grant, grant_number};
-ghost use Rattle.scheduler.specs.Schedule.{task_count, status_of, signals_of, awaits, come_for, after_wait, clears_and_waits, takes, waits_for, allocates, sets_signals, frees, with_signals};
+ghost use Rattle.scheduler.specs.Schedule.{task_count, status_of, signals_of, awaits, come_for, after_wait, clears_and_waits, takes_signals, waits_for, allocates_signal, sets_signals, frees_signal, with_signals};
 ghost use Rattle.scheduler.specs.{Dispatch.signalled, Lending.lends_signals};
 
 use crate::Sched;
@@ -38,7 +39,7 @@ impl<S: ListSpace> Sched<S> {
     ///
     /// Source: autodoc exec.library/WaitPort. Project rule: a call that has to wait at a port clears the port's signal
     /// first.
-    #[tactic(auto, unfolding(crate::specs::Schedule::takes))]
+    #[tactic(auto, unfolding(crate::specs::Schedule::takes_signals))]
     pub fn wait_clear(&mut self, mask: u32)
         requires { IsSome self.old.running }
         ensures next { IfSome self.old.running (λ t. self.new ≡ clears_and_waits t mask self.old) }
@@ -58,11 +59,11 @@ impl<S: ListSpace> Sched<S> {
     }
 
     // Takes the signals of the mask that the task has received.
-    #[tactic(auto, unfolding(crate::specs::Schedule::takes))]
+    #[tactic(auto, unfolding(crate::specs::Schedule::takes_signals))]
     fn take(&mut self, t: TaskId, mask: u32) -> u32
         requires { t < task_count self.old }
         ensures answer { result ≡ taken_signals mask (signals_of self.old t) }
-        ensures next { self.new ≡ takes t mask self.old }
+        ensures next { self.new ≡ takes_signals t mask self.old }
         ensures tasks { task_count self.new ≡ task_count self.old }
     {
         self.settled = false;
@@ -127,12 +128,12 @@ impl<S: ListSpace> Sched<S> {
     /// for -1 if all of 16 to 31 are allocated. A signal that was allocated just now is not received.
     ///
     /// Source: autodoc exec.library/AllocSignal. Own choices: the highest one, and the answer to other numbers.
-    #[tactic(auto, unfolding(crate::specs::Schedule::allocates))]
+    #[tactic(auto, unfolding(crate::specs::Schedule::allocates_signal))]
     pub fn alloc_signal(&mut self, n: i32) -> i32
         requires { IsSome self.old.running }
         ensures answer { IfSome self.old.running
             (λ t. result ≡ grant_number (grant n (signals_of self.old t))) }
-        ensures next { IfSome self.old.running (λ t. self.new ≡ allocates t n self.old) }
+        ensures next { IfSome self.old.running (λ t. self.new ≡ allocates_signal t n self.old) }
         ensures tasks { task_count self.new ≡ task_count self.old }
     {
         let t = self.runner();
@@ -159,12 +160,12 @@ impl<S: ListSpace> Sched<S> {
     /// received if it was. For a task that is not live nothing changes.
     ///
     /// Source: autodoc exec.library/FreeSignal. Project rule: that nothing changes for a task which is not live.
-    #[tactic(auto, unfolding(crate::specs::Schedule::frees))]
+    #[tactic(auto, unfolding(crate::specs::Schedule::frees_signal))]
     pub fn free_signal(&mut self, t: TaskId, n: u32)
         requires task { t < task_count self.old }
         requires at_least_16 { 16 ≤ n }
         requires at_most_31 { n ≤ 31 }
-        ensures next { self.new ≡ frees t n self.old }
+        ensures next { self.new ≡ frees_signal t n self.old }
         ensures tasks { task_count self.new ≡ task_count self.old }
     {
         if self.is_live(t) {

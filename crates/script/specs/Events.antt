@@ -18,8 +18,8 @@ abbrev pub are_within : ℕ → ℕ → ℕ → Bool
 are_within run tick count = (nat_le run 1000000 && nat_le tick 1000000) && nat_le count 100000
 
 -- the sum of the steps and that of the ticks are at most 1,000,000, and there are at most 100,000 events
-abbrev pub is_within : List Event → Bool
-is_within events = are_within (sum_by event_steps events) (sum_by event_ticks events) (length events)
+abbrev pub keeps_event_limits : List Event → Bool
+keeps_event_limits events = are_within (sum_by event_steps events) (sum_by event_ticks events) (length events)
 
 -- the turns that an event asks for; a request is one
 abbrev pub turns : Event → ℕ

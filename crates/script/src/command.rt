@@ -1,5 +1,5 @@
-//! Commands: what the lines of a body say, with numbers for the names of variables. Since at most one argument of a command is a name, the name
-//! is beside the arguments.
+//! Commands: what the lines of a body say, with numbers for the names of variables. Since at most one argument of a
+//! command is a name, the name is beside the arguments.
 ghost use Rattle.std.specs.Prelude.{◌≤◌};
 
 use crate::name::Name;

@@ -83,8 +83,9 @@ impl Model for MachineFile {
 }
 
 impl MachineFile {
-    /// The machine of those parts: the version of its rules, its quantum, the microseconds of a tick, the number of objects of each kind
-    /// that may live, and its regions, libraries, software interrupts, servers and tasks, each in the order of the file.
+    /// The machine of those parts: the version of its rules, its quantum, the microseconds of a tick, the number of
+    /// objects of each kind that may live, and its regions, libraries, software interrupts, servers and tasks, each in
+    /// the order of the file.
     pub fn new(
         version: u8,
         quantum: u8,
@@ -112,8 +113,8 @@ impl MachineFile {
         }
     }
 
-    /// The version of the rules that the machine goes by: 1, or 2, in which libraries are expunged under low memory if memory is refused and regions may have
-    /// 4,194,304 bytes in all; 1 if `version` is not in the file (project rule).
+    /// The version of the rules that the machine goes by: 1, or 2, in which libraries are asked for memory when a block
+    /// fits nowhere, and regions may have 4,194,304 bytes in all; 1 if `version` is not in the file (project rule).
     pub fn version(&self) -> u8
         ensures version { result ≡ self.now.version }
         ensures machine { IsMachine self.now }
@@ -121,7 +122,8 @@ impl MachineFile {
         self.version
     }
 
-    /// The quantum: how many servings of VERTB a task runs before it lets an equal one run, 1 to 255 (RKM Libraries, Exec Tasks: scheduling).
+    /// The quantum: how many servings of VERTB a task runs before it lets an equal one run, 1 to 255 (RKM Libraries,
+    /// Exec Tasks: scheduling).
     pub fn quantum(&self) -> u8
         ensures quantum { result ≡ self.now.quantum }
         ensures machine { IsMachine self.now }
@@ -129,8 +131,8 @@ impl MachineFile {
         self.quantum
     }
 
-    /// The microseconds that the clock of timer.device gains at each tick: 1 to 1,000,000, or 20,000 if `tick_micros` is not in the
-    /// file (project rule: the vertical blank comes 50 times a second).
+    /// The microseconds that the clock of timer.device gains at each tick: 1 to 1,000,000, or 20,000 if `tick_micros`
+    /// is not in the file (project rule: the vertical blank comes 50 times a second).
     pub fn tick_micros(&self) -> u32
         ensures tick_micros { result ≡ self.now.tick_micros }
         ensures machine { IsMachine self.now }
@@ -147,7 +149,8 @@ impl MachineFile {
         self.pool
     }
 
-    /// The regions of memory, in the order of the file (RKM Libraries, Exec Memory Allocation). `check_regions` accepts them.
+    /// The regions of memory, in the order of the file (RKM Libraries, Exec Memory Allocation). `check_regions` accepts
+    /// them.
     pub fn regions(&self) -> &[Region]
         ensures regions { result.now ≡ self.now.regions }
         ensures machine { IsMachine self.now }

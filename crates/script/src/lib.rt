@@ -1,4 +1,5 @@
-//! What scripts are made of: words, commands, variables, names, sources, events, alerts, and the data of a machine file.
+//! What scripts are made of: words, commands, variables, names, sources, events, alerts, and the data of a machine
+//! file.
 #![tactic(auto)]
 
 mod alert;

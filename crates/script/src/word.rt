@@ -1,6 +1,5 @@
-//! The words of a body, by group; each group has a file of its own.
-//! A word more is a variant, a place in `ALL` and a row in its group's file. A group more is a variant here, an arm of `row`, and a line
-//! of `word_of`.
+//! The words of a body, by group; each group has a file of its own. A word more is a variant, a place in `ALL` and a
+//! row in its group's file. A group more is a variant here, an arm of `row`, and a line of `word_of`.
 ghost use Rattle.std.specs.Prelude.{◌≡◌, IfOk, bytes_eq, find};
 ghost use Rattle.std.specs.Option.{option_or};
 ghost use Rattle.script.specs.{Rows.row_view, Words.all_words, Words.answers, Words.kinds, Words.row, Words.word_of, Words.word_text};

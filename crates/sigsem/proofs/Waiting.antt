@@ -3,7 +3,7 @@ use Rattle.std.proofs.Common.{◌≡◌, ◌≢◌, ℕ, ◌<◌, true, false, c
 use Rattle.std.proofs.lemmas.Bool.{cond-true, cond-false, cases_eq}
 use Rattle.execlist.specs.{Order.first, Lists.is_at, Lists.times, Pool.slot, Pool.written}
 use Rattle.execlist.proofs.{Pools.slot_same, Pools.slot_other, Pools.slot_known, Pools.item_of, LinkLemmas.none-there}
-use Rattle.sigsem.specs.Semaphores.{Semaphores, IsHeld, IsSound, IsCounted, free_sem, is_sem, waits_at, waiters_of}
+use Rattle.sigsem.specs.Semaphores.{Semaphores, KeepsSemaphores, IsSoundSemaphores, IsCounted, free_sem, is_sem, waits_at, waiters_of}
 use Rattle.sigsem.specs.declared.semaphore.Sem.{Sem}
 
 -- how often a task that waits there is in the queue of semaphore s
@@ -36,10 +36,10 @@ owned_lives : (o : Option Sem) → IsTrue (is_some (unwrap_or o free_sem).owner)
 owned_lives None owned = owned
 owned_lives (Some sem) owned = refl
 
-module _ {m : Semaphores} (held : IsHeld m) where
+module _ {m : Semaphores} (held : KeepsSemaphores m) where
   -- if nobody waits at a semaphore, what the code keeps stays when the semaphore becomes free
   pub free_held : (s : ℕ) (queues : List (List ℕ)) → IsTrue (is_sem s m) → length queues ≡ length m.queues
-      → ((t : ℕ) → waits_at t m ≡ Some s → ⊥) → IsHeld (record { sems = written s free_sem m.sems; queues = queues; places = m.places })
+      → ((t : ℕ) → waits_at t m ≡ Some s → ⊥) → KeepsSemaphores (record { sems = written s free_sem m.sems; queues = queues; places = m.places })
   free_held s queues live same nobody = record {
     each_queue = same ∙ held.each_queue ∙ sym (length-set m.sems.slots s (Some free_sem));
     counted = λ k. counted k (cases_eq k s);
@@ -53,7 +53,7 @@ module _ {m : Semaphores} (held : IsHeld m) where
     counted k (inr ne) = subst (λ o. IsCounted (unwrap_or o free_sem)) (sym (other k ne)) (held.counted k)
 
   -- what always holds, if the tasks are as a list space has them
-  pub sound : ((s t : ℕ) → times t (waiters_of s m) ≡ standing (waits_at t m) s) → IsSound m
+  pub sound : ((s t : ℕ) → times t (waiters_of s m) ≡ standing (waits_at t m) s) → IsSoundSemaphores m
   sound stands = record {
     stands = stands;
     live = λ t s e. owned_lives (slot m.sems.slots s) (held.owned t s e);

@@ -1,7 +1,7 @@
 -- What calls on signal semaphores see: the semaphores by number, the tasks that wait at each, and where each task waits
 -- (RKM Libraries, Exec Semaphores).
 use Rattle.std.specs.Prelude.{◌≡◌, ℕ, ◌+◌, ◌-◌, ◌≤◌, ◌==◌, ◌&&◌, ◌||◌, nat_lt, Bool, not, is_some, IsTrue, MatchOption, if◌then◌else◌, List, [], ◌∷◌, ◌++◌, length, drop, replicate, slice_set, Option, Some, None, unwrap_or}
-use Rattle.execlist.specs.{Order.first, Order.without, Lists.sequence, Lists.home, Lists.is_at, Lists.times, Pool.Pooled, Pool.all_free, Pool.given, Pool.released, Pool.slot, Pool.written}
+use Rattle.execlist.specs.{Order.first, Order.without_item, Lists.sequence, Lists.home, Lists.is_at, Lists.times, Pool.Pooled, Pool.all_free, Pool.given, Pool.released, Pool.slot, Pool.written}
 use Rattle.sigsem.specs.declared.fault.SemFault.TheVariants.{NotOwner, TooDeep, Busy}
 use Rattle.sigsem.specs.declared.semaphore.Obtained.TheVariants.{Owner, Waits}
 use Rattle.sigsem.specs.{declared.fault.SemFault.SemFault, declared.semaphore.Sem.Sem, declared.semaphore.Obtained.Obtained}
@@ -53,7 +53,7 @@ is_too_deep t sem = is_owner t sem && nat_lt most_obtained (sem.count + 1)
 abbrev pub once_more : ℕ → Sem → Sem
 once_more t sem = record { owner = Some t; count = sem.count + 1 }
 
--- the owner has to release a semaphore just once more
+-- the owner has to release a semaphore exactly once more
 abbrev pub is_last : Sem → Bool
 is_last sem = sem.count == 1
 
@@ -157,7 +157,7 @@ let_go s m =
 -- task t waits at the semaphore no more, if it waits at one; the others keep their order (project rule)
 abbrev pub dropped_from : Option ℕ → ℕ → Semaphores → Semaphores
 dropped_from None t m = m
-dropped_from (Some s) t m = record m { queues = slice_set m.queues s (without t (waiters_of s m)); places = slice_set m.places t None }
+dropped_from (Some s) t m = record m { queues = slice_set m.queues s (without_item t (waiters_of s m)); places = slice_set m.places t None }
 
 abbrev pub dropped : ℕ → Semaphores → Semaphores
 dropped t m = dropped_from (waits_at t m) t m
@@ -165,14 +165,14 @@ dropped t m = dropped_from (waits_at t m) t m
 -- ---- what always holds
 
 -- what the code keeps
-pub record IsHeld (m : Semaphores) : Type 0 where
+pub record KeepsSemaphores (m : Semaphores) : Type 0 where
   pub each_queue : length m.queues ≡ length m.sems.slots
   pub counted : (s : ℕ) → IsCounted (sem_at s m)
   pub owned : (t s : ℕ) → waits_at t m ≡ Some s → IsTrue (is_owned (sem_at s m))
 
 -- A task that waits is once in the queue of the semaphore where it waits and in no other, and that semaphore lives and is owned: at a
 -- free one nobody waits. A free semaphore has the count 0, an owned one a count from 1 to 32767.
-pub record IsSound (m : Semaphores) : Type 0 where
+pub record IsSoundSemaphores (m : Semaphores) : Type 0 where
   pub stands : (s t : ℕ) → times t (waiters_of s m) ≡ (if is_at (waits_at t m) s then 1 else 0)
   pub live : (t s : ℕ) → waits_at t m ≡ Some s → IsTrue (is_sem s m)
   pub owned : (t s : ℕ) → waits_at t m ≡ Some s → IsTrue (is_owned (sem_at s m))

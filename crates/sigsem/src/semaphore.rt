@@ -3,8 +3,8 @@
 /// The number of a task, from 0.
 pub type TaskId = usize;
 
-/// A semaphore without the tasks that wait for it: its owner, and how often the owner has to release it. A free one has no owner and the count 0.
-/// RKM Libraries, Exec Semaphores: `ss_Owner` and `ss_NestCount`.
+/// A semaphore without the tasks that wait for it: its owner, and how often the owner has to release it. A free one has
+/// no owner and the count 0. RKM Libraries, Exec Semaphores: `ss_Owner` and `ss_NestCount`.
 #[derive(Clone, Copy, Debug)]
 pub struct Sem {
     pub owner: Option<TaskId>,

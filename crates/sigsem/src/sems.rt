@@ -1,7 +1,7 @@
 //! The semaphores of a machine, by number.
 ghost use Rattle.std.specs.Prelude.{◌≡◌, ◌<◌, ◌≤◌, length, not, is_some, Some, None, IfOk, IfSome, IsTrue, ok_or};
 ghost use Rattle.execlist.specs.{Order.first, Pool.IsStocked, Pool.next_number, Answers.fault_or, Answers.kept_or};
-ghost use Rattle.sigsem.specs.Semaphores.{IsSound, is_sem, is_owned, is_free_for, sem_at, waiters_of, waits_at, free_fault, deep_fault, release_fault, outcome_for, heir, no_sems, sem_made, sem_freed, with_sem, queued, obtained, attempted, handed_on, let_go, dropped};
+ghost use Rattle.sigsem.specs.Semaphores.{IsSoundSemaphores, is_sem, is_owned, is_free_for, sem_at, waiters_of, waits_at, free_fault, deep_fault, release_fault, outcome_for, heir, no_sems, sem_made, sem_freed, with_sem, queued, obtained, attempted, handed_on, let_go, dropped};
 
 mod readers;
 
@@ -35,17 +35,18 @@ pub struct Sems<S: ListSpace> {
 }
 
 impl<S: ListSpace> Model for Sems<S> {
-    ghost use Rattle.sigsem.specs.Semaphores.{IsHeld, Semaphores};
+    ghost use Rattle.sigsem.specs.Semaphores.{KeepsSemaphores, Semaphores};
 
     ghost Value = { Semaphores };
 
     ghost view = { λ q. record { sems = q.sems; queues = S.sequences q.waiters; places = S.homes q.waiters } };
 
-    ghost invariant = { λ q. IsHeld (record { sems = q.sems; queues = S.sequences q.waiters; places = S.homes q.waiters }) };
+    ghost invariant = { λ q. KeepsSemaphores (record { sems = q.sems; queues = S.sequences q.waiters; places = S.homes q.waiters }) };
 }
 
 impl<S: ListSpace> Sems<S> {
-    /// Room for that many semaphores and for tasks of that many numbers, at most 4,096 of each. There is no semaphore yet.
+    /// Room for that many semaphores and for tasks of that many numbers, at most 4,096 of each. There is no semaphore
+    /// yet.
     ///
     /// An error means that memory is refused.
     pub fn new(alloc: Global, sems: usize, tasks: usize) -> Result<Self, AllocError>
@@ -75,7 +76,8 @@ impl<S: ListSpace> Sems<S> {
 
     /// Makes a semaphore, which is free.
     ///
-    /// Answers its number, or PoolFull if every semaphore is in use. Autodoc exec.library/InitSemaphore; the refusal: project rule.
+    /// Answers its number, or PoolFull if every semaphore is in use. Autodoc exec.library/InitSemaphore; the refusal:
+    /// project rule.
     pub fn make(&mut self) -> Result<SemId, SemFault>
         ensures answer { result ≡ ok_or (next_number self.old.sems) SemFault.PoolFull }
         ensures next { self.new ≡ sem_made self.old }
@@ -108,8 +110,8 @@ impl<S: ListSpace> Sems<S> {
 
     // ---- obtaining and releasing
 
-    /// Asks for a semaphore for a task that waits at none. A free one is the task's, with the count 1; the owner's count is one more; any
-    /// other task waits, after those that asked before. Answers which of these came of it.
+    /// Asks for a semaphore for a task that waits at none. A free one is the task's, with the count 1; the owner's
+    /// count is one more; any other task waits, after those that asked before. Answers which of these came of it.
     ///
     /// It is TooDeep if the task owns the semaphore and its count would go past 32767 (project rule).
     /// Autodoc exec.library/ObtainSemaphore.
@@ -127,8 +129,8 @@ impl<S: ListSpace> Sems<S> {
         Ok(Obtained::Waits)
     }
 
-    /// Asks for a semaphore for a task that is not to wait. If `obtain` would make the task the owner this does the same and answers
-    /// true; if the task would have to wait, nothing changes and the answer is false.
+    /// Asks for a semaphore for a task that is not to wait. If `obtain` would make the task the owner this does the
+    /// same and answers true; if the task would have to wait, nothing changes and the answer is false.
     ///
     /// It is TooDeep if the task owns the semaphore and its count would go past 32767 (project rule).
     /// Autodoc exec.library/AttemptSemaphore.
@@ -156,11 +158,11 @@ impl<S: ListSpace> Sems<S> {
         }
     }
 
-    /// Releases a semaphore once, for its owner. The last release hands it on: the first of the tasks that wait there waits no more and is
-    /// the owner with the count 1, and if none waits the semaphore is free.
+    /// Releases a semaphore once, for its owner. The last release hands it on: the first of the tasks that wait there
+    /// waits no more and is the owner with the count 1, and if none waits the semaphore is free.
     ///
-    /// Answers the new owner, or none if the owner stays or no task is the owner any more. It is NotOwner if the task does not own
-    /// the semaphore (project rule). Autodoc exec.library/ReleaseSemaphore.
+    /// Answers the new owner, or none if the owner stays or no task is the owner any more. It is NotOwner if the task
+    /// does not own the semaphore (project rule). Autodoc exec.library/ReleaseSemaphore.
     pub fn release(&mut self, s: SemId, t: TaskId) -> Result<Option<TaskId>, SemFault>
         requires { IsTrue (is_sem s self.old) }
         ensures answer { result ≡ fault_or (release_fault s t self.old) (heir s self.old) }
@@ -178,8 +180,8 @@ impl<S: ListSpace> Sems<S> {
         Ok(None)
     }
 
-    /// Takes a task out of the queue of the semaphore where it waits, if it waits at one. The others there keep their order.
-    /// Project rule: a task that waits may be removed.
+    /// Takes a task out of the queue of the semaphore where it waits, if it waits at one. The others there keep their
+    /// order. Project rule: a task that waits may be removed.
     pub fn drop_waiter(&mut self, t: TaskId)
         requires { t < length self.old.places }
         ensures { self.new ≡ dropped t self.old }
@@ -200,7 +202,8 @@ impl<S: ListSpace> Sems<S> {
         self.sems.next()
     }
 
-    /// Answers whether there is a semaphore of that number: whether the calls that ask for one may be made. Project rule.
+    /// Answers whether there is a semaphore of that number: whether the calls that ask for one may be made. Project
+    /// rule.
     pub fn is_sem(&self, s: SemId) -> bool
         ensures { result ≡ is_sem s self.now }
     {
@@ -215,7 +218,8 @@ impl<S: ListSpace> Sems<S> {
         self.sem(s).owner.is_some()
     }
 
-    /// Answers the semaphore at which a task waits, or none: whether the task may ask for one. Project rule: Exec cannot say.
+    /// Answers the semaphore at which a task waits, or none: whether the task may ask for one. Project rule: Exec
+    /// cannot say.
     pub fn waits_at(&self, t: TaskId) -> Option<SemId>
         requires { t < length self.now.places }
         ensures value { result ≡ waits_at t self.now }
@@ -226,7 +230,7 @@ impl<S: ListSpace> Sems<S> {
 
     /// Does nothing: its clauses are what always holds of the semaphores, and of the number that is next.
     pub fn facts(&self)
-        ensures sound { IsSound self.now }
+        ensures sound { IsSoundSemaphores self.now }
         ensures sems { IsStocked self.now.sems }
     {
         let _ = &self.waiters;
@@ -273,7 +277,8 @@ impl<S: ListSpace> Sems<S> {
         self.waiters.add_tail(s, t);
     }
 
-    // Makes the first task that waits at a semaphore its owner, or the semaphore free if none waits. Answers the new owner.
+    // Makes the first task that waits at a semaphore its owner, or the semaphore free if none waits. Answers the new
+    // owner.
     fn hand_on(&mut self, s: SemId) -> Option<TaskId>
         requires { IsTrue (is_sem s self.old) }
         ensures value { result ≡ first (waiters_of s self.old) }

@@ -1,8 +1,8 @@
 -- The caused interrupts, kept in a header for each priority, are one sequence by priority.
 use Rattle.std.proofs.Common.{◌≡◌, ◌≢◌, ℕ, zero, suc, ◌+◌, ◌<◌, ◌≤◌, Bool, true, false, cond, not, eqb, List, [], ◌∷◌, ◌++◌, length, slice_set, refl, sym, ap, ◌∙◌, subst, arith, inl, inr, Option, Some, None, IfSome, map, append_assoc, ◌⊎◌, ℤ, drop, int_lt, is_none, is_some, IsSome, eq-eqb, ne_eqb, get_or-set_other, get_or-set_same, length-set}
 use Rattle.std.proofs.lemmas.{Bool.cond-true, Bool.cond-false, Bool.cases_eq, Int.ints, List.get_or_past, List.Elements.filter-append}
-use Rattle.execlist.specs.{Order.enqueue, Order.first, Order.without, Order.is_lower, Lists.sequence, Lists.home, Lists.part_after, Lists.times, Lists.is_at, Disciplines.pri_at}
-use Rattle.softint.specs.{declared.interrupt.Soft.Soft, Interrupts.Interrupts, Interrupts.IsHeld, Interrupts.joined, Interrupts.header_pri, Interrupts.causes, Interrupts.taken_off}
+use Rattle.execlist.specs.{Order.enqueue, Order.first, Order.without_item, Order.is_lower, Lists.sequence, Lists.home, Lists.part_after, Lists.times, Lists.is_at, Disciplines.pri_at}
+use Rattle.softint.specs.{declared.interrupt.Soft.Soft, Interrupts.Interrupts, Interrupts.KeepsInterrupts, Interrupts.joined, Interrupts.header_pri, Interrupts.causes, Interrupts.taken_off}
 use Rattle.execlist.proofs.{Walks.absent_after, PlainLemmas.times_later, PlainLemmas.times-append, PlainLemmas.without_fresh}
 
 -- ---- how often a number is
@@ -61,18 +61,18 @@ first_arrived key (y ∷ ys) x = by_case (is_lower key y x) where
 
 -- ---- a departure
 
-without-joins : (t : ℕ) (xs ys : List ℕ) → without t (xs ++ ys) ≡ without t xs ++ without t ys
+without-joins : (t : ℕ) (xs ys : List ℕ) → without_item t (xs ++ ys) ≡ without_item t xs ++ without_item t ys
 without-joins t xs ys = filter-append (λ x. not (eqb x t)) xs ys
 
 pub departs : (t : ℕ) (all : List (List ℕ)) (h : ℕ) → ((k : ℕ) → k ≢ h → times t (sequence all k) ≡ 0)
-    → joined (slice_set all h (without t (sequence all h))) ≡ without t (joined all)
+    → joined (slice_set all h (without_item t (sequence all h))) ≡ without_item t (joined all)
 departs t [] h other = refl
 departs t (xs ∷ rest) zero other =
-    ap (λ l. without t xs ++ l) (sym (without_fresh t (joined rest) (nowhere t rest (λ k. other (suc k) (λ e. omega (arith, e))))))
+    ap (λ l. without_item t xs ++ l) (sym (without_fresh t (joined rest) (nowhere t rest (λ k. other (suc k) (λ e. omega (arith, e))))))
     ∙ sym (without-joins t xs (joined rest))
 departs t (xs ∷ rest) (suc h) other =
     ap (λ l. xs ++ l) (departs t rest h (λ k ne. other (suc k) (λ e. ne (omega (arith, e)))))
-    ∙ ap (λ l. l ++ without t (joined rest)) (sym (without_fresh t xs (other 0 (λ e. omega (arith, e)))))
+    ∙ ap (λ l. l ++ without_item t (joined rest)) (sym (without_fresh t xs (other 0 (λ e. omega (arith, e)))))
     ∙ sym (without-joins t xs (joined rest))
 
 -- ---- the first
@@ -198,7 +198,7 @@ present all homes i stands some = by_case (home homes i) refl some where
   by_case None e never = cc
   by_case (Some h) e there_is = omega (arith, somewhere i h all, there (home homes i) h _ (stands h i) e)
 
-pub arrival : (all : List (List ℕ)) (homes : List (Option ℕ)) (softs : List Soft) (i h : ℕ) → IsHeld (length all) homes softs → Stands all homes
+pub arrival : (all : List (List ℕ)) (homes : List (Option ℕ)) (softs : List Soft) (i h : ℕ) → KeepsInterrupts (length all) homes softs → Stands all homes
     → h < 5 → pri_at (map (λ (s : Soft). s.pri) softs) i ≡ header_pri h
     → joined (slice_set all h (sequence all h ++ i ∷ [])) ≡ enqueue (pri_at (map (λ (s : Soft). s.pri) softs)) (joined all) i
 arrival all homes softs i h held stands few same =
@@ -213,9 +213,9 @@ arrival all homes softs i h held stands few same =
     pri_of k t here = held.stands t k (at_home (home homes t) k _ (stands k t) here)
 
 -- what is said of the headers holds of those in which one more is
-pub arrival_held : (all new : List (List ℕ)) (homes placed : List (Option ℕ)) (softs : List Soft) (i h : ℕ) → IsHeld (length all) homes softs
+pub arrival_held : (all new : List (List ℕ)) (homes placed : List (Option ℕ)) (softs : List Soft) (i h : ℕ) → KeepsInterrupts (length all) homes softs
     → i < length homes → pri_at (map (λ (s : Soft). s.pri) softs) i ≡ header_pri h
-    → new ≡ slice_set all h (sequence all h ++ i ∷ []) → placed ≡ slice_set homes i (Some h) → IsHeld (length new) placed softs
+    → new ≡ slice_set all h (sequence all h ++ i ∷ []) → placed ≡ slice_set homes i (Some h) → KeepsInterrupts (length new) placed softs
 arrival_held all new homes placed softs i h held within same is put = record {
   five = ap length is ∙ length-set all h (sequence all h ++ i ∷ []) ∙ held.five;
   each_soft = ap length put ∙ length-set homes i (Some h) ∙ held.each_soft;
@@ -225,9 +225,9 @@ arrival_held all new homes placed softs i h held within same is put = record {
 }
 
 pub departure : (all new : List (List ℕ)) (homes : List (Option ℕ)) (i : ℕ) → Stands all homes → IsSome (home homes i)
-    → IfSome (home homes i) (λ h. new ≡ slice_set all h (without i (sequence all h))) → joined new ≡ without i (joined all)
+    → IfSome (home homes i) (λ h. new ≡ slice_set all h (without_item i (sequence all h))) → joined new ≡ without_item i (joined all)
 departure all new homes i stands some taken = by_case (home homes i) refl some taken where
-  by_case : (o : Option ℕ) → home homes i ≡ o → IsSome o → IfSome o (λ h. new ≡ slice_set all h (without i (sequence all h))) → joined new ≡ without i (joined all)
+  by_case : (o : Option ℕ) → home homes i ≡ o → IsSome o → IfSome o (λ h. new ≡ slice_set all h (without_item i (sequence all h))) → joined new ≡ without_item i (joined all)
   by_case None e never taken = cc
   by_case (Some h) e some taken =
       ap joined taken ∙ departs i all h (λ k ne. not_there (home homes i) k _ (stands k i) (λ at. let same : h ≡ k = some_is (sym e ∙ at) in ne (sym same)))
@@ -244,7 +244,7 @@ module _ {m now : Interrupts} (is : m ≡ now) (i : ℕ) (l : List ℕ) where
       ∙ sym (cond-false _ _ _ (ap not (eq-eqb (times i m.caused) 0 none)))
       ∙ ap (causes i) is
 
-  pub caused_less : first m.caused ≡ Some i → l ≡ without i m.caused → record m { caused = l } ≡ taken_off (first now.caused) now
+  pub caused_less : first m.caused ≡ Some i → l ≡ without_item i m.caused → record m { caused = l } ≡ taken_off (first now.caused) now
   caused_less e d =
       ap (λ x. record m { caused = x }) d
       ∙ ap (λ o. taken_off o m) (sym e)

@@ -2,7 +2,7 @@
 -- (RKM Libraries, Exec Interrupts).
 use Rattle.std.specs.Prelude.{◌≡◌, ℕ, ℤ, pos, negsuc, ◌-ℤ◌, ◌*◌, ◌⊎◌, ◌==◌, Bool, true, false, not, if◌then◌else◌, List, [], ◌∷◌, ◌++◌, length, map, filter, slice_index_or, Option, Some, None, All}
 use Rattle.std.specs.List.{range_with_len}
-use Rattle.execlist.specs.{Order.enqueue, Order.order, Order.without, Disciplines.pri_at, Lists.home, Lists.times}
+use Rattle.execlist.specs.{Order.enqueue, Order.order, Order.without_item, Disciplines.pri_at, Lists.home, Lists.times}
 use Rattle.softint.specs.declared.source.Source.TheVariants.{Ports, Vertb, Exter}
 use Rattle.softint.specs.{declared.source.Source.Source, declared.latches.Latches.Latches, declared.interrupt.Soft.Soft, declared.interrupt.Server.Server, Sources.is_source, Sources.with_latch, Sources.no_latches}
 
@@ -34,7 +34,7 @@ causes i m = if is_caused i m then m else record m { caused = enqueue (pri_at m.
 -- a software interrupt is not caused any more
 abbrev pub taken_off : Option ℕ → Interrupts → Interrupts
 taken_off None m = m
-taken_off (Some i) m = record m { caused = without i m.caused }
+taken_off (Some i) m = record m { caused = without_item i m.caused }
 
 -- ---- sources
 
@@ -84,7 +84,7 @@ abbrev pub header_pri : ℕ → ℤ
 header_pri h = pos 32 -ℤ pos (16 * h)
 
 -- each caused interrupt is in the header of its priority, and each source has its chain
-pub record IsHeld (headers : ℕ) (homes : List (Option ℕ)) (softs : List Soft) : Type 0 where
+pub record KeepsInterrupts (headers : ℕ) (homes : List (Option ℕ)) (softs : List Soft) : Type 0 where
   pub five : headers ≡ 5
   pub each_soft : length homes ≡ length softs
   pub priorities : All (λ (s : Soft). IsPriority s.pri) softs

@@ -48,7 +48,7 @@ pub fn first_caused<S: ListSpace>(caused: &S) -> Option<IntId>
 /// The caused software interrupt that is to run after this one, if this one is caused and not the last.
 ///
 /// Source: RKM Libraries, Exec Interrupts: software interrupts.
-pub fn caused_behind<S: ListSpace>(caused: &S, i: IntId) -> Option<IntId>
+pub fn next_caused<S: ListSpace>(caused: &S, i: IntId) -> Option<IntId>
     requires few { length (S.sequences caused.now) ≡ 5 }
     requires known { i < length (S.homes caused.now) }
     ensures { result ≡ first (part_after i (joined (S.sequences caused.now))) }

@@ -4,7 +4,7 @@ ghost use Rattle.execlist.specs.{Order.first, Lists.part_from, Disciplines.pri_a
 ghost use Rattle.softint.specs.Interrupts.{IsPriority, quiet, hushed, causes, taken_off, raised, served, chain, header_pri};
 ghost use Rattle.softint.specs.Sources.{highest};
 
-use crate::caused::{IntId, PRIORITIES, caused_behind, first_caused, header_of};
+use crate::caused::{IntId, PRIORITIES, first_caused, header_of, next_caused};
 use crate::chain::{Chains, ServerId, server_at};
 use crate::interrupt::{Server, Soft};
 use crate::latches::Latches;
@@ -15,8 +15,8 @@ use std::marker::Model;
 
 /// Which software interrupts are caused, which sources ask to be served, and which servers each source has.
 ///
-/// All room is made by `new`; no other call takes memory, and none but `reset` looks at all software interrupts or all servers.
-/// RKM Libraries, Exec Interrupts.
+/// All room is made by `new`; no other call takes memory, and none but `reset` looks at all software interrupts or all
+/// servers. RKM Libraries, Exec Interrupts.
 #[derive(Drop)]
 pub struct Ints<S: ListSpace> {
     softs: Vec<Soft>,
@@ -30,7 +30,7 @@ pub struct Ints<S: ListSpace> {
 impl<S: ListSpace> Model for Ints<S> {
     ghost use Rattle.std.specs.Prelude.{◌≡◌, is_some, length, map};
     ghost use Rattle.execlist.specs.Order.{first};
-    ghost use Rattle.softint.specs.Interrupts.{Interrupts, IsHeld, IsChained, joined};
+    ghost use Rattle.softint.specs.Interrupts.{Interrupts, KeepsInterrupts, IsChained, joined};
 
     ghost Value = { Interrupts };
 
@@ -41,14 +41,14 @@ impl<S: ListSpace> Model for Ints<S> {
       servers = q.servers.items;
     } };
 
-    ghost invariant = { λ q. IsHeld (length (S.sequences q.caused)) (S.homes q.caused) q.softs.items
+    ghost invariant = { λ q. KeepsInterrupts (length (S.sequences q.caused)) (S.homes q.caused) q.softs.items
         × IsChained q.chains.ports.items q.chains.vertb.items q.chains.exter.items q.servers.items
         × (q.some_caused ≡ is_some (first (joined (S.sequences q.caused)))) };
 }
 
 impl<S: ListSpace> Ints<S> {
-    /// Software interrupts of these priorities and these servers, at most 32 of each, numbered in the order given. No software interrupt
-    /// is caused and no source asks to be served.
+    /// Software interrupts of these priorities and these servers, at most 32 of each, numbered in the order given. No
+    /// software interrupt is caused and no source asks to be served.
     ///
     /// The priority of a software interrupt is -32, -16, 0, 16 or 32. An error means that memory is refused.
     pub fn new(alloc: Global, softs: &[Soft], servers: &[Server]) -> Result<Self, AllocError>
@@ -84,8 +84,8 @@ impl<S: ListSpace> Ints<S> {
 
     // ---- software interrupts
 
-    /// Causes a software interrupt: it is to run after the caused ones of its priority. One that is caused already stays where it is.
-    /// Autodoc exec.library/Cause.
+    /// Causes a software interrupt: it is to run after the caused ones of its priority. One that is caused already
+    /// stays where it is. Autodoc exec.library/Cause.
     pub fn cause(&mut self, i: IntId)
         requires { i < length self.old.priorities }
         ensures { self.new ≡ causes i self.old }
@@ -97,15 +97,16 @@ impl<S: ListSpace> Ints<S> {
         }
     }
 
-    /// Answers whether a software interrupt is caused. It looks at none of them. Project rule: Exec reports it by the interrupt that it asks for.
+    /// Answers whether a software interrupt is caused. It looks at none of them. Project rule: Exec reports it by the
+    /// interrupt that it asks for.
     pub fn any_caused(&self) -> bool
         ensures { result ≡ is_some (first self.now.caused) }
     {
         self.some_caused
     }
 
-    /// Answers the caused software interrupt that is to run after `after`, or the one that is to run next for none; none at the end, and if
-    /// `after` is not caused. RKM Libraries, Exec Interrupts: software interrupts.
+    /// Answers the caused software interrupt that is to run after `after`, or the one that is to run next for none;
+    /// none at the end, and if `after` is not caused. RKM Libraries, Exec Interrupts: software interrupts.
     pub fn caused_after(&self, after: Option<IntId>) -> Option<IntId>
         ensures { result ≡ first (part_from after self.now.caused) }
     {
@@ -113,7 +114,7 @@ impl<S: ListSpace> Ints<S> {
             None => first_caused(&self.caused),
             Some(i) => {
                 if i < self.softs.len() {
-                    caused_behind(&self.caused, i)
+                    next_caused(&self.caused, i)
                 } else {
                     None
                 }
@@ -121,8 +122,9 @@ impl<S: ListSpace> Ints<S> {
         }
     }
 
-    /// Takes off the caused software interrupt that is to run next and answers it, or answers none if none is caused: the one that
-    /// was caused first among those of greatest priority. RKM Libraries, Exec Interrupts: software interrupts.
+    /// Takes off the caused software interrupt that is to run next and answers it, or answers none if none is caused:
+    /// the one that was caused first among those of highest priority. RKM Libraries, Exec Interrupts: software
+    /// interrupts.
     pub fn next(&mut self) -> Option<IntId>
         ensures value { result ≡ first self.old.caused }
         ensures next { self.new ≡ taken_off (first self.old.caused) self.old }
@@ -161,8 +163,8 @@ impl<S: ListSpace> Ints<S> {
         self.latches.any()
     }
 
-    /// Clears the latch of the source of highest level among those that ask to be served and answers the source, or answers none.
-    /// RKM Libraries, Exec Interrupts: the order of their priorities.
+    /// Clears the latch of the source of highest level among those that ask to be served and answers the source, or
+    /// answers none. RKM Libraries, Exec Interrupts: the order of their priorities.
     pub fn serve(&mut self) -> Option<Source>
         ensures value { result ≡ highest self.old.latches }
         ensures next { self.new ≡ served (highest self.old.latches) self.old }
@@ -172,7 +174,8 @@ impl<S: ListSpace> Ints<S> {
         Some(source)
     }
 
-    /// Answers the server that runs at place `k`, from 0, when a source is served, or none if the source has no more servers.
+    /// Answers the server that runs at place `k`, from 0, when a source is served, or none if the source has no more
+    /// servers.
     ///
     /// The servers of a source run by priority, and those of one priority in the order of their numbers.
     /// Autodoc exec.library/AddIntServer.

@@ -7,19 +7,19 @@ use Rattle.softint.specs.Sources.{source_text}
 use Rattle.exectrace.specs.Trace as trace
 use Rattle.script.specs.declared.event.Event.TheVariants.{Run, Tick, Irq}
 use Rattle.script.specs.{Commands.CommandData, declared.event.Event.Event}
-use Rattle.scheduler.specs.Schedule.{name_of}
+use Rattle.scheduler.specs.Schedule.{task_name}
 use Rattle.scheduler.specs.{declared.Switch.Switch as Choice, Dispatch.switch_of, Dispatch.rescheduled}
 use Rattle.scheduler.specs.declared.Switch.TheVariants as switch
 use Rattle.softint.specs.declared.source.Source.{Source}
 use Rattle.softint.specs.declared.source.Source.TheVariants as source
-use Rattle.timerdev.specs.Timing.{ticked as clock_ticked}
-use Rattle.execmodel.specs.State.{Call, Memory, State, Outcome, quiet, says, andthen, unless_stopped, on_schedule, on_memory, on_timer, on_pending}
+use Rattle.timerdev.specs.Timing.{clock_ticked}
+use Rattle.execmodel.specs.State.{Call, Memory, State, Outcome, quiet, prints_line, andthen, unless_stopped, on_schedule, on_memory, on_timer, on_pending}
 use Rattle.execmodel.specs.Bodies.{body_step, does_in_body, runs_body}
 use Rattle.execmodel.specs.Interrupts.{softint_at, runs_softint, server_at, chain_of, runs_server, runs_chain, serving_counted, finishes_for, serves, servings, interrupts}
 use Rattle.execmodel.specs.Requests.{finishes_all_due, finishes_each}
 use Rattle.execmodel.specs.Calls.{next_call, call_in_body}
 use Rattle.execmodel.specs.Pending.{caused_no_more, with_latch_of, next_softint, next_source}
-use Rattle.execmodel.specs.Step.{announced, switches, settle, does, ends, task_step, call_step, softint_or_task_step, acting, acts, step, steps, request, tick, ticks, all_added, starts, event, events}
+use Rattle.execmodel.specs.Step.{announced, switches, settle, does, ends, task_step, call_step, softint_or_task_step, step_action, acts, step, steps, request, tick, ticks, all_added, starts, event, events}
 use Rattle.statekeys.specs.Fits.{is_bare, HasBareWord, IsBare, placed, Stays, Drifts}
 use Rattle.statekeys.proofs.Words.{kept, ends_quiet, word_drifts, word_in_body}
 use Rattle.statekeys.proofs.Programs.{next_bare}
@@ -58,8 +58,8 @@ module _ (b : State) (bare : IsBare b) where
       by_test true = ends_quiet b s h
       by_test false = one
 
-  says_drifts : (line : TraceLine) (s : State) → Stays b s → Drifts b (λ m. says line (placed m s))
-  says_drifts line s h = kept b _ (says line s) (λ m. refl) h
+  says_drifts : (line : TraceLine) (s : State) → Stays b s → Drifts b (λ m. prints_line line (placed m s))
+  says_drifts line s h = kept b _ (prints_line line s) (λ m. refl) h
 
   -- ---- bodies
 
@@ -84,14 +84,14 @@ module _ (b : State) (bare : IsBare b) where
       let softint = softint_at i s.bodies in
       let r = on_pending (caused_no_more i) s in
       let there : Stays b r = record { schedule = h.schedule; scripts = h.scripts; bodies = h.bodies } in
-      both (says (Softint softint.name)) (runs_body softint.name softint.code) r (says_drifts (Softint softint.name) r there)
+      both (prints_line (Softint softint.name)) (runs_body softint.name softint.code) r (says_drifts (Softint softint.name) r there)
       (body_drifts softint.name softint.code (softint_code i s h))
 
   server_drifts : (k : ℕ) (s : State) → Stays b s → Drifts b (λ m. runs_server k (placed m s))
   unfolding runs_server
   server_drifts k s h =
       let server = server_at k s.bodies in
-      both (says (Server server.name)) (runs_body server.name server.code) s (says_drifts (Server server.name) s h)
+      both (prints_line (Server server.name)) (runs_body server.name server.code) s (says_drifts (Server server.name) s h)
       (body_drifts server.name server.code (server_code k s h))
 
   claimed_drifts : (claim : Bool) (next : State → Outcome) → ((r : State) → Stays b r → Drifts b (λ m. next (placed m r))) → (s : State) → Stays b s
@@ -121,7 +121,7 @@ module _ (b : State) (bare : IsBare b) where
       let begun = on_schedule (serving_counted asks) (on_pending (with_latch_of asks false) s) in
       let there : Stays b begun = record { schedule = serving_stays b.schedule asks s.schedule h.schedule; scripts = h.scripts; bodies = h.bodies } in
       let chain = chain_of asks s.bodies.servers in
-      both (says (Serve (source_text asks))) (andthen (finishes_for asks) (runs_chain chain)) begun
+      both (prints_line (Serve (source_text asks))) (andthen (finishes_for asks) (runs_chain chain)) begun
       (says_drifts (Serve (source_text asks)) begun there)
       (λ r is. both (finishes_for asks) (runs_chain chain) r (finishing_drifts asks r is) (chain_drifts chain))
 
@@ -144,7 +144,7 @@ module _ (b : State) (bare : IsBare b) where
 
   announced_drifts : (choice : Option Choice) (s : State) → Stays b s → Drifts b (λ m. announced choice (placed m s))
   announced_drifts None s h = ends_quiet b s h
-  announced_drifts (Some (switch.To t)) s h = says_drifts (Switch (name_of s.schedule t)) s h
+  announced_drifts (Some (switch.To t)) s h = says_drifts (Switch (task_name s.schedule t)) s h
   announced_drifts (Some switch.Idle) s h = says_drifts trace.Idle s h
 
   switches_drift : (s : State) → Stays b s → Drifts b (λ m. switches (placed m s))
@@ -181,13 +181,13 @@ module _ (b : State) (bare : IsBare b) where
   either_drifts None s h = task_drifts s.schedule.running s h
   either_drifts (Some i) s h = softint_drifts i s h
 
-  acting_drifts : (s : State) → Stays b s → Drifts b (λ m. acting (placed m s))
-  unfolding acting next_softint
+  acting_drifts : (s : State) → Stays b s → Drifts b (λ m. step_action (placed m s))
+  unfolding step_action next_softint
   acting_drifts s h = either_drifts (next_softint s) s h
 
   acts_drift : (s : State) → Stays b s → Drifts b (λ m. acts (placed m s))
   unfolding acts
-  acts_drift s h = going acting s h (acting_drifts s h)
+  acts_drift s h = going step_action s h (acting_drifts s h)
 
   step_drifts : (s : State) → Stays b s → Drifts b (λ m. step (placed m s))
   unfolding step

@@ -72,10 +72,6 @@ module _ (b : Scripts) where
   at_bare t None s bare = tt
   at_bare t (Some command) s bare = bare
 
-  wait_bare : (kept : Option Call) → IfSome kept IsWait → IfSome kept (λ (call : Call). is_bare call.word ≡ true)
-  wait_bare None is = tt
-  wait_bare (Some call) is = ap is_bare is
-
   after_bare : (t : ℕ) (kept : Option Call) (s : Scripts) → All HasBareWord (program_of s t).code → IfSome kept IsWait
       → IfSome (call_after t kept s) (λ (call : Call). is_bare call.word ≡ true)
   after_bare t (Some call) s all is = ap is_bare is

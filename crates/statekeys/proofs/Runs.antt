@@ -6,12 +6,12 @@ use Rattle.script.specs.declared.event.Event.TheVariants.{Run, Tick, Irq}
 use Rattle.script.specs.{declared.event.Event.Event, File.MachineData, File.TaskData, File.SoftintData, File.ServerData}
 use Rattle.softint.specs.declared.source.Source.{Source}
 use Rattle.softint.specs.declared.source.Source.TheVariants as source
-use Rattle.timerdev.specs.Timing.{ticked as clock_ticked}
+use Rattle.timerdev.specs.Timing.{clock_ticked}
 use Rattle.execmodel.specs.State.{Memory, Program, State, Outcome, quiet, andthen, unless_stopped, on_memory, on_timer, on_pending, no_program, new_program, booted}
 use Rattle.execmodel.specs.Interrupts.{no_softint, no_server, interrupts}
 use Rattle.execmodel.specs.Pending.{with_latch_of}
 use Rattle.execmodel.specs.Step.{switches, settle, acts, step, steps, request, tick, ticks, starts, event, events, run}
-use Rattle.execmodel.proofs.{Heaps.true_is_not_false, Moments.events_more, TidyLaw.switches_quiet}
+use Rattle.execmodel.proofs.{Heaps.true_is_not_false, Moments.events_more, NoStraysLaw.switches_quiet}
 use Rattle.statekeys.specs.{Fits.HasBareWord, Fits.IsBare, Fits.IsWait, Fits.placed, Fits.placed_in, Fits.Stays, Fits.Drifts, Laws.GoesAlike, Laws.TheClockIsUnseen, Laws.KeysTellStates, Numbers.numbers, Runs.IsBareMachine}
 use Rattle.statekeys.proofs.{Drifting.starts_drift, Drifting.events_drift, Drifting.event_drifts, Schedules.rescheduled_idle, Telling.IsEven, Telling.IsIdleRight, Telling.numbers_tell, ByteLemmas.bytes_tell}
 

@@ -5,7 +5,7 @@ use Rattle.signals.specs.Signals.{SignalSets, after_post, taken_signals}
 use Rattle.forbid.specs.Nesting.{Nesting}
 use Rattle.taskq.specs.Tasks.{is_ready, is_live}
 use Rattle.taskq.specs.declared.TaskState.{TaskState}
-use Rattle.scheduler.specs.Schedule.{Schedule, status_of, signals_of, with_status, with_priority, with_signals, allocates, frees, sets_signals, takes, waits_for, after_wait, nested, leaves, removed, begins, renewed, quantum_ticked, ticked_for, is_absent, awaits, is_switching_allowed, is_quantum_over, takes_over, switch_for}
+use Rattle.scheduler.specs.Schedule.{Schedule, status_of, signals_of, with_status, with_priority, with_signals, allocates_signal, frees_signal, sets_signals, takes_signals, waits_for, after_wait, nested, leaves, task_removed, begins, renewed, quantum_ticked, ticked_for, is_absent, awaits, is_switching_allowed, is_quantum_over, takes_over, switch_for}
 use Rattle.scheduler.specs.{Dispatch.arrives, Dispatch.added, Dispatch.signalled, Dispatch.reprioritized, Dispatch.displaced, Dispatch.after_switch, Dispatch.rescheduled, Dispatch.switch_of}
 use Rattle.scheduler.specs.declared.Switch.TheVariants as switch
 use Rattle.execmodel.specs.{State.Scripts, State.program_of, Step.all_added}
@@ -77,12 +77,12 @@ module _ (b : Schedule) where
 
   -- ---- signals, nesting and tasks
 
-  pub allocates_stays : (t : ℕ) (n : ℤ) (s : Schedule) → StaysSchedule b s → StaysSchedule b (allocates t n s)
-  unfolding allocates
+  pub allocates_stays : (t : ℕ) (n : ℤ) (s : Schedule) → StaysSchedule b s → StaysSchedule b (allocates_signal t n s)
+  unfolding allocates_signal
   allocates_stays t n s h = signals_stay t _ s h
 
-  pub frees_stays : (t n : ℕ) (s : Schedule) → StaysSchedule b s → StaysSchedule b (frees t n s)
-  unfolding frees
+  pub frees_stays : (t n : ℕ) (s : Schedule) → StaysSchedule b s → StaysSchedule b (frees_signal t n s)
+  unfolding frees_signal
   frees_stays t n s h = either (is_live (status_of s t)) _ s (signals_stay t _ s h) h
 
   pub sets_stays : (t new mask : ℕ) (s : Schedule) → StaysSchedule b s → StaysSchedule b (sets_signals t new mask s)
@@ -90,9 +90,9 @@ module _ (b : Schedule) where
   sets_stays t new mask s h = signals_stay t _ s h
 
   pub after_wait_stays : (t mask : ℕ) (s : Schedule) → StaysSchedule b s → StaysSchedule b (after_wait t mask s)
-  unfolding waits_for takes
+  unfolding waits_for takes_signals
   after_wait_stays t mask s h =
-      either (nat_eq (taken_signals mask (signals_of s t)) 0) (waits_for t mask s) (takes t mask s)
+      either (nat_eq (taken_signals mask (signals_of s t)) 0) (waits_for t mask s) (takes_signals t mask s)
       (stops_stay (with_status t _ s) (status_stays t _ s h)) (signals_stay t _ s h)
 
   pub arrives_stays : (t : ℕ) (s : Schedule) → StaysSchedule b s → StaysSchedule b (arrives by_arrival t s)
@@ -127,8 +127,8 @@ module _ (b : Schedule) where
   unfolding leaves
   leaves_stays t s h = stops_stay (with_status t _ s) (status_stays t _ s h)
 
-  pub removed_stays : (t : ℕ) (s : Schedule) → StaysSchedule b s → StaysSchedule b (removed t s)
-  unfolding removed
+  pub removed_stays : (t : ℕ) (s : Schedule) → StaysSchedule b s → StaysSchedule b (task_removed t s)
+  unfolding task_removed
   removed_stays t s h = ready_stays _ (with_status t _ s) (status_stays t _ s h)
 
   pub reprioritized_stays : (t : ℕ) (pri : ℤ) (s : Schedule) → StaysSchedule b s → StaysSchedule b (reprioritized by_arrival t pri s)

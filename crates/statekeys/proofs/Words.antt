@@ -3,7 +3,7 @@ use Rattle.std.proofs.Common.{◌≡◌, ℕ, ◌-◌, Bool, true, false, List, 
 use Rattle.std.specs.Int.{cast_signed}
 use Rattle.execlist.specs.Disciplines.{by_arrival}
 use Rattle.forbid.specs.Nesting.{Nesting, after_forbid, after_permit, after_disable, after_enable}
-use Rattle.scheduler.specs.Schedule.{Schedule, allocates, frees, sets_signals, after_wait, come_for, signals_of, nesting_of, nested, leaves, removed}
+use Rattle.scheduler.specs.Schedule.{Schedule, allocates_signal, frees_signal, sets_signals, after_wait, come_for, signals_of, nesting_of, nested, leaves, task_removed}
 use Rattle.scheduler.specs.Dispatch.{signalled, added, reprioritized}
 use Rattle.script.specs.declared.word.Word.{Word}
 use Rattle.script.specs.declared.word.Word.TheVariants as group
@@ -117,11 +117,11 @@ module _ (b : State) where
       → Drifts b (λ m. does_signals word t call (placed m s))
   unfolding signal_rules
   signals_drifts signals.AllocSignal t call s is h =
-      ends_answered t call _ (allocates t (cast_signed w32 (argument 0 call)) s.schedule) s (allocates_stays b.schedule t _ s.schedule h.schedule) h
+      ends_answered t call _ (allocates_signal t (cast_signed w32 (argument 0 call)) s.schedule) s (allocates_stays b.schedule t _ s.schedule h.schedule) h
   signals_drifts signals.FreeSignal t call s is h =
       chosen (nat_eq (argument 0 call) 0xffffffff) _ _ (ends_done t call s.schedule s h.schedule h)
       (refused (free_signal_alert (argument 0 call)) (ByTask t) call _ s h
-      (ends_done t call (frees t (argument 0 call) s.schedule) s (frees_stays b.schedule t _ s.schedule h.schedule) h))
+      (ends_done t call (frees_signal t (argument 0 call) s.schedule) s (frees_stays b.schedule t _ s.schedule h.schedule) h))
   signals_drifts signals.SetSignal t call s is h =
       refused (mask_alert (argument 1 call)) (ByTask t) call _ s h
       (ends_answered t call _ (sets_signals t (argument 0 call) (argument 1 call) s.schedule) s (sets_stays b.schedule t _ _ s.schedule h.schedule) h)
@@ -150,7 +150,7 @@ module _ (b : State) where
   other_drifts : (other t : ℕ) (call : Call) (s : State) → Stays b s → Drifts b (λ m. ends_other other t call (placed m s))
   unfolding dropped done
   other_drifts other t call s h =
-      kept _ (done t call (record s { schedule = removed other s.schedule })) (λ m. refl)
+      kept _ (done t call (record s { schedule = task_removed other s.schedule })) (λ m. refl)
       (record {
         schedule = removed_stays b.schedule other s.schedule h.schedule;
         scripts = goes_stays b.scripts t call.next s.scripts h.scripts;

@@ -67,7 +67,8 @@ fn are_bare_servers(servers: &[ServerRecord]) -> bool
     true
 }
 
-/// Whether each word of a machine file neither asks for memory nor touches what lies in it. If the answer is true it is so.
+/// Whether each word of a machine file neither asks for memory nor touches what lies in it. If the answer is true it is
+/// so.
 ///
 /// Source: project rule.
 pub fn is_bare_machine(file: &MachineFile) -> bool

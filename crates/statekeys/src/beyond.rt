@@ -27,8 +27,8 @@ fn beyond_in(owner: &'static str, name: Name, code: &[Command]) -> Option<Beyond
     })
 }
 
-/// The first command of a machine file whose word asks for memory or touches what lies in it: those of tasks come first, then those of software
-/// interrupts and of servers. None if there is none.
+/// The first command of a machine file whose word asks for memory or touches what lies in it: those of tasks come
+/// first, then those of software interrupts and of servers. None if there is none.
 ///
 /// Source: project rule.
 pub fn first_beyond(file: &MachineFile) -> Option<Beyond> {

@@ -1,5 +1,5 @@
-//! What distinguishes the states of a machine: its keys, and the laws by which a set of keys has every state. So far of machines whose words do not touch
-//! their memory.
+//! What distinguishes the states of a machine: its keys, and the laws by which a set of keys has every state. So far of
+//! machines whose words do not touch their memory.
 #![tactic(auto)]
 
 mod bare;

@@ -35,9 +35,9 @@ fn is_all<W: Walker>(
     is_closed(alloc, walker, kinds, &searched.found)
 }
 
-/// Searches for the states to which events of these kinds come, in whatever order and however many, looks through what was found, and answers the
-/// report. If it says that the set is closed, each such list of events leads to one of its states, or one of the alerts has ended the run; and each
-/// alert is that of the events that are printed with it.
+/// Searches for the states to which events of these kinds come, in whatever order and however many, looks through what
+/// was found, and answers the report. If it says that the set is closed, each such list of events leads to one of its
+/// states, or one of the alerts has ended the run; and each alert is that of the events that are printed with it.
 ///
 /// # Errors
 ///

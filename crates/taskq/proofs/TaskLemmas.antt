@@ -2,7 +2,7 @@
 use Rattle.std.proofs.Common.{◌≡◌, ℕ, ◌<◌, ◌≤◌, ◌+◌, zero, suc, Bool, true, false, cond, List, [], ◌∷◌, ◌++◌, Option, Some, None, IfSome, map, take, length, replicate, slice_set, slice_index_or, refl, sym, ap, ◌∙◌, arith, ℤ, pos, find, length-set, set-set, get_or-set_same}
 use Rattle.std.specs.List.{range_with_len}
 use Rattle.std.proofs.lemmas.{Bool.cond-true, Bool.cond-false, List.length-map, List.map-set, List.set-get_or, List.get_or_read, List.take_more, List.take_more_set, List.get_or_past}
-use Rattle.execlist.specs.{Order.enqueue, Order.without, Lists.KeyData, Lists.pri_of, Lists.times, Lists.sequence, Lists.is_at, Disciplines.pri_at}
+use Rattle.execlist.specs.{Order.enqueue, Order.without_item, Lists.KeyData, Lists.pri_of, Lists.times, Lists.sequence, Lists.is_at, Disciplines.pri_at}
 use Rattle.taskq.specs.declared.TaskState.TheVariants.{Absent, Ready, Running, Waiting, Removed}
 use Rattle.taskq.specs.{declared.TaskState.TaskState, Tasks.home_for, Tasks.state_at, Tasks.pris_of, Tasks.is_ready, Tasks.is_live}
 use Rattle.execlist.proofs.PlainLemmas.{mapped_replicate, without_fresh}
@@ -98,14 +98,14 @@ pub arrived : (all new : List (List ℕ)) (keys : List KeyData) (t : ℕ) → le
 arrived all new keys t one e = ap (λ l. sequence l 0) e ∙ only_written all (enqueue (pri_of keys) (sequence all 0) t) one
     ∙ enqueue_by_pris keys (sequence all 0) t
 
-pub departed : (all new : List (List ℕ)) (o : Option ℕ) (t : ℕ) → length all ≡ 1 → o ≡ Some 0 → IfSome o (λ h. new ≡ slice_set all h (without t (sequence all h))) → sequence new 0 ≡ without t (sequence all 0)
+pub departed : (all new : List (List ℕ)) (o : Option ℕ) (t : ℕ) → length all ≡ 1 → o ≡ Some 0 → IfSome o (λ h. new ≡ slice_set all h (without_item t (sequence all h))) → sequence new 0 ≡ without_item t (sequence all 0)
 departed all new None t one own e = cc
 departed all new (Some h) t one own e =
     let here : h ≡ 0 = cc in
-    ap (λ l. sequence l 0) (e ∙ ap (λ k. slice_set all k (without t (sequence all k))) here)
-    ∙ only_written all (without t (sequence all 0)) one
+    ap (λ l. sequence l 0) (e ∙ ap (λ k. slice_set all k (without_item t (sequence all k))) here)
+    ∙ only_written all (without_item t (sequence all 0)) one
 
-pub not_there : (t : ℕ) (xs : List ℕ) (o : Option ℕ) → o ≡ None → times t xs ≡ cond (is_at o 0) 1 0 → xs ≡ without t xs
+pub not_there : (t : ℕ) (xs : List ℕ) (o : Option ℕ) → o ≡ None → times t xs ≡ cond (is_at o 0) 1 0 → xs ≡ without_item t xs
 not_there t xs o none law = sym (without_fresh t xs (law ∙ ap (λ k. cond (is_at k 0) 1 0) none))
 
 -- New tasks.

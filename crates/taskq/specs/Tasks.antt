@@ -56,7 +56,7 @@ pris_of keys = map (λ k. k.pri) keys
 
 -- a list space with these homes represents tasks of these states: it has one header, which holds the
 -- ready ones, and each task has a name
-pub record IsSound (headers : ℕ) (homes : List (Option ℕ)) (states : List TaskState) (named : ℕ) : Type 0 where
+pub record IsSoundQueue (headers : ℕ) (homes : List (Option ℕ)) (states : List TaskState) (named : ℕ) : Type 0 where
   pub one_header : headers ≡ 1
   pub ready_held : homes ≡ map home_for states
   pub all_named : named ≡ length states

@@ -4,7 +4,7 @@
 
 ghost use Rattle.std.specs.Prelude.{◌≡◌, ◌≢◌, ℕ, ◌<◌, ◌≤◌, List, [], ◌∷◌, Option, Some, None, length, replicate, slice_set, map, find, true, IfOk, IfSome, IsTrue, if◌then◌else◌};
 ghost use Rattle.std.specs.List.{range_with_len};
-ghost use Rattle.execlist.specs.{Order.enqueue, Order.first, Order.without, Lists.part_after, Lists.part_from, Lists.times, Disciplines.pri_at};
+ghost use Rattle.execlist.specs.{Order.enqueue, Order.first, Order.without_item, Lists.part_after, Lists.part_from, Lists.times, Disciplines.pri_at};
 ghost use Rattle.taskq.specs.Tasks.{state_at, name_at, is_ready, is_live, is_live_named, pris_of};
 
 mod names;
@@ -63,7 +63,7 @@ pub struct TaskQ<S: ListSpace> {
 impl<S: ListSpace> Model for TaskQ<S> {
     ghost use Rattle.std.specs.Prelude.{length, map};
     ghost use Rattle.execlist.specs.Lists.{sequence};
-    ghost use Rattle.taskq.specs.Tasks.{Tasks, pris_of, IsSound};
+    ghost use Rattle.taskq.specs.Tasks.{Tasks, pris_of, IsSoundQueue};
 
     ghost Value = { Tasks };
 
@@ -74,7 +74,7 @@ impl<S: ListSpace> Model for TaskQ<S> {
       names = q.names;
     } };
 
-    ghost invariant = { λ q. IsSound
+    ghost invariant = { λ q. IsSoundQueue
         (length (S.sequences q.space)) (S.homes q.space) q.states.items (length q.names) };
 }
 
@@ -100,7 +100,8 @@ impl<S: ListSpace> TaskQ<S> {
         })
     }
 
-    /// Makes the tasks absent, with these names and priorities, as `new` made them: as many as there are, in the order given.
+    /// Makes the tasks absent, with these names and priorities, as `new` made them: as many as there are, in the order
+    /// given.
     ///
     /// Source: project rule.
     pub fn reset(&mut self, tasks: &[TaskInit])
@@ -125,20 +126,20 @@ impl<S: ListSpace> TaskQ<S> {
         self.space.first(0)
     }
 
-    /// Answers the ready task that is to run after `after`, or the one that is to run next for none; none at the end, and if `after` is not
-    /// ready. RKM Libraries, Exec Tasks: scheduling.
+    /// Answers the ready task that is to run after `after`, or the one that is to run next for none; none at the end,
+    /// and if `after` is not ready. RKM Libraries, Exec Tasks: scheduling.
     pub fn ready_after(&self, after: Option<TaskId>) -> Option<TaskId>
         ensures value { result ≡ first (part_from after self.now.ready) }
         ensures ready { IfSome result (λ t. state_at self.now.states t ≡ TaskState.Ready) }
     {
         match after {
             None => self.pick(),
-            Some(t) => self.ready_behind(t),
+            Some(t) => self.next_ready(t),
         }
     }
 
     // The ready task after this one, if it is ready and not the last.
-    fn ready_behind(&self, t: TaskId) -> Option<TaskId>
+    fn next_ready(&self, t: TaskId) -> Option<TaskId>
         ensures value { result ≡ first (part_after t self.now.ready) }
         ensures ready { IfSome result (λ t. state_at self.now.states t ≡ TaskState.Ready) }
     {
@@ -168,7 +169,7 @@ impl<S: ListSpace> TaskQ<S> {
     /// at a time. RKM Libraries, Exec Tasks: scheduling.
     pub fn run(&mut self, t: TaskId)
         requires ready { state_at self.old.states t ≡ TaskState.Ready }
-        ensures ready { self.new.ready ≡ without t self.old.ready }
+        ensures ready { self.new.ready ≡ without_item t self.old.ready }
         ensures states { self.new.states ≡ slice_set self.old.states t TaskState.Running }
         ensures pris { self.new.pris ≡ self.old.pris }
         ensures names { self.new.names ≡ self.old.names }
@@ -195,7 +196,7 @@ impl<S: ListSpace> TaskQ<S> {
         requires { t < length self.old.states }
         ensures value { result ≡ pri_at self.old.pris t }
         ensures ready { self.new.ready ≡ (if is_ready (state_at self.old.states t)
-            then enqueue (pri_at self.new.pris) (without t self.old.ready) t
+            then enqueue (pri_at self.new.pris) (without_item t self.old.ready) t
             else self.old.ready) }
         ensures states { self.new.states ≡ self.old.states }
         ensures pris { self.new.pris ≡ slice_set self.old.pris t pri }
@@ -216,7 +217,7 @@ impl<S: ListSpace> TaskQ<S> {
     /// Autodoc exec.library/RemTask.
     pub fn remove(&mut self, t: TaskId)
         requires live { IsTrue (is_live (state_at self.old.states t)) }
-        ensures ready { self.new.ready ≡ without t self.old.ready }
+        ensures ready { self.new.ready ≡ without_item t self.old.ready }
         ensures states { self.new.states ≡ slice_set self.old.states t TaskState.Removed }
         ensures pris { self.new.pris ≡ self.old.pris }
         ensures names { self.new.names ≡ self.old.names }

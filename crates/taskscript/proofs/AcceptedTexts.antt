@@ -2,7 +2,7 @@
 use Rattle.std.proofs.Common.{◌≡◌, ℕ, ◌+◌, ◌≤◌, All, if◌then◌else◌, Bool, true, false, List, [], ◌∷◌, ◌++◌, length, Option, Some, None, Ok, refl, subst, append_assoc, arith, append-nil}
 use Rattle.std.proofs.lemmas.{Bool.Decides.nat_tests, List.Elements.All-nil}
 use Rattle.toml.specs.Data.{Members}
-use Rattle.script.specs.Events.{is_within, turns, AreWithin}
+use Rattle.script.specs.Events.{keeps_event_limits, turns, AreWithin}
 use Rattle.taskscript.specs.Events.{event_of, is_skipped, events_of, fault_by, event_line_faults, event_faults as line_by_line, text_lines, script_of}
 use Rattle.script.specs.{declared.event.Event.Event, File.MachineData, Machines.IsMachine}
 use Rattle.taskscript.specs.{declared.fault.EventFault.EventFault, declared.fault.EventFault.TheVariants.TooMany, declared.refused.Refused.Refused, File.refusals, File.machine_of, File.placed_file_of_document, File.placed_file_of, File.file_of, Places.without_place, Tree.document_of}
@@ -25,13 +25,13 @@ accepted_machine bytes m is = of_document (document_of bytes) m is
 
 -- ---- event texts
 
-tells : (events : List Event) (within : Bool) → All (λ e. 1 ≤ turns e) events → is_within events ≡ within → first (if within then [] else TooMany ∷ []) ≡ None → AreWithin events
+tells : (events : List Event) (within : Bool) → All (λ e. 1 ≤ turns e) events → keeps_event_limits events ≡ within → first (if within then [] else TooMany ∷ []) ≡ None → AreWithin events
 tells events true some is h = record { some = some; steps = grind (arith, nat_tests, is); ticks = grind (arith, nat_tests, is); count = grind (arith, nat_tests, is) }
 tells events false some is h = absurd cc
 
 with_event : (event : Option Event) (number : ℕ) (events : List Event) → All (λ e. 1 ≤ turns e) events → first (fault_by event number events) ≡ None → AreWithin events
 with_event None number events some h = absurd cc
-with_event (Some e) number events some h = tells events (is_within events) some refl h
+with_event (Some e) number events some h = tells events (keeps_event_limits events) some refl h
 
 after_line : (skipped : Bool) (before : List (List ℕ)) (line : List ℕ) → is_skipped line ≡ skipped → AreWithin (events_of before) → first (event_line_faults before line) ≡ None → AreWithin (events_of (before ++ line ∷ []))
 after_line true before line is so_far h = rw (events_push before line, is, append-nil (events_of before)) so_far

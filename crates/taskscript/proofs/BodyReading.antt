@@ -9,7 +9,7 @@ use Rattle.taskscript.specs.declared.fault.FileFault.TheVariants.{BadCommand, No
 use Rattle.taskscript.specs.Numbering.{Names, names_after, variable_in, keeps_variable_limits, argument_in, command_in, variables_of, labels_of_arguments, have_room}
 use Rattle.taskscript.specs.Code.{line_in, lines_in, command_said, label_said, commands_of, labels_of, is_label_of, place_of, names_of, line_faults, lines_faults, jump_faults, jumps_said, jumps_faults, body_faults, code_of, shared_after}
 use Rattle.script.specs.{declared.command.Command.Command, Commands.ArgumentData, Commands.CommandData, Commands.command_view}
-use Rattle.taskscript.specs.{declared.fault.FileFault.FileFault, Faults.check, Faults.Judges, Interrupting.Setting, Interrupting.may_stand, Interrupting.names_softints, Labels.Mark, Labels.place_in, Labels.place_at, Labels.are_marked, Labels.jump_faults_in, Labels.jumps_faults_in, Lines.NamedVariableData, Lines.NamedArgumentData, Lines.number, Lines.variable, Lines.label, Lines.quoted, Lines.NamedCommandData, Lines.LineData, Lines.label_line, Lines.command_line, declared.place.Owner.Owner, declared.refused.Refused.Refused, Listings.number_said, Listings.command_lines_from, Listings.command_lines, Meaning.line_meaning, Places.at, Places.line_at, Places.refused, Bodies.Reading, Bodies.nothing_read, Bodies.reading_with, Bodies.reading_after, Bodies.said_faults, Bodies.faults_after}
+use Rattle.taskscript.specs.{declared.fault.FileFault.FileFault, Faults.check, Faults.Judges, Interrupting.Setting, Interrupting.may_have, Interrupting.names_softints, Labels.Mark, Labels.place_in, Labels.place_at, Labels.are_marked, Labels.jump_faults_in, Labels.jumps_faults_in, Lines.NamedVariableData, Lines.NamedArgumentData, Lines.number, Lines.variable, Lines.label, Lines.quoted, Lines.NamedCommandData, Lines.LineData, Lines.label_line, Lines.command_line, declared.place.Owner.Owner, declared.refused.Refused.Refused, Listings.number_said, Listings.command_lines_from, Listings.command_lines, Meaning.line_meaning, Places.at, Places.line_at, Places.refused, Bodies.Reading, Bodies.nothing_read, Bodies.reading_with, Bodies.reading_after, Bodies.said_faults, Bodies.faults_after}
 use Rattle.script.specs.Commands as numbered
 use Rattle.execlist.specs.Order.{first}
 use Rattle.taskscript.proofs.{Firsts.first_none, Firsts.first_some, Firsts.first_left, Firsts.first_right, Firsts.at_none, Firsts.at_some, Firsts.none_at, FirstSight.room_whole, Turns.names_after-append}
@@ -52,7 +52,7 @@ faults_step w j n s r whole others (Some (command_line c)) rest h =
     let room : have_room r.names (variables_of c) ≡ list_all (λ v. keeps_variable_limits (variable_in whole v)) (variables_of c) =
     room_whole r.names (variables_of c) (variables_left others) ∙ ap (λ (names : Names). list_all (λ v. keeps_variable_limits (variable_in names v)) (variables_of c)) h in
     let q = reading_with r (Some (command_line c)) in
-    ap (λ (b : Bool). at (line_at w j n) (check (names_softints s c) BadCommand ++ (check (may_stand s c) NotInInterrupt ++ check b TooMany)) ++ faults_after w j (n + 1) s q others) room
+    ap (λ (b : Bool). at (line_at w j n) (check (names_softints s c) BadCommand ++ (check (may_have s c) NotInInterrupt ++ check b TooMany)) ++ faults_after w j (n + 1) s q others) room
     ∙ ap (λ (fs : List Refused). at (line_at w j n) (line_faults s whole (mark_names r.marks) (Some (command_line c))) ++ fs)
     (rest q (sym (names_after-append r.names (variables_of c) (variables_left others)) ∙ h) ∙ ap (λ (ns : List (List ℕ)). lines_faults w j (n + 1) s whole ns others) (sym (append-nil (mark_names r.marks))))
 

@@ -7,7 +7,7 @@ use Rattle.taskscript.specs.declared.fault.FileFault.TheVariants.{BadCommand, No
 use Rattle.script.specs.declared.variable.Variable.TheVariants.{Private, Shared}
 use Rattle.taskscript.specs.Numbering.{Names, variable_in, argument_in, command_in, keeps_variable_limits, variables_of_target, variables_of_arguments, variables_of}
 use Rattle.script.specs.{declared.variable.Variable.Variable, Commands.CommandData, Commands.VariableFits, Commands.ArgumentFits, Commands.CommandFits}
-use Rattle.taskscript.specs.{declared.fault.FileFault.FileFault, Faults.check, Interrupting.Setting, Interrupting.may_stand, Interrupting.names_softints, Lines.NamedVariableData, Lines.NamedArgumentData, Lines.number, Lines.variable, Lines.label, Lines.quoted, Lines.NamedCommandData, Lines.LineData, Lines.label_line, Lines.command_line, Code.command_said, Code.commands_of, Code.labels_of, Code.place_of, Code.names_of, Code.line_faults, Code.lines_faults, Code.jumps_faults, Code.body_faults, Code.code_of, declared.place.Owner.Owner, Meaning.line_meaning, Places.at, Places.line_at}
+use Rattle.taskscript.specs.{declared.fault.FileFault.FileFault, Faults.check, Interrupting.Setting, Interrupting.may_have, Interrupting.names_softints, Lines.NamedVariableData, Lines.NamedArgumentData, Lines.number, Lines.variable, Lines.label, Lines.quoted, Lines.NamedCommandData, Lines.LineData, Lines.label_line, Lines.command_line, Code.command_said, Code.commands_of, Code.labels_of, Code.place_of, Code.names_of, Code.line_faults, Code.lines_faults, Code.jumps_faults, Code.body_faults, Code.code_of, declared.place.Owner.Owner, Meaning.line_meaning, Places.at, Places.line_at}
 use Rattle.script.specs.Commands as numbered
 use Rattle.execlist.specs.Order.{first}
 use Rattle.taskscript.proofs.{Firsts.first_left, Firsts.first_right, Firsts.none_at, FirstSight.all_within}
@@ -47,18 +47,18 @@ no_fault false f h = absurd cc
 -- a command without a fault: the software interrupts that it names are there, it may be in its body, and its variables are within their limits
 pub record Stands (s : Setting) (names : Names) (c : NamedCommandData) : Type 0 where
   pub named : names_softints s c ≡ true
-  pub stands : may_stand s c ≡ true
+  pub stands : may_have s c ≡ true
   pub within : all_within names (variables_of c) ≡ true
 
 command_stands : (s : Setting) (names : Names) (before : List (List ℕ)) (c : NamedCommandData) → first (line_faults s names before (Some (command_line c))) ≡ None → Stands s names c
 command_stands s names before c h =
     let named = check (names_softints s c) BadCommand in
-    let stands = check (may_stand s c) NotInInterrupt in
+    let stands = check (may_have s c) NotInInterrupt in
     let within = check (all_within names (variables_of c)) TooMany in
     let rest = first_right named (stands ++ within) h in
     record {
       named = no_fault (names_softints s c) BadCommand (first_left named (stands ++ within) h);
-      stands = no_fault (may_stand s c) NotInInterrupt (first_left stands within rest);
+      stands = no_fault (may_have s c) NotInInterrupt (first_left stands within rest);
       within = no_fault (all_within names (variables_of c)) TooMany (first_right stands within rest);
     }
 

@@ -3,7 +3,7 @@ use Rattle.std.proofs.Common.{◌≡◌, ℕ, ◌+◌, ◌≤◌, ◌<◌, Bool,
 use Rattle.std.proofs.lemmas.{List.drop_more, List.take_more, List.length-map, List.length_push, List.Sums.sum_by_push, Bool.Decides.nat_tests}
 use Rattle.std.proofs.Math.ListN.{get_or-map as default_map}
 use Rattle.taskscript.specs.declared.fault.EventFault.TheVariants.{BadLine, TooMany, OutOfMemory}
-use Rattle.script.specs.Events.{event_steps, event_ticks, are_within, is_within, AreWithin}
+use Rattle.script.specs.Events.{event_steps, event_ticks, are_within, keeps_event_limits, AreWithin}
 use Rattle.taskscript.specs.Events.{event_of, is_skipped, events_on, events_of, event_line_faults, event_faults, text_lines, script_of, JudgesLines}
 use Rattle.script.specs.declared.event.Event.{Event}
 use Rattle.taskscript.specs.declared.fault.EventFault.{EventFault}
@@ -62,19 +62,19 @@ pub more_found : (ls : List (Bor (List ℕ))) (i : ℕ) (e : Event) (es : List E
 more_found ls i e es lt h some so_far = ap (λ (xs : List Event). xs ++ e ∷ []) so_far ∙ sym (event_found ls i e lt h some) ∙ sym (ap events_of (next_take ls i lt))
 
 -- the counters are the sums
-pub counted : (es : List Event) (e : Event) (s t : ℕ) → s ≡ sum_by event_steps es → t ≡ sum_by event_ticks es → are_within (s + event_steps e) (t + event_ticks e) (length es + 1) ≡ is_within (es ++ e ∷ [])
+pub counted : (es : List Event) (e : Event) (s t : ℕ) → s ≡ sum_by event_steps es → t ≡ sum_by event_ticks es → are_within (s + event_steps e) (t + event_ticks e) (length es + 1) ≡ keeps_event_limits (es ++ e ∷ [])
 counted es e s t p q = rw (sum_by_push event_steps es e, sum_by_push event_ticks es e, length_push es e, ← p, ← q)
 
-judged_here : (ls : List (Bor (List ℕ))) (i : ℕ) (e : Event) (es : List Event) (b : Bool) → i < length ls → is_skipped (text_at ls i) ≡ false → Some e ≡ event_of (text_at ls i) → es ≡ events_of (take i (texts ls)) → is_within (es ++ e ∷ []) ≡ b
+judged_here : (ls : List (Bor (List ℕ))) (i : ℕ) (e : Event) (es : List Event) (b : Bool) → i < length ls → is_skipped (text_at ls i) ≡ false → Some e ≡ event_of (text_at ls i) → es ≡ events_of (take i (texts ls)) → keeps_event_limits (es ++ e ∷ []) ≡ b
     → event_line_faults (take i (texts ls)) (text_at ls i) ≡ (if b then [] else TooMany ∷ [])
 judged_here ls i e es b lt h some so_far within =
     rw (h, ← some, event_found ls i e lt h some, ← so_far, within)
 
-pub too_many : (ls : List (Bor (List ℕ))) (i : ℕ) (e : Event) (es : List Event) → i < length ls → is_skipped (text_at ls i) ≡ false → Some e ≡ event_of (text_at ls i) → es ≡ events_of (take i (texts ls)) → is_within (es ++ e ∷ []) ≡ false
+pub too_many : (ls : List (Bor (List ℕ))) (i : ℕ) (e : Event) (es : List Event) → i < length ls → is_skipped (text_at ls i) ≡ false → Some e ≡ event_of (text_at ls i) → es ≡ events_of (take i (texts ls)) → keeps_event_limits (es ++ e ∷ []) ≡ false
     → first (event_faults (take i (texts ls)) (drop i (texts ls))) ≡ Some TooMany
 too_many ls i e es lt h some so_far within = ap first (here ls i lt) ∙ rw (judged_here ls i e es false lt h some so_far within)
 
-pub goes_on : (ls : List (Bor (List ℕ))) (i : ℕ) (e : Event) (es : List Event) → i < length ls → is_skipped (text_at ls i) ≡ false → Some e ≡ event_of (text_at ls i) → es ≡ events_of (take i (texts ls)) → is_within (es ++ e ∷ []) ≡ true
+pub goes_on : (ls : List (Bor (List ℕ))) (i : ℕ) (e : Event) (es : List Event) → i < length ls → is_skipped (text_at ls i) ≡ false → Some e ≡ event_of (text_at ls i) → es ≡ events_of (take i (texts ls)) → keeps_event_limits (es ++ e ∷ []) ≡ true
     → first (event_faults (take i (texts ls)) (drop i (texts ls))) ≡ first (event_faults (take (i + 1) (texts ls)) (drop (i + 1) (texts ls)))
 goes_on ls i e es lt h some so_far within = ap first (here ls i lt) ∙ first_none _ _ (judged_here ls i e es true lt h some so_far within)
 

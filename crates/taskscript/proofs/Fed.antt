@@ -1,9 +1,9 @@
 -- A command with no variable and no jump is the same in each body.
 use Rattle.std.proofs.Common.{◌≡◌, ◌∙◌, ℕ, Bool, true, false, ◌&&◌, not, is_some, List, [], ◌∷◌, ◌++◌, map, Option, None, Some, option_map, Result, Ok, Err, MatchResult, if◌then◌else◌, refl, ap, ap₂, sym}
 use Rattle.std.specs.List.{list_all}
-use Rattle.script.specs.{declared.command.Command.Command, declared.variable.Variable.Variable, Commands.ArgumentData, Commands.CommandData, Commands.CommandFits, Commands.command_view, Machines.QuotesOnce}
+use Rattle.script.specs.{declared.command.Command.Command, declared.variable.Variable.Variable, Commands.ArgumentData, Commands.CommandFits, Commands.command_view, Machines.QuotesOnce}
 use Rattle.script.specs.Commands as numbered
-use Rattle.taskscript.specs.{declared.fault.FileFault.FileFault, declared.named.NamedArgument.NamedArgument, declared.variable.NamedVariable.NamedVariable, Feeding.IsFed, Feeding.fed_said, Feeding.is_fixed, Feeding.may_be_fed, Labels.Mark, Labels.are_marked, Labels.Resolves, Lines.NamedVariableData, Lines.NamedArgumentData, Lines.number, Lines.variable, Lines.label, Lines.quoted, Lines.NamedCommandData, Lines.LineData, Lines.command_line, Lines.fields, Lines.named_argument_view, Lines.named_variable_view, Meaning.line_meaning, Numbering.Names, Numbering.argument_in, Numbering.command_in, Numbering.keeps_variable_limits, Numbering.variable_in, Numbering.variables_of, Numbering.variables_of_target, Numbering.variables_of_arguments, Numbering.labels_of_arguments}
+use Rattle.taskscript.specs.{declared.fault.FileFault.FileFault, declared.named.NamedArgument.NamedArgument, declared.variable.NamedVariable.NamedVariable, Feeding.IsFed, Feeding.fed_said, Feeding.is_fixed, Feeding.may_be_fed, Labels.Mark, Labels.are_marked, Labels.Resolves, Lines.NamedVariableData, Lines.NamedArgumentData, Lines.number, Lines.variable, Lines.label, Lines.quoted, Lines.NamedCommandData, Lines.LineData, Lines.command_line, Lines.fields, Lines.named_argument_view, Lines.named_variable_view, Meaning.line_meaning, Numbering.Names, Numbering.argument_in, Numbering.command_in, Numbering.keeps_variable_limits, Numbering.variable_in, Numbering.variables_of_target, Numbering.variables_of_arguments, Numbering.labels_of_arguments}
 use Rattle.taskscript.specs.declared.fault.FileFault.TheVariants.{BadCommand, OutOfMemory}
 use Rattle.taskscript.proofs.{CodeLaws.command_fits, OneName.once, OwnArguments.command_has, Readings.is_said}
 
@@ -91,9 +91,6 @@ pub fixed_read : (c : NamedCommandData) (marks : List Mark) (own : Names) (there
     → MatchResult result (λ x. (names : Names) (places : List ℕ → ℕ) → command_in names places c ≡ command_view x) (λ _. ⊥)
 fixed_read c marks own there (Ok x) fixed found = λ names places. same_command c fixed names own places there ∙ sym found.1
 fixed_read c marks own there (Err fault) fixed found = let bad : true ≡ false = sym (fixed_marked c fixed marks) ∙ found.1 in absurd cc
-
-pub command_left : (o : Option LineData) (c : NamedCommandData) → o ≡ Some (command_line c) → may_be_fed c ≡ false → fed_said o ≡ None
-command_left o c is left = ap fed_said is ∙ ap (λ (b : Bool). if b then Some c else None) left
 
 command_taken : (o : Option LineData) (c : NamedCommandData) → o ≡ Some (command_line c) → may_be_fed c ≡ true → fed_said o ≡ Some c
 command_taken o c is fixed = ap fed_said is ∙ ap (λ (b : Bool). if b then Some c else None) fixed

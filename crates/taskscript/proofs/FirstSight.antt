@@ -3,7 +3,7 @@ use Rattle.std.proofs.Common.{◌≡◌, ℕ, ◌+◌, Bool, true, false, not, �
 use Rattle.std.specs.List.{list_any, list_all}
 use Rattle.std.proofs.lemmas.{Bool.cases_Bool, Slice.Eq.bytes_eq-Decides}
 use Rattle.script.specs.declared.variable.Variable.TheVariants.{Private, Shared}
-use Rattle.taskscript.specs.Numbering.{seen_after, number_in, Names, names_with, names_after, variable_in, keeps_variable_limits, have_room}
+use Rattle.taskscript.specs.Numbering.{seen_after, place_of_name, Names, names_with, names_after, variable_in, keeps_variable_limits, have_room}
 use Rattle.script.specs.declared.variable.Variable.{Variable}
 use Rattle.taskscript.specs.Lines.{NamedVariableData}
 
@@ -22,9 +22,9 @@ among_pushed (z ∷ seen) x y h = step (bytes_eq x z) (is_among seen x) (bytes_e
     step true b c d h k = refl
     step false b c d h k = k h
 
-number_pushed : (seen : List (List ℕ)) (x y : List ℕ) → (is_among seen x || bytes_eq x y) ≡ true → number_in (seen ++ y ∷ []) x ≡ number_in seen x
+number_pushed : (seen : List (List ℕ)) (x y : List ℕ) → (is_among seen x || bytes_eq x y) ≡ true → place_of_name (seen ++ y ∷ []) x ≡ place_of_name seen x
 number_pushed [] x y h = rw h
-number_pushed (z ∷ seen) x y h = step (bytes_eq x z) (is_among seen x) (bytes_eq x y) (number_in (seen ++ y ∷ []) x) (number_in seen x) h (number_pushed seen x y)
+number_pushed (z ∷ seen) x y h = step (bytes_eq x z) (is_among seen x) (bytes_eq x y) (place_of_name (seen ++ y ∷ []) x) (place_of_name seen x) h (number_pushed seen x y)
   where
     step : (a b c : Bool) (m n : ℕ) → ((a || b) || c) ≡ true → ((b || c) ≡ true → m ≡ n) → cond (not a) (1 + m) 0 ≡ cond (not a) (1 + n) 0
     step true b c m n h k = refl
@@ -38,7 +38,7 @@ or_right true b h = refl
 or_right false b h = h
 
 -- one name more: x keeps its number, if it was there or is this one
-number_kept : (seen : List (List ℕ)) (x y : List ℕ) → (is_among seen x || bytes_eq x y) ≡ true → number_in (seen_after seen y) x ≡ number_in seen x
+number_kept : (seen : List (List ℕ)) (x y : List ℕ) → (is_among seen x || bytes_eq x y) ≡ true → place_of_name (seen_after seen y) x ≡ place_of_name seen x
 number_kept seen x y h =
     elim (cases_Bool (is_among seen y)) [
       | inl there ↦ rw there
@@ -59,7 +59,7 @@ among_here seen x =
       | inr new ↦ rw new (among_pushed seen x x (or_right _ _ (same_bytes x)))
     ]
 
-number_here : (seen : List (List ℕ)) (x : List ℕ) → number_in (seen_after seen x) x ≡ number_in seen x
+number_here : (seen : List (List ℕ)) (x : List ℕ) → place_of_name (seen_after seen x) x ≡ place_of_name seen x
 number_here seen x = number_kept seen x x (or_right (is_among seen x) _ (same_bytes x))
 
 -- ---- variables

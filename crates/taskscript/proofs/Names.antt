@@ -4,7 +4,7 @@ use Rattle.std.specs.List.{list_any, position_or_len}
 use Rattle.std.proofs.lemmas.{Bool.Decides.nat_tests, List.map_push, Option.same_Some}
 use Rattle.arrayvec.specs.ArrayString.{ArrayString}
 use Rattle.script.specs.Names.{texts}
-use Rattle.taskscript.specs.Numbering.{seen_after, number_in}
+use Rattle.taskscript.specs.Numbering.{seen_after, place_of_name}
 
 abbrev pub is : List ℕ → ArrayString → Bool
 is n k = bytes_eq n k.bytes
@@ -13,7 +13,7 @@ pub any_texts : (n : List ℕ) (ks : List ArrayString) → list_any (bytes_eq n)
 any_texts n [] = refl
 any_texts n (k ∷ ks) = ap (λ (b : Bool). bytes_eq n k.bytes || b) (any_texts n ks)
 
-pub number_texts : (n : List ℕ) (ks : List ArrayString) → position_or_len (is n) ks ≡ number_in (texts ks) n
+pub number_texts : (n : List ℕ) (ks : List ArrayString) → position_or_len (is n) ks ≡ place_of_name (texts ks) n
 number_texts n [] = refl
 number_texts n (k ∷ ks) = rw (number_texts n ks)
 

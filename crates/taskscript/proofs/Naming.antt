@@ -4,7 +4,7 @@ use Rattle.std.proofs.lemmas.{List.length-map, List.Elements.All-nil, List.Eleme
 use Rattle.std.proofs.Math.ListN.{get_or-map as default_map}
 use Rattle.script.specs.{Commands.ArgumentData, Commands.number, Commands.variable, Commands.quoted, Commands.place, Commands.IsNamed, Commands.first_name, Machines.is_quoted}
 
--- one that is no name adds nothing to the count, and a name adds one
+-- one that is not a name adds nothing to the count, and a name adds one
 count_more : (a : ArgumentData) (others : List ArgumentData) (n : ℕ) → count_by is_quoted (a ∷ others) ≤ n → count_by is_quoted others ≤ n
 count_more a others n h = let more : (if is_quoted a then 1 else 0) + count_by is_quoted others ≤ n = rw (sum_by-cons (λ b. if is_quoted b then 1 else 0) a others) at h in omega (arith, more)
 

@@ -56,7 +56,7 @@ arguments_resolved marks made named xs i within past known found =
 
 -- ---- the first name
 
--- a name is the first, and what is no name leaves it to the others
+-- a name is the first, and what is not a name leaves it to the others
 pub name_first : (names : Names) (places : List ℕ → ℕ) (a : NamedArgument) (name : Name) (left others : List NamedArgumentData) → left ≡ named_argument_view a ∷ others → a ≡ named.Quoted name
     → name.bytes ≡ first_name (map (argument_in names places) left)
 name_first names places a name left others is quotes =

@@ -12,11 +12,17 @@ refused bytes r h ne = rw (h ne).0 (ap Err (sym (h ne).1))
 abbrev IsRight : Members → Listed → Type 0
 IsRight t l = (l.machine ≡ machine_of t) × (l.listing ≡ listing_of t)
 
+-- what a tree gave is what the file of the tree comes to
+pub tree_decided : (t : Members) (r : Result Listed Refused) → Judges r (refusals t) (IsRight t)
+    → MatchResult r (λ l. placed_file_of_document (Some t) ≡ Ok l.machine) (λ f. ¬ (f.fault ≡ OutOfMemory) → placed_file_of_document (Some t) ≡ Err f)
+tree_decided t (Ok l) h = ap (λ fault. fault_or fault (machine_of t)) h.0 ∙ ap Ok (sym h.1.0)
+tree_decided t (Err f) h = λ ne. ap (λ fault. fault_or fault (machine_of t)) (h ne)
+
 pub decided : (bytes : List ℕ) (t : Members) (r : Result Listed Refused) → document_of bytes ≡ Some t → Judges r (refusals t) (IsRight t)
     → MatchResult r (λ l. placed_file_of bytes ≡ Ok l.machine) (λ f. ¬ (f.fault ≡ OutOfMemory) → placed_file_of bytes ≡ Err f)
 unfolding placed_file_of
-decided bytes t (Ok l) d h = ap placed_file_of_document d ∙ ap (λ fault. fault_or fault (machine_of t)) h.0 ∙ ap Ok (sym h.1.0)
-decided bytes t (Err f) d h = λ ne. ap placed_file_of_document d ∙ ap (λ fault. fault_or fault (machine_of t)) (h ne)
+decided bytes t (Ok l) d h = ap placed_file_of_document d ∙ tree_decided t (Ok l) h
+decided bytes t (Err f) d h = λ ne. ap placed_file_of_document d ∙ tree_decided t (Err f) h ne
 
 pub listed : (bytes : List ℕ) (t : Members) (r : Result Listed Refused) → document_of bytes ≡ Some t → Judges r (refusals t) (IsRight t) → IfOk r (λ l. listing_in bytes ≡ Some l.listing)
 unfolding listing_in

@@ -2,7 +2,7 @@
 use Rattle.std.specs.Prelude.{◌≡◌, ℕ, ◌+◌, not, is_some, List, [], ◌∷◌, ◌++◌, length, map, Option, Some, None, Result, fold}
 use Rattle.arrayvec.specs.ArrayString.{ArrayString}
 use Rattle.taskscript.specs.declared.fault.FileFault.TheVariants.{BadCommand, NotInInterrupt, BadLabel, TooMany}
-use Rattle.taskscript.specs.{declared.body.Body.Body, declared.fault.FileFault.FileFault, Faults.check, Faults.JudgesLine, declared.place.Owner.Owner, declared.refused.Refused.Refused, Places.at, Places.line_at, Interrupting.Setting, Interrupting.may_stand, Interrupting.names_softints, Labels.Mark, Labels.place_in, Labels.marks_view, Lines.NamedCommandData, Lines.LineData, Lines.label_line, Lines.command_line, Lines.named_command_view, Meaning.line_meaning, Numbering.Names, Numbering.names_after, Numbering.variables_of, Numbering.have_room, Numbering.names_view}
+use Rattle.taskscript.specs.{declared.body.Body.Body, declared.fault.FileFault.FileFault, Faults.check, Faults.JudgesLine, declared.place.Owner.Owner, declared.refused.Refused.Refused, Places.at, Places.line_at, Interrupting.Setting, Interrupting.may_have, Interrupting.names_softints, Labels.Mark, Labels.place_in, Labels.marks_view, Lines.NamedCommandData, Lines.LineData, Lines.label_line, Lines.command_line, Lines.named_command_view, Meaning.line_meaning, Numbering.Names, Numbering.names_after, Numbering.variables_of, Numbering.have_room, Numbering.names_view}
 
 -- the commands, the names of variables and the labels so far
 pub record Reading : Type 0 where
@@ -32,7 +32,7 @@ said_faults setting r (Some (label_line name)) =
     check (not setting.of_interrupt) NotInInterrupt ++ check (not (is_some (place_in r.marks name))) BadLabel
 said_faults setting r (Some (command_line c)) =
     check (names_softints setting c) BadCommand
-    ++ (check (may_stand setting c) NotInInterrupt
+    ++ (check (may_have setting c) NotInInterrupt
     ++ check (have_room r.names (variables_of c)) TooMany)
 
 -- the faults of the lines of the body of an item from that number on

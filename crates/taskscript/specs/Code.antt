@@ -5,7 +5,7 @@ use Rattle.toml.specs.Data.{Data, string, Items, no_items, item as an_item}
 use Rattle.taskscript.specs.declared.fault.FileFault.TheVariants.{BadCommand, NotInInterrupt, BadLabel, TooMany}
 use Rattle.taskscript.specs.Numbering.{Names, names_after, variable_in, command_in, keeps_variable_limits, variables_of, labels_of_arguments}
 use Rattle.script.specs.Commands.{CommandData}
-use Rattle.taskscript.specs.{declared.fault.FileFault.FileFault, declared.place.Owner.Owner, declared.refused.Refused.Refused, Places.at, Places.line_at, Faults.check, Lines.NamedCommandData, Lines.LineData, Lines.label_line, Lines.command_line, Interrupting.Setting, Interrupting.may_stand, Interrupting.names_softints, Meaning.line_meaning}
+use Rattle.taskscript.specs.{declared.fault.FileFault.FileFault, declared.place.Owner.Owner, declared.refused.Refused.Refused, Places.at, Places.line_at, Faults.check, Lines.NamedCommandData, Lines.LineData, Lines.label_line, Lines.command_line, Interrupting.Setting, Interrupting.may_have, Interrupting.names_softints, Meaning.line_meaning}
 
 -- ---- lines
 
@@ -63,7 +63,7 @@ line_faults setting names before (Some (label_line name)) =
     check (not setting.of_interrupt) NotInInterrupt ++ check (not (list_any (bytes_eq name) before)) BadLabel
 line_faults setting names before (Some (command_line c)) =
     check (names_softints setting c) BadCommand
-    ++ (check (may_stand setting c) NotInInterrupt
+    ++ (check (may_have setting c) NotInInterrupt
     ++ check (list_all (λ v. keeps_variable_limits (variable_in names v)) (variables_of c)) TooMany)
 
 -- the faults of the lines of a body from that number on, each after the labels before it

@@ -6,7 +6,7 @@ use Rattle.taskscript.specs.declared.fault.EventFault.TheVariants.{BadLine, TooM
 use Rattle.script.specs.{Sources.requested_source_of, declared.event.Event.Event}
 use Rattle.taskscript.specs.{Numbers.decimal_of, declared.fault.EventFault.EventFault}
 use Rattle.execlist.specs.{Order.first, Answers.fault_or}
-use Rattle.script.specs.Events.{is_within}
+use Rattle.script.specs.Events.{keeps_event_limits}
 
 -- ---- one line
 
@@ -50,7 +50,7 @@ events_of (line ∷ lines) = events_on line ++ events_of lines
 -- may ask for
 abbrev pub fault_by : Option Event → ℕ → List Event → List EventFault
 fault_by None number events = BadLine number ∷ []
-fault_by (Some event) number events = if is_within events then [] else TooMany ∷ []
+fault_by (Some event) number events = if keeps_event_limits events then [] else TooMany ∷ []
 
 -- the fault of a line after the lines before it
 abbrev pub event_line_faults : List (List ℕ) → List ℕ → List EventFault

@@ -18,8 +18,8 @@ abbrev pub is_of_interrupt : NamedCommandData → Bool
 is_of_interrupt c = is_word_of_interrupt c.word && list_all (λ (v : NamedVariableData). v.is_shared) (variables_of c)
 
 -- a body that is judged by this setting may have this command
-abbrev pub may_stand : Setting → NamedCommandData → Bool
-may_stand setting c = not setting.of_interrupt || is_of_interrupt c
+abbrev pub may_have : Setting → NamedCommandData → Bool
+may_have setting c = not setting.of_interrupt || is_of_interrupt c
 
 -- ---- the software interrupts that a command names
 

@@ -16,8 +16,8 @@ abbrev pub seen_after : List (List ℕ) → List ℕ → List (List ℕ)
 seen_after seen name = if list_any (bytes_eq name) seen then seen else seen ++ name ∷ []
 
 -- the place of a name among those that were seen; after them, if it is new
-abbrev pub number_in : List (List ℕ) → List ℕ → ℕ
-number_in seen name = position_or_len (bytes_eq name) seen
+abbrev pub place_of_name : List (List ℕ) → List ℕ → ℕ
+place_of_name seen name = position_or_len (bytes_eq name) seen
 
 -- the names of the private variables of a body, and those of the shared variables of the file up to here, both in the
 -- order of first sight
@@ -39,7 +39,7 @@ names_after names variables = fold names_with names variables
 
 -- a variable by its number: its place among the names in order of first sight
 abbrev pub variable_in : Names → NamedVariableData → Variable
-variable_in names v = if v.is_shared then Shared (number_in names.shared v.name) else Private (number_in names.private v.name)
+variable_in names v = if v.is_shared then Shared (place_of_name names.shared v.name) else Private (place_of_name names.private v.name)
 
 -- an argument with the number of its variable, or the place that its label has
 abbrev pub argument_in : Names → (List ℕ → ℕ) → NamedArgumentData → ArgumentData

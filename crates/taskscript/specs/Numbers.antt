@@ -32,6 +32,6 @@ abbrev pub negated : ℕ → Option ℕ
 negated n = if nat_le 1 n && nat_le n 2147483648 then Some (4294967296 - n) else None
 
 -- the number of a field: hexadecimal after `$`, a negative decimal number after `-`, else a decimal number
-abbrev pub number_of : List ℕ → Option ℕ
-number_of [] = None
-number_of (b ∷ bs) = if b == 36 then hex_of bs else if b == 45 then option_and_then negated (decimal_of bs) else decimal_of (b ∷ bs)
+abbrev pub number_written : List ℕ → Option ℕ
+number_written [] = None
+number_written (b ∷ bs) = if b == 36 then hex_of bs else if b == 45 then option_and_then negated (decimal_of bs) else decimal_of (b ∷ bs)

@@ -3,7 +3,7 @@ use Rattle.std.proofs.Common.{◌≡◌, ℕ, ◌≤◌, Bool, true, false, ◌|
 use Rattle.std.proofs.lemmas.{Bool.cases_Bool, Bool.Decides.nat_tests, Option.same_Some, Slice.Eq.bytes_eq-Decides}
 use Rattle.script.specs.declared.word.row.Kind.TheVariants.{Value, Label, Name, NameOrNone, Softint}
 use Rattle.script.specs.{declared.word.Word.Word, declared.word.row.Kind.Kind, Words.word_text, Words.answers, Words.kinds, WordTable.word_known}
-use Rattle.taskscript.specs.{Identifiers.is_identifier, Numbers.is_digit, Numbers.decimal_of, Numbers.number_of, Lines.NamedVariableData, Lines.NamedArgumentData, Lines.variable, Lines.number, Lines.label, Lines.quoted, Lines.NamedCommandData, Parsing.variable_of, Parsing.argument_of, Parsing.arguments_of, Parsing.target_of, Parsing.with_word, Parsing.cut_target, Parsing.command_of, Quotes.quoted_from, Variables.begins_small, Variables.variable_from, Says.quote, Says.IsVariable, Says.IsArgument, Says.AreArguments, Says.IsTarget, Says.IsLine}
+use Rattle.taskscript.specs.{Identifiers.is_identifier, Numbers.is_digit, Numbers.decimal_of, Numbers.number_written, Lines.NamedVariableData, Lines.NamedArgumentData, Lines.variable, Lines.number, Lines.label, Lines.quoted, Lines.NamedCommandData, Parsing.variable_of, Parsing.argument_of, Parsing.arguments_of, Parsing.target_of, Parsing.with_word, Parsing.cut_target, Parsing.command_of, Quotes.quoted_from, Variables.begins_small, Variables.variable_from, Says.quote, Says.IsVariable, Says.IsArgument, Says.AreArguments, Says.IsTarget, Says.IsLine}
 
 same_bytes : (x y : List ℕ) → bytes_eq x y ≡ true → x ≡ y
 same_bytes x y h = (bytes_eq-Decides x y).0 h
@@ -17,8 +17,8 @@ no_quote f n sign same = let first : 61 ≡ 34 = ap (λ (g : List ℕ). get_or g
 no_variable : (f : List ℕ) (v : NamedVariableData) → f ≡ codes "=" → IsVariable f v → ⊥
 no_variable f v sign h = let none : variable_of (codes "=") ≡ Some v = ap variable_of (sym sign) ∙ variable_from f v h in cc
 
-no_value : (f : List ℕ) (n : ℕ) → f ≡ codes "=" → number_of f ≡ Some n → ⊥
-no_value f n sign h = let none : number_of (codes "=") ≡ Some n = ap number_of (sym sign) ∙ h in cc
+no_value : (f : List ℕ) (n : ℕ) → f ≡ codes "=" → number_written f ≡ Some n → ⊥
+no_value f n sign h = let none : number_written (codes "=") ≡ Some n = ap number_written (sym sign) ∙ h in cc
 
 no_zero : (f : List ℕ) → f ≡ codes "=" → f ≡ codes "0" → ⊥
 no_zero f sign h = let same : codes "=" ≡ codes "0" = sym sign ∙ h in cc
@@ -60,8 +60,8 @@ no_digit b bs h = rw h (or_last (nat_lt (length (b ∷ bs)) 1) _)
     or_last true o = refl
     or_last false o = refl
 
--- what begins with a byte above the digits is no number
-no_number : (b : ℕ) (bs : List ℕ) → 58 ≤ b → number_of (b ∷ bs) ≡ None
+-- what begins with a byte above the digits is not a number
+no_number : (b : ℕ) (bs : List ℕ) → 58 ≤ b → number_written (b ∷ bs) ≡ None
 no_number b bs h =
     let a : (b == 36) ≡ false = grind (arith, nat_tests) in
     let c : (b == 45) ≡ false = grind (arith, nat_tests) in
@@ -77,11 +77,11 @@ is_sign b h = grind (arith, nat_tests)
 no_name : (b : ℕ) (bs : List ℕ) → (b == 64) ≡ false → is_identifier (b ∷ bs) ≡ false → variable_of (b ∷ bs) ≡ None
 no_name b bs h g = rw (h, g)
 
-clash : {A : Type 0} (b n : ℕ) (bs : List ℕ) → 58 ≤ b → number_of (b ∷ bs) ≡ Some n → A
+clash : {A : Type 0} (b n : ℕ) (bs : List ℕ) → 58 ≤ b → number_written (b ∷ bs) ≡ Some n → A
 clash b n bs h e = let none = no_number b bs h in absurd cc
 
--- a number is no variable
-number_is_other : (b n : ℕ) (bs : List ℕ) → number_of (b ∷ bs) ≡ Some n → variable_of (b ∷ bs) ≡ None
+-- a number is not a variable
+number_is_other : (b n : ℕ) (bs : List ℕ) → number_written (b ∷ bs) ≡ Some n → variable_of (b ∷ bs) ≡ None
 number_is_other b n bs h =
     elim (cases_Bool (b == 64)) [
       | inl sign ↦ clash b n bs (is_sign b sign) h

@@ -4,7 +4,7 @@ use Rattle.std.specs.Prelude.{ℕ, ◌-◌, Bool, true, false, ◌&&◌, nat_le,
 use Rattle.std.specs.Option.{option_or}
 use Rattle.script.specs.declared.word.row.Kind.TheVariants.{Value, Label, Name, NameOrNone, Softint}
 use Rattle.script.specs.{declared.word.row.Kind.Kind, Names.is_name, Words.word_of, Words.answers, Words.kinds}
-use Rattle.taskscript.specs.{Identifiers.identifier_in, Lines.NamedVariableData, Lines.NamedArgumentData, Lines.number, Lines.variable, Lines.label, Lines.quoted, Lines.NamedCommandData, Lines.LineData, Lines.label_line, Lines.command_line, Numbers.number_of}
+use Rattle.taskscript.specs.{Identifiers.identifier_in, Lines.NamedVariableData, Lines.NamedArgumentData, Lines.number, Lines.variable, Lines.label, Lines.quoted, Lines.NamedCommandData, Lines.LineData, Lines.label_line, Lines.command_line, Numbers.number_written}
 
 -- ---- variables
 
@@ -32,7 +32,7 @@ quoted_in field =
 
 -- the argument of a kind that a field is, if it is one
 abbrev pub argument_of : Kind → List ℕ → Option NamedArgumentData
-argument_of Value field = option_or (option_map variable (variable_of field)) (option_map number (number_of field))
+argument_of Value field = option_or (option_map variable (variable_of field)) (option_map number (number_written field))
 argument_of Label field = option_map label (identifier_in field)
 argument_of Name field = option_map quoted (quoted_in field)
 argument_of Softint field = option_map quoted (quoted_in field)

@@ -2,7 +2,7 @@
 use Rattle.std.specs.Prelude.{◌≡◌, ℕ, Bool, true, codes, List, [], ◌∷◌, ◌++◌, Option, Some, None, if◌then◌else◌}
 use Rattle.script.specs.declared.word.row.Kind.TheVariants.{Value, Label, Name, NameOrNone, Softint}
 use Rattle.script.specs.{declared.word.row.Kind.Kind, Names.is_name, Words.word_text, Words.answers, Words.kinds}
-use Rattle.taskscript.specs.{Identifiers.is_identifier, Numbers.number_of, Lines.NamedVariableData, Lines.NamedArgumentData, Lines.variable, Lines.number, Lines.label, Lines.quoted, Lines.NamedCommandData, Lines.LineData, Lines.label_line, Lines.command_line}
+use Rattle.taskscript.specs.{Identifiers.is_identifier, Numbers.number_written, Lines.NamedVariableData, Lines.NamedArgumentData, Lines.variable, Lines.number, Lines.label, Lines.quoted, Lines.NamedCommandData, Lines.LineData, Lines.label_line, Lines.command_line}
 
 -- a double quote, `"`
 abbrev pub quote : List ℕ
@@ -21,7 +21,7 @@ pub record IsVariable (field : List ℕ) (v : NamedVariableData) : Type 0 where
 -- between double quotes; where there may be no name, `0` alone means that.
 abbrev pub IsArgument : Kind → List ℕ → NamedArgumentData → Type 0
 IsArgument Value field (variable v) = IsVariable field v
-IsArgument Value field (number n) = number_of field ≡ Some n
+IsArgument Value field (number n) = number_written field ≡ Some n
 IsArgument Label field (label n) = (field ≡ n) × (is_identifier n ≡ true)
 IsArgument Name field (quoted n) = (field ≡ quote ++ n ++ quote) × (is_name n ≡ true)
 IsArgument NameOrNone field (quoted n) = (field ≡ quote ++ n ++ quote) × (is_name n ≡ true)

@@ -4,7 +4,7 @@ use Rattle.std.specs.Option.{option_or}
 use Rattle.std.proofs.lemmas.{Option.same_Some, Slice.Eq.bytes_eq-Decides}
 use Rattle.script.specs.declared.word.row.Kind.TheVariants.{Value, Label, Name, NameOrNone, Softint}
 use Rattle.script.specs.{declared.word.Word.Word, declared.word.row.Kind.Kind, Words.word_text, Words.word_of, Words.all_words, Words.answers, Words.kinds}
-use Rattle.taskscript.specs.{Identifiers.is_identifier, Numbers.number_of, Lines.NamedVariableData, Lines.NamedArgumentData, Lines.variable, Lines.number, Lines.label, Lines.quoted, Lines.NamedCommandData, Parsing.◌>>=◌, Parsing.variable_of, Parsing.quoted_in, Parsing.argument_of, Parsing.arguments_of, Parsing.target_of, Parsing.with_word, Parsing.command_of, Quotes.quoted_back, Variables.variable_is, Says.IsArgument, Says.AreArguments, Says.IsTarget, Says.IsLine}
+use Rattle.taskscript.specs.{Identifiers.is_identifier, Numbers.number_written, Lines.NamedVariableData, Lines.NamedArgumentData, Lines.variable, Lines.number, Lines.label, Lines.quoted, Lines.NamedCommandData, Parsing.◌>>=◌, Parsing.variable_of, Parsing.quoted_in, Parsing.argument_of, Parsing.arguments_of, Parsing.target_of, Parsing.with_word, Parsing.command_of, Quotes.quoted_back, Variables.variable_is, Says.IsArgument, Says.AreArguments, Says.IsTarget, Says.IsLine}
 
 pub bind_ok : {A B : Type 0} (o : Option A) (f : A → Option B) (y : B) → (o >>= f) ≡ Some y → (x : A) × (o ≡ Some x) × (f x ≡ Some y)
 bind_ok None f y h = absurd cc
@@ -21,7 +21,7 @@ found_passes p (y ∷ ys) x h = passes_here p x y (find p ys) (p y) refl (found_
 pub word_is : (t : List ℕ) (w : Word) → word_of t ≡ Some w → t ≡ word_text w
 word_is t w h = sym ((bytes_eq-Decides (word_text w) t).0 (found_passes (λ v. bytes_eq (word_text v) t) all_words w h))
 
-arg_is_value : (o : Option NamedVariableData) (p : Option ℕ) (f : List ℕ) (a : NamedArgumentData) → variable_of f ≡ o → number_of f ≡ p → option_or (option_map variable o) (option_map number p) ≡ Some a → IsArgument Value f a
+arg_is_value : (o : Option NamedVariableData) (p : Option ℕ) (f : List ℕ) (a : NamedArgumentData) → variable_of f ≡ o → number_written f ≡ p → option_or (option_map variable o) (option_map number p) ≡ Some a → IsArgument Value f a
 arg_is_value (Some v) p f a e g h = subst (λ (x : NamedArgumentData). IsArgument Value f x) (same_Some _ _ h) (variable_is f v e)
 arg_is_value None (Some n) f a e g h = subst (λ (x : NamedArgumentData). IsArgument Value f x) (same_Some _ _ h) g
 arg_is_value None None f a e g h = absurd cc
@@ -47,7 +47,7 @@ arg_is_name_or_none true f a e h = subst (λ (x : NamedArgumentData). IsArgument
 arg_is_name_or_none false f a e h = or_none (quoted_in f) f a refl h
 
 arg_is : (k : Kind) (f : List ℕ) (a : NamedArgumentData) → argument_of k f ≡ Some a → IsArgument k f a
-arg_is Value f a h = arg_is_value (variable_of f) (number_of f) f a refl refl h
+arg_is Value f a h = arg_is_value (variable_of f) (number_written f) f a refl refl h
 arg_is Label f a h = arg_is_label (is_identifier f) f a refl h
 arg_is Name f a h = arg_is_name (quoted_in f) f a refl h
 arg_is Softint f a h = arg_is_softint (quoted_in f) f a refl h

@@ -26,7 +26,7 @@ use toml::Value;
 /// The greatest number of lines of a body.
 pub const LINE_LIMIT: usize = 1024;
 
-/// The text of an item of a `code`; one that is no string is read as the empty text, which says nothing.
+/// The text of an item of a `code`; one that is not a string is read as the empty text, which says nothing.
 ///
 /// Source: project rule.
 pub fn line_in(item: &Value) -> &str
@@ -63,7 +63,8 @@ fn add_label(
     }
 }
 
-// A command is read, which is in the line of that number; TooMany if it has a variable past its limit, after the faults that it has by its body.
+// A command is read, which is in the line of that number; TooMany if it has a variable past its limit, after the faults
+// that it has by its body.
 fn add_command(
     setting: Setting<'_>,
     body: &mut Body,

@@ -107,14 +107,14 @@ fn events_of(alloc: Global, lines: &[&[u8]]) -> Result<Events, EventFault>
 
 /// Reads an event text.
 ///
-/// Lines end with a line feed; the last one may lack it. An empty line and a line that begins with `#` are skipped, whatever bytes follow.
-/// Every other line is `run N` or `tick N`, with one space and N in decimal without leading zeros from 1 to 1000000, or `irq PORTS` or
-/// `irq EXTER`.
+/// Lines end with a line feed; the last one may lack it. An empty line and a line that begins with `#` are skipped,
+/// whatever bytes follow. Every other line is `run N` or `tick N`, with one space and N in decimal without leading
+/// zeros from 1 to 1000000, or `irq PORTS` or `irq EXTER`.
 ///
 /// # Errors
 ///
-/// The first faulty line decides: `BadLine` if it is not an event, `TooMany` if it takes the sum of the steps or that of the
-/// ticks past 1,000,000 or the events past 100,000. `OutOfMemory` may come wherever memory is refused.
+/// The first faulty line decides: `BadLine` if it is not an event, `TooMany` if it takes the sum of the steps or that
+/// of the ticks past 1,000,000 or the events past 100,000. `OutOfMemory` may come wherever memory is refused.
 ///
 /// The format is a project rule.
 pub fn read_events(alloc: Global, text: &[u8]) -> Result<Events, EventFault>

@@ -38,7 +38,8 @@ pub enum FileFault {
     /// A line that is right in a task is in the body of a software interrupt or of a server, where it is not allowed.
     #[error("NotInInterrupt")]
     NotInInterrupt = 9,
-    /// There are more regions, libraries, software interrupts, servers, tasks, lines or variables than the limits allow.
+    /// There are more regions, libraries, software interrupts, servers, tasks, lines or variables than the limits
+    /// allow.
     #[error("TooMany")]
     TooMany = 10,
     /// Memory was refused while the file was read.

@@ -1,4 +1,5 @@
-//! A line that is fed to a task of a machine that runs. It has no label, no jump and no variable, so it says the same in whichever body it is.
+//! A line that is fed to a task of a machine that runs. It has no label, no jump and no variable, so it says the same
+//! in whichever body it is.
 ghost use Rattle.std.specs.Prelude.{◌≡◌, ℕ, List, None, MatchResult, true};
 ghost use Rattle.std.specs.List.{list_all};
 ghost use Rattle.script.specs.{Commands.command_view, Machines.QuotesOnce};
@@ -58,7 +59,8 @@ fn fixed_command(alloc: Global, named: &NamedCommand) -> Result<Command, FileFau
 ///
 /// # Errors
 ///
-/// `BadCommand` if the line says nothing, if it is a label, or if it has a variable or a jump, and `OutOfMemory` if memory is refused.
+/// `BadCommand` if the line says nothing, if it is a label, or if it has a variable or a jump, and `OutOfMemory` if
+/// memory is refused.
 ///
 /// Source: project rule.
 pub fn read_fed(alloc: Global, line: &str) -> Result<Command, FileFault>

@@ -1,5 +1,5 @@
-//! The libraries of a machine file, and the first pass over its software interrupts, its servers and its tasks: it judges the tree, and keeps a
-//! head of each item.
+//! The libraries of a machine file, and the first pass over its software interrupts, its servers and its tasks: it
+//! judges the tree, and keeps a head of each item.
 ghost use Rattle.std.specs.Prelude.{◌≡◌, ◌++◌, ◌∷◌, [], Some, None, ℕ, List, codes, map, OnOk};
 ghost use Rattle.toml.specs.Data.{Data, Members, table as a_table, get_member};
 ghost use Rattle.toml.specs.View.{table_view, view, items_view};

@@ -16,7 +16,8 @@ fn has_identifier_bytes(bytes: &[u8]) -> bool
     })
 }
 
-/// Whether the bytes are the name of a variable or of a label: a letter `a` to `z`, then letters, digits and `_`, 1 to 16 characters together.
+/// Whether the bytes are the name of a variable or of a label: a letter `a` to `z`, then letters, digits and `_`, 1 to
+/// 16 characters together.
 ///
 /// Source: project rule.
 pub fn is_identifier(bytes: &[u8]) -> bool

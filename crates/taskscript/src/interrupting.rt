@@ -1,9 +1,9 @@
-//! Which commands a body may have: that of a software interrupt or of a server has few words and no variables of its own, and a word that
-//! names a software interrupt names one of the file.
+//! Which commands a body may have: that of a software interrupt or of a server has few words and no variables of its
+//! own, and a word that names a software interrupt names one of the file.
 ghost use Rattle.std.specs.Prelude.{◌≡◌, ◌++◌, ◌∷◌, [], bytes_eq, length, map, option_map};
 ghost use Rattle.std.specs.List.{list_all, list_any};
 ghost use Rattle.script.specs.Interrupting.{is_word_of_interrupt};
-ghost use Rattle.taskscript.specs.Interrupting.{is_of_interrupt, is_open, may_stand, names_softints, softints_among};
+ghost use Rattle.taskscript.specs.Interrupting.{is_of_interrupt, is_open, may_have, names_softints, softints_among};
 ghost use Rattle.script.specs.Names.{texts};
 ghost use Rattle.taskscript.specs.{Faults.check, Faults.JudgesLine, Lines.named_argument_view, Lines.named_command_view, Lines.named_variable_view, Numbering.variables_of_target, Records.setting_view};
 
@@ -22,7 +22,7 @@ pub struct Setting<'a> {
     pub softints: &'a [Name],
 }
 
-// An argument that is no private variable.
+// An argument that is not a private variable.
 fn is_open(argument: &NamedArgument) -> bool
     ensures { result ≡ is_open (named_argument_view argument.now) }
 {
@@ -60,7 +60,7 @@ fn is_of_interrupt(command: &NamedCommand) -> bool
     are_open(command.arguments.as_slice())
 }
 
-// An argument of a kind that is no name of a software interrupt, or is one of these.
+// An argument of a kind that is not a name of a software interrupt, or is one of these.
 fn is_known(softints: &[Name], kind: Kind, argument: &NamedArgument) -> bool
     ensures { result ≡ list_all (λ name. list_any (bytes_eq name) (texts softints.now)) (softints_among (kind ∷ []) (named_argument_view argument.now ∷ [])) }
 {
@@ -85,13 +85,13 @@ fn are_known(softints: &[Name], kinds: &[Kind], arguments: &[NamedArgument]) -> 
     true
 }
 
-/// Judges a command by its body: BadCommand if it names a software interrupt that the file lacks, and NotInInterrupt where it may not be
-/// in the body of an interrupt. The words of interrupts are a project rule.
+/// Judges a command by its body: BadCommand if it names a software interrupt that the file lacks, and NotInInterrupt
+/// where it may not be in the body of an interrupt. The words of interrupts are a project rule.
 pub fn judge_command(setting: Setting<'_>, command: &NamedCommand) -> Result<(), FileFault>
     ensures { let s = setting_view setting.entry in
         let said = named_command_view command.now in
         JudgesLine result
-        (check (names_softints s said) FileFault.BadCommand ++ check (may_stand s said) FileFault.NotInInterrupt)
+        (check (names_softints s said) FileFault.BadCommand ++ check (may_have s said) FileFault.NotInInterrupt)
         (λ _. Unit {0}) }
 {
     if !are_known(

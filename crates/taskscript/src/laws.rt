@@ -1,5 +1,5 @@
-//! Laws of lines: what a line says is one thing, by the relation `Says`, and the machine of a file is made of exactly that. The functions
-//! do nothing; their contracts are the laws.
+//! Laws of lines: what a line says is one thing, by the relation `Says`, and the machine of a file is made of exactly
+//! that. The functions do nothing; their contracts are the laws.
 ghost use Rattle.std.specs.Prelude.{◌≡◌, ℕ, List, Some, None};
 ghost use Rattle.taskscript.specs.{Lines.LineData, Lines.NamedCommandData, Lines.fields, Meaning.line_meaning, Says.IsLine, Says.Says, Says.Meaning};
 

@@ -46,7 +46,7 @@ pub use numbering::{PRIVATE_LIMIT, SHARED_LIMIT};
 pub use owners::lines_of;
 pub use place::{Array, Key, LinePlace, Owner, Place, TablePlace, TreePlace};
 pub use quoted::quoted_in;
-pub use reading::{read_listed, read_machine, read_placed};
+pub use reading::{read_listed, read_machine, read_placed, read_tree};
 pub use refused::Refused;
 pub use regions::{regions_at, total_of};
 pub use script::{

@@ -105,7 +105,8 @@ impl Listing {
         &self.tasks
     }
 
-    /// The name of the shared variable of a number, the `Shared` of a `Variable`, without its `@`; none past the last one.
+    /// The name of the shared variable of a number, the `Shared` of a `Variable`, without its `@`; none past the last
+    /// one.
     ///
     /// Source: project rule.
     pub fn shared_name(&self, number: u8) -> Option<VariableName>

@@ -1,7 +1,7 @@
 //! Numbers as the texts write them: decimal, negative, and with `$` in base 16.
 ghost use Rattle.std.specs.Prelude.{◌≡◌, ◌≤◌, Some, None};
 ghost use Rattle.std.specs.{List.list_all, Char.digit_value, Str.Parse.digits_value};
-ghost use Rattle.taskscript.specs.Numbers.{is_digit, is_hex_digit, below_word, decimal_of, hex_of, negated, number_of};
+ghost use Rattle.taskscript.specs.Numbers.{is_digit, is_hex_digit, below_word, decimal_of, hex_of, negated, number_written};
 
 fn digit(b: u8) -> u8
     ensures { result ≡ digit_value b }
@@ -88,7 +88,7 @@ fn negated(n: u32) -> Option<u32>
 /// The word of a number from -2147483648 to 4294967295, or of `$` and 1 to 8 digits, if the field is
 /// one (project rule).
 pub fn number_of(bytes: &[u8]) -> Option<u32>
-    ensures { result ≡ number_of bytes.now }
+    ensures { result ≡ number_written bytes.now }
 {
     match bytes {
         [b'$', rest @ ..] => hex_of(rest),

@@ -2,7 +2,7 @@
 //! number.
 ghost use Rattle.std.specs.Prelude.{◌≡◌, [], ◌∷◌, nat_lt, map, option_map, IfSome, OnOk};
 ghost use Rattle.script.specs.Names.{texts};
-ghost use Rattle.taskscript.specs.Numbering.{names_view, number_in, seen_after, variable_in, variables_of, variables_of_arguments, variables_of_target, Sees, SeesAll};
+ghost use Rattle.taskscript.specs.Numbering.{names_view, place_of_name, seen_after, variable_in, variables_of, variables_of_arguments, variables_of_target, Sees, SeesAll};
 ghost use Rattle.script.specs.Commands.{VariableFits};
 ghost use Rattle.taskscript.specs.{Lines.named_variable_view, Lines.named_argument_view, Lines.named_command_view};
 
@@ -24,7 +24,7 @@ fn see(
     name: VariableName,
     limit: usize,
 ) -> Result<(), FileFault>
-    ensures room { Sees result (nat_lt (number_in (texts names.old.keys) name.bytes) limit) }
+    ensures room { Sees result (nat_lt (place_of_name (texts names.old.keys) name.bytes) limit) }
     ensures seen { OnOk result (texts names.new.keys ≡ seen_after (texts names.old.keys) name.bytes) }
 {
     let (index, _is_new) = names.insert_full(name)?;
@@ -120,7 +120,7 @@ pub fn see_command(
 
 // The place of a name in the order of first sight; after the others, if it was not seen.
 fn number_in(names: &IndexSet<VariableName>, name: VariableName) -> usize
-    ensures { result ≡ number_in (texts names.now.keys) name.bytes }
+    ensures { result ≡ place_of_name (texts names.now.keys) name.bytes }
 {
     match names.get_index_of(&name) {
         Some(index) => index,

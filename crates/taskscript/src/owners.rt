@@ -1,5 +1,5 @@
-//! The software interrupts, the servers and the tasks of a machine file. A first pass judges the tree and keeps the heads of all of them, and a
-//! second one reads their bodies, in the order of the file.
+//! The software interrupts, the servers and the tasks of a machine file. A first pass judges the tree and keeps the
+//! heads of all of them, and a second one reads their bodies, in the order of the file.
 ghost use Rattle.std.specs.Prelude.{◌≡◌, ◌≤◌, length, take, map, IfOk, OnOk};
 ghost use Rattle.toml.specs.View.{table_view, view, items_view};
 ghost use Rattle.script.specs.Names.{texts};

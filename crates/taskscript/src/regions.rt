@@ -73,17 +73,19 @@ fn listed_regions(alloc: Global, table: &Table) -> Result<Vec<Region>, Refused>
     regions_of(alloc, items)
 }
 
-/// The bytes that all regions of a machine file of a version may have together: 1,048,576 in version 1, and 4,194,304 in any other (project rule).
+/// The bytes that all regions of a machine file of a version may have together: 1,048,576 in version 1, and 4,194,304
+/// in any other (project rule).
 pub fn total_of(version: u8) -> u32
     ensures { result ≡ total_of version }
 {
     if version == 1 { 1_048_576 } else { 4_194_304 }
 }
 
-/// The regions of a file's top table, in their order, which are judged together after the last of them: they may have `total` bytes in all.
+/// The regions of a file's top table, in their order, which are judged together after the last of them: they may have
+/// `total` bytes in all.
 ///
-/// The first fault of the array `region` is answered: of the array itself, of an item, or `BadRegions` of all together; `OutOfMemory` may come
-/// wherever memory is refused. The format is a project rule.
+/// The first fault of the array `region` is answered: of the array itself, of an item, or `BadRegions` of all together;
+/// `OutOfMemory` may come wherever memory is refused. The format is a project rule.
 pub fn regions_at(alloc: Global, table: &Table, total: u32) -> Result<Vec<Region>, Refused>
     ensures { Judges result (regions_faults total (table_view table.now)) (λ rs. rs.items ≡ regions_in (table_view table.now)) }
 {

@@ -100,8 +100,9 @@ pub fn command_in(
     })
 }
 
-/// The commands of the body of the item of that number with numbers and places for their names, or BadLabel if one jumps to a label that
-/// is not among these, at its line, which `lines` has. Their variables are within the limits, and at most one argument of each is a name.
+/// The commands of the body of the item of that number with numbers and places for their names, or BadLabel if one
+/// jumps to a label that is not among these, at its line, which `lines` has. Their variables are within the limits, and
+/// at most one argument of each is a name.
 pub fn commands_in(
     alloc: Global,
     owner: Owner,

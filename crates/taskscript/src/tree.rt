@@ -155,7 +155,8 @@ pub fn is_softint_pri(pri: i64) -> bool
     pri == -32 || (pri == -16 || (pri == 0 || (pri == 16 || pri == 32)))
 }
 
-/// The priority of a software interrupt, which the key `pri` holds: -32, -16, 0, 16 or 32 (RKM Libraries, Exec Interrupts).
+/// The priority of a software interrupt, which the key `pri` holds: -32, -16, 0, 16 or 32 (RKM Libraries, Exec
+/// Interrupts).
 pub fn softint_pri(of: TablePlace, table: &Table) -> Result<i8, Refused>
     ensures { Judges result (at (key_at of a_key.Pri) (required softint_pri_faults (get_member (codes "pri") (table_view table.now)))) (λ p. p ≡ pri_in (table_view table.now)) }
 {

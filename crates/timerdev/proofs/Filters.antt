@@ -2,7 +2,7 @@
 use Rattle.std.proofs.Common.{◌≡◌, ℕ, zero, suc, ◌≤◌, Bool, true, false, cond, not, eqb, List, [], ◌∷◌, ◌++◌, refl, sym, ap, ◌∙◌, arith, inl, inr, ◌⊎◌, ◌||◌, IsTrue, filter, All, eq-eqb, ne_eqb}
 use Rattle.std.specs.List.{list_any}
 use Rattle.std.proofs.lemmas.Bool.{cond-true, cond-false, cases_eq}
-use Rattle.execlist.specs.{Order.without, Lists.times}
+use Rattle.execlist.specs.{Order.without_item, Lists.times}
 use Rattle.execlist.proofs.PlainLemmas.{times_later}
 use Rattle.timerdev.specs.{Timing.Due, Timing.Waiting, Held.waiting_for}
 use Rattle.timerdev.proofs.Times.{not_front, not_behind, stands_here}
@@ -36,28 +36,28 @@ filter_joined p q r (x ∷ xs) none same =
 
 -- one less, of which alone the tests may differ
 pub filter_left : (p q : ℕ → Bool) (r : ℕ) (xs : List ℕ) → ((t : ℕ) → (t ≡ r → ⊥) → q t ≡ p t)
-    → filter q (without r xs) ≡ without r (filter p xs)
+    → filter q (without_item r xs) ≡ without_item r (filter p xs)
 filter_left p q r [] same = refl
 filter_left p q r (x ∷ xs) same = by_case (cases_eq x r) (filter_left p q r xs same) where
-  by_case : (x ≡ r) ⊎ (x ≡ r → ⊥) → filter q (without r xs) ≡ without r (filter p xs)
-      → filter q (without r (x ∷ xs)) ≡ without r (filter p (x ∷ xs))
+  by_case : (x ≡ r) ⊎ (x ≡ r → ⊥) → filter q (without_item r xs) ≡ without_item r (filter p xs)
+      → filter q (without_item r (x ∷ xs)) ≡ without_item r (filter p (x ∷ xs))
   by_case (inl here) ih = ap (filter q) (cond-false _ _ _ gone) ∙ ih ∙ sym (dropped (p x)) where
     gone : not (eqb x r) ≡ false
     gone = ap not (eq-eqb x r here)
 
-    dropped : (b : Bool) → without r (cond b (x ∷ filter p xs) (filter p xs)) ≡ without r (filter p xs)
+    dropped : (b : Bool) → without_item r (cond b (x ∷ filter p xs) (filter p xs)) ≡ without_item r (filter p xs)
     dropped true = cond-false _ _ _ gone
     dropped false = refl
   by_case (inr other) ih =
       ap (filter q) (cond-true _ _ _ stays)
-      ∙ ap (λ b. cond b (x ∷ filter q (without r xs)) (filter q (without r xs))) (same x other)
+      ∙ ap (λ b. cond b (x ∷ filter q (without_item r xs)) (filter q (without_item r xs))) (same x other)
       ∙ ap (λ l. cond (p x) (x ∷ l) l) ih
       ∙ sym (kept (p x)) where
         stays : not (eqb x r) ≡ true
         stays = ap not (ne_eqb x r other)
 
-        kept : (b : Bool) → without r (cond b (x ∷ filter p xs) (filter p xs))
-            ≡ cond b (x ∷ without r (filter p xs)) (without r (filter p xs))
+        kept : (b : Bool) → without_item r (cond b (x ∷ filter p xs) (filter p xs))
+            ≡ cond b (x ∷ without_item r (filter p xs)) (without_item r (filter p xs))
         kept true = cond-true _ _ _ stays
         kept false = refl
 
@@ -71,21 +71,21 @@ waiting_joined d e r (x ∷ xs) none same =
     ∙ ap (λ (l : List Waiting). record { request = x; due = d x } ∷ l) (waiting_joined d e r xs (not_behind r x xs none) same)
 
 pub waiting_left : (d e : ℕ → Due) (r : ℕ) (xs : List ℕ) → ((t : ℕ) → (t ≡ r → ⊥) → e t ≡ d t)
-    → waiting_for e (without r xs) ≡ filter (λ (w : Waiting). not (eqb w.request r)) (waiting_for d xs)
+    → waiting_for e (without_item r xs) ≡ filter (λ (w : Waiting). not (eqb w.request r)) (waiting_for d xs)
 waiting_left d e r [] same = refl
 waiting_left d e r (x ∷ xs) same = by_case (cases_eq x r) (waiting_left d e r xs same) where
   others : List Waiting
   others = filter (λ (w : Waiting). not (eqb w.request r)) (waiting_for d xs)
 
-  by_case : (x ≡ r) ⊎ (x ≡ r → ⊥) → waiting_for e (without r xs) ≡ filter (λ (w : Waiting). not (eqb w.request r)) (waiting_for d xs)
-      → waiting_for e (without r (x ∷ xs)) ≡ filter (λ (w : Waiting). not (eqb w.request r)) (waiting_for d (x ∷ xs))
+  by_case : (x ≡ r) ⊎ (x ≡ r → ⊥) → waiting_for e (without_item r xs) ≡ filter (λ (w : Waiting). not (eqb w.request r)) (waiting_for d xs)
+      → waiting_for e (without_item r (x ∷ xs)) ≡ filter (λ (w : Waiting). not (eqb w.request r)) (waiting_for d (x ∷ xs))
   by_case (inl here) ih =
       let gone = ap not (eq-eqb x r here) in
       ap (waiting_for e) (cond-false _ _ _ gone) ∙ ih ∙ sym (cond-false _ _ _ gone)
   by_case (inr other) ih =
       let stays = ap not (ne_eqb x r other) in
       ap (waiting_for e) (cond-true _ _ _ stays)
-      ∙ ap (λ (o : Due). record { request = x; due = o } ∷ waiting_for e (without r xs)) (same x other)
+      ∙ ap (λ (o : Due). record { request = x; due = o } ∷ waiting_for e (without_item r xs)) (same x other)
       ∙ ap (λ (l : List Waiting). record { request = x; due = d x } ∷ l) ih
       ∙ sym (cond-true _ _ _ stays)
 

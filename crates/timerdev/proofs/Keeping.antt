@@ -1,9 +1,9 @@
 -- What the code keeps of the requests that wait, if one more comes or one goes.
 use Rattle.std.proofs.Common.{◌≡◌, ℕ, suc, ◌<◌, ◌≤◌, Bool, true, false, cond, eqb, List, [], ◌∷◌, slice_set, refl, ap, ◌∙◌, arith, inl, inr, Some, None, ◌+◌, not, ◌++◌, length, sym, subst, Option, IfSome, is_some, slice_index_or, ◌⊎◌, ℤ, pos, neg_ℤ, int_lt, nat_le, find, fold, filter, IsSome, replicate, eq-eqb, ne_eqb, get_or-set_other, get_or-set_same, length-set, append-nil}
 use Rattle.std.proofs.lemmas.{Bool.cond-false, Bool.cond-true, Bool.cases_eq, Bool.cases_lt, Int.ints, List.get_or-replicate, List.length-replicate, List.get_or_past}
-use Rattle.execlist.specs.{Order.enqueue, Order.first, Order.is_lower, Order.order, Order.without, Lists.times, Lists.home, Lists.sequence, Lists.is_at}
+use Rattle.execlist.specs.{Order.enqueue, Order.first, Order.is_lower, Order.order, Order.without_item, Lists.times, Lists.home, Lists.sequence, Lists.is_at}
 use Rattle.execlist.proofs.{OrderLaws.order_reads_keys, OrderLaws.order_takes, OrderLaws.order_leaves_out, PlainLemmas.times_later, PlainLemmas.times-append, PlainLemmas.without_fresh, PlainLemmas.times_without, PlainLemmas.times_without_other}
-use Rattle.timerdev.specs.{Held.Rises, Held.NoneBefore, Held.due_at, Held.sooner_of, Held.Held, Held.IsHeld, Held.begun_in, Held.due_for, Held.due_in, Held.on_timer, Held.waiting_for, Timing.AtClock, Timing.AtSystem, Timing.Due, Timing.Timer, Timing.Waiting}
+use Rattle.timerdev.specs.{Held.Rises, Held.NoneBefore, Held.due_at, Held.sooner_of, Held.Held, Held.KeepsTimer, Held.begun_in, Held.due_for, Held.due_in, Held.on_timer, Held.waiting_for, Timing.AtClock, Timing.AtSystem, Timing.Due, Timing.Timer, Timing.Waiting}
 use Rattle.timerdev.proofs.{Times.is_front, Times.stands_here, Times.times_filter, Filters.all_that_stand, Filters.filter_joined, Filters.filter_left, Filters.waiting_joined, Filters.waiting_left, Homes.Stands, Homes.home_there}
 
 -- ---- the requests of a header are by their times, and the first of them is due if any is
@@ -114,7 +114,7 @@ timer_of clock system tick_micros is_set homes dues all = record {
 
 -- what the code keeps then, and which requests wait
 pub record IsKept (queues : List (List ℕ)) (homes : List (Option ℕ)) (all : List (List ℕ)) (begun : List (Option ℕ)) (dues : List ℕ) (waiting : List Waiting) : Type 0 where
-  pub held : IsHeld queues homes all begun dues
+  pub held : KeepsTimer queues homes all begun dues
   pub waits : waiting_for (due_in homes dues) (sequence all 0) ≡ waiting
 
 -- ---- one header written
@@ -127,20 +127,20 @@ written_other all h k xs other = get_or-set_other all h k xs [] other
 
 -- a request that leaves its header leaves each sequence
 pub departed : (all new : List (List ℕ)) (homes : List (Option ℕ)) (r : ℕ) → Stands all homes
-    → IsSome (home homes r) → IfSome (home homes r) (λ h. new ≡ slice_set all h (without r (sequence all h)))
-    → (k : ℕ) → sequence new k ≡ without r (sequence all k)
+    → IsSome (home homes r) → IfSome (home homes r) (λ h. new ≡ slice_set all h (without_item r (sequence all h)))
+    → (k : ℕ) → sequence new k ≡ without_item r (sequence all k)
 departed all new homes r stands has taken k = at (home homes r) refl has taken where
-  at : (o : Option ℕ) → home homes r ≡ o → IsSome o → IfSome o (λ h. new ≡ slice_set all h (without r (sequence all h)))
-      → sequence new k ≡ without r (sequence all k)
+  at : (o : Option ℕ) → home homes r ≡ o → IsSome o → IfSome o (λ h. new ≡ slice_set all h (without_item r (sequence all h)))
+      → sequence new k ≡ without_item r (sequence all k)
   at None e has taken = cc
   at (Some h) e has taken = by_case (cases_eq k h) where
-    by_case : (k ≡ h) ⊎ (k ≡ h → ⊥) → sequence new k ≡ without r (sequence all k)
+    by_case : (k ≡ h) ⊎ (k ≡ h → ⊥) → sequence new k ≡ without_item r (sequence all k)
     by_case (inl same) =
-        ap (λ l. sequence l k) taken ∙ ap (sequence (slice_set all h (without r (sequence all h)))) same
-        ∙ written_here all h (without r (sequence all h)) (home_there all homes r h stands e)
-        ∙ ap (λ j. without r (sequence all j)) (sym same)
+        ap (λ l. sequence l k) taken ∙ ap (sequence (slice_set all h (without_item r (sequence all h)))) same
+        ∙ written_here all h (without_item r (sequence all h)) (home_there all homes r h stands e)
+        ∙ ap (λ j. without_item r (sequence all j)) (sym same)
     by_case (inr other) =
-        ap (λ l. sequence l k) taken ∙ written_other all h k (without r (sequence all h)) other
+        ap (λ l. sequence l k) taken ∙ written_other all h k (without_item r (sequence all h)) other
         ∙ sym (without_fresh r (sequence all k) (stands k r ∙ ap {B = ℕ} (λ o. cond (is_at o k) 1 0) e
         ∙ cond-false {A = ℕ} (eqb h k) 1 0 (ne_eqb h k (λ same. other (sym same)))))
 
@@ -158,7 +158,7 @@ same_everywhere n i d = by_case (cases_lt i n) where
 
 pub held_none : (n : ℕ) (queues all : List (List ℕ)) (homes begun : List (Option ℕ)) (dues : List ℕ)
     → queues ≡ replicate 2 [] → homes ≡ replicate n None → all ≡ replicate 1 [] → begun ≡ replicate n None → length dues ≡ n
-    → IsHeld queues homes all begun dues
+    → KeepsTimer queues homes all begun dues
 held_none n queues all homes begun dues q h a b d =
     let none : sequence all 0 ≡ [] = ap (λ l. sequence l 0) a ∙ same_everywhere 1 0 [] in
     record {
@@ -174,13 +174,13 @@ held_none n queues all homes begun dues q h a b d =
 -- ---- one comes
 
 -- the times of a header rise
-pub rises_now : (queues all : List (List ℕ)) (homes begun : List (Option ℕ)) (dues : List ℕ) → IsHeld queues homes all begun dues → (h : ℕ)
+pub rises_now : (queues all : List (List ℕ)) (homes begun : List (Option ℕ)) (dues : List ℕ) → KeepsTimer queues homes all begun dues → (h : ℕ)
     → h < 2 → Rises (due_at dues) (sequence queues h)
 rises_now queues all homes begun dues held h there =
     subst (Rises (due_at dues)) (sym (held.by_time h there)) (rises_order dues (begun_in homes h (sequence all 0)))
 
 -- the times of a header rise, whatever time a request has that does not wait
-pub queue_rises : (queues all : List (List ℕ)) (homes begun : List (Option ℕ)) (dues : List ℕ) → IsHeld queues homes all begun dues
+pub queue_rises : (queues all : List (List ℕ)) (homes begun : List (Option ℕ)) (dues : List ℕ) → KeepsTimer queues homes all begun dues
     → (r h time : ℕ) → h < 2 → times r (sequence all 0) ≡ 0
     → Rises (due_at (slice_set dues r time)) (sequence queues h)
 queue_rises queues all homes begun dues held r h time there loose =
@@ -188,7 +188,7 @@ queue_rises queues all homes begun dues held r h time there loose =
     ∙ sym (held.by_time h there))
     (rises_order (slice_set dues r time) (begun_in homes h (sequence all 0)))
 
-module _ (queues all : List (List ℕ)) (homes begun : List (Option ℕ)) (dues : List ℕ) (held : IsHeld queues homes all begun dues)
+module _ (queues all : List (List ℕ)) (homes begun : List (Option ℕ)) (dues : List ℕ) (held : KeepsTimer queues homes all begun dues)
     (r h time : ℕ)
     (there : h < 2) (known : r < length dues) (loose : times r (sequence all 0) ≡ 0) (queues' all' : List (List ℕ))
     (homes' begun' : List (Option ℕ))
@@ -264,7 +264,7 @@ module _ (queues all : List (List ℕ)) (homes begun : List (Option ℕ)) (dues 
         (λ o. cond {A = ℕ} (is_some o) 1 0) (home_old t other) in
         omega (arith, none, there, held.waits t)
 
-  held_joined : IsHeld queues' homes' all' begun' (slice_set dues r time)
+  held_joined : KeepsTimer queues' homes' all' begun' (slice_set dues r time)
   held_joined = record {
     two_headers = ap length queued ∙ length-set queues h _ ∙ held.two_headers;
     one_header = ap length begins ∙ length-set all 0 _ ∙ held.one_header;
@@ -286,16 +286,16 @@ module _ (queues all : List (List ℕ)) (homes begun : List (Option ℕ)) (dues 
 
 -- ---- one goes
 
-module _ (queues all : List (List ℕ)) (homes begun : List (Option ℕ)) (dues : List ℕ) (held : IsHeld queues homes all begun dues) (r : ℕ)
+module _ (queues all : List (List ℕ)) (homes begun : List (Option ℕ)) (dues : List ℕ) (held : KeepsTimer queues homes all begun dues) (r : ℕ)
     (known : r < length homes) (queues' all' : List (List ℕ)) (homes' begun' : List (Option ℕ))
-    (two : length queues' ≡ length queues) (left : (k : ℕ) → sequence queues' k ≡ without r (sequence queues k))
+    (two : length queues' ≡ length queues) (left : (k : ℕ) → sequence queues' k ≡ without_item r (sequence queues k))
     (own : homes' ≡ slice_set homes r None)
-    (one : length all' ≡ length all) (ends : sequence all' 0 ≡ without r (sequence all 0))
+    (one : length all' ≡ length all) (ends : sequence all' 0 ≡ without_item r (sequence all 0))
     (own_begun : begun' ≡ slice_set begun r None) where
   home_kept : (t : ℕ) → (t ≡ r → ⊥) → home homes' t ≡ home homes t
   home_kept t other = ap (λ l. home l t) own ∙ get_or-set_other homes r t None None other
 
-  leaves : (k : ℕ) → begun_in homes' k (sequence all' 0) ≡ without r (begun_in homes k (sequence all 0))
+  leaves : (k : ℕ) → begun_in homes' k (sequence all' 0) ≡ without_item r (begun_in homes k (sequence all 0))
   leaves k =
       ap (begun_in homes' k) ends
       ∙ filter_left (λ t. is_at (home homes t) k) (λ t. is_at (home homes' t) k) r (sequence all 0)
@@ -303,21 +303,21 @@ module _ (queues all : List (List ℕ)) (homes begun : List (Option ℕ)) (dues 
 
   waits_left : (t : ℕ) → times t (sequence all' 0) ≡ cond (is_some (home homes' t)) 1 0
   waits_left t = ap (times t) ends ∙ by_case (cases_eq t r) where
-    by_case : (t ≡ r) ⊎ (t ≡ r → ⊥) → times t (without r (sequence all 0)) ≡ cond (is_some (home homes' t)) 1 0
+    by_case : (t ≡ r) ⊎ (t ≡ r → ⊥) → times t (without_item r (sequence all 0)) ≡ cond (is_some (home homes' t)) 1 0
     by_case (inl same) =
-        ap (λ k. times k (without r (sequence all 0))) same ∙ times_without r (sequence all 0)
+        ap (λ k. times k (without_item r (sequence all 0))) same ∙ times_without r (sequence all 0)
         ∙ sym (ap (λ o. cond {A = ℕ} (is_some o) 1 0) (ap (home homes') same ∙ ap (λ l. home l r) own
         ∙ get_or-set_same homes r None None known))
     by_case (inr other) =
         times_without_other r t (sequence all 0) other ∙ held.waits t ∙ sym (ap (λ o. cond {A = ℕ} (is_some o) 1 0) (home_kept t other))
 
-  held_left : IsHeld queues' homes' all' begun' dues
+  held_left : KeepsTimer queues' homes' all' begun' dues
   held_left = record {
     two_headers = two ∙ held.two_headers;
     one_header = one ∙ held.one_header;
     each = ap length own ∙ length-set homes r None ∙ held.each;
     each_begun = ap length own_begun ∙ length-set begun r None ∙ held.each_begun;
-    by_time = λ k l. left k ∙ ap (without r) (held.by_time k l)
+    by_time = λ k l. left k ∙ ap (without_item r) (held.by_time k l)
         ∙ sym (order_leaves_out ℕ (sooner_of dues) (λ x. not (eqb x r)) (begun_in homes k (sequence all 0)))
         ∙ ap (order (sooner_of dues)) (sym (leaves k));
     waits = waits_left;

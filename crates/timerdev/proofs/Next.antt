@@ -4,8 +4,8 @@ use Rattle.std.specs.List.{list_any}
 use Rattle.std.proofs.lemmas.{Bool.cond-true, Bool.cases_order, Bool.and_parts, Int.ints}
 use Rattle.execlist.specs.{Order.chosen, Order.chosen_or, Order.is_lower, Lists.home, Lists.sequence, Lists.times, Lists.is_at}
 use Rattle.execlist.proofs.{OrderLaws.found_in_order, PlainLemmas.home_known, Places.at_home}
-use Rattle.timerdev.specs.Timing.{AtClock, AtSystem, Due, Timer, Waiting, due_next, has_come, is_system, moment, next_of, offset, sooner, until_next}
-use Rattle.timerdev.specs.Held.{IsHeld, begun_in, due_at, due_in, is_before, sooner_of, waiting_for}
+use Rattle.timerdev.specs.Timing.{AtClock, AtSystem, Due, Timer, Waiting, due_next, is_due, is_system, moment, next_of, offset, sooner, until_next}
+use Rattle.timerdev.specs.Held.{KeepsTimer, begun_in, due_at, due_in, is_before, sooner_of, waiting_for}
 use Rattle.timerdev.proofs.{Choice.better, Choice.better_of_two, Choice.chosen_by_other, Choice.is_better, Filters.filter_agrees, Filters.waits_where_it_stands, Homes.Stands, Homes.home_there, Homes.has_home}
 
 -- what is found is found by the same times
@@ -91,7 +91,7 @@ later_or_before a b t = by_case (cases_order a b) where
 
 -- ---- the headers
 
-module _ (queues all : List (List ℕ)) (homes begun : List (Option ℕ)) (dues : List ℕ) (held : IsHeld queues homes all begun dues)
+module _ (queues all : List (List ℕ)) (homes begun : List (Option ℕ)) (dues : List ℕ) (held : KeepsTimer queues homes all begun dues)
     (stands : Stands queues homes) where
   -- those of a header that are due by a time
   abbrev pub come_by : (h time : ℕ) → ℕ → Bool
@@ -141,13 +141,13 @@ module _ (queues all : List (List ℕ)) (homes begun : List (Option ℕ)) (dues 
     pub until_is_first : until_next timer ≡ find (λ r. nat_le (due_at dues r) timer.system) (sequence queues 1)
     unfolding until_next
     until_is_first =
-        next_is_chosen (λ (w : Waiting). is_system w.due && has_come timer w.due)
+        next_is_chosen (λ (w : Waiting). is_system w.due && is_due timer w.due)
         ∙ ap (chosen soon) (filter_agrees (come_by 1 timer.system)
-        (λ r. is_system (due_in homes dues r) && has_come timer (due_in homes dues r)) (sequence all 0)
+        (λ r. is_system (due_in homes dues r) && is_due timer (due_in homes dues r)) (sequence all 0)
         (λ t here. same t (is_at (home homes t) 1)))
         ∙ chosen_of_system timer.system
         ∙ sym (found_is_chosen 1 timer.system (omega arith)) where
-          same : (t : ℕ) (b : Bool) → (is_system (cond b (AtSystem (due_at dues t)) (AtClock (due_at dues t))) && has_come timer
+          same : (t : ℕ) (b : Bool) → (is_system (cond b (AtSystem (due_at dues t)) (AtClock (due_at dues t))) && is_due timer
               (cond b (AtSystem (due_at dues t)) (AtClock (due_at dues t))))
               ≡ (b && nat_le (due_at dues t) timer.system)
           same t true = refl
@@ -158,9 +158,9 @@ module _ (queues all : List (List ℕ)) (homes begun : List (Option ℕ)) (dues 
         (find (λ r. nat_le (due_at dues r) timer.system) (sequence queues 1))
     unfolding due_next
     due_is_better =
-        next_is_chosen (λ (w : Waiting). has_come timer w.due)
+        next_is_chosen (λ (w : Waiting). is_due timer w.due)
         ∙ ap (chosen soon) (filter_agrees (λ r. come_by 0 timer.clock r || come_by 1 timer.system r)
-        (λ r. has_come timer (due_in homes dues r)) (sequence all 0) same)
+        (λ r. is_due timer (due_in homes dues r)) (sequence all 0) same)
         ∙ better_of_two soon (come_by 0 timer.clock) (come_by 1 timer.system) apart (sequence all 0)
         ∙ ap (λ o. better soon (sequence all 0) o (chosen soon (filter (come_by 1 timer.system) (sequence all 0))))
         (chosen_of_clock timer.clock ∙ sym (found_is_chosen 0 timer.clock (omega arith)))
@@ -173,10 +173,10 @@ module _ (queues all : List (List ℕ)) (homes begun : List (Option ℕ)) (dues 
           or_none true = refl
           or_none false = refl
 
-          same : (t : ℕ) → 1 ≤ times t (sequence all 0) → has_come timer (due_in homes dues t)
+          same : (t : ℕ) → 1 ≤ times t (sequence all 0) → is_due timer (due_in homes dues t)
               ≡ (come_by 0 timer.clock t || come_by 1 timer.system t)
           same t here = at (home homes t) refl (has_home (home homes t) (times t (sequence all 0)) (held.waits t) here) where
-            at : (o : Option ℕ) → home homes t ≡ o → IsSome o → has_come timer
+            at : (o : Option ℕ) → home homes t ≡ o → IsSome o → is_due timer
                 (cond (is_at o 1) (AtSystem (due_at dues t)) (AtClock (due_at dues t)))
                 ≡ ((is_at o 0 && nat_le (due_at dues t) timer.clock) || (is_at o 1 && nat_le (due_at dues t) timer.system))
             at None e some = cc

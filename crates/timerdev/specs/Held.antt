@@ -58,7 +58,7 @@ is_before a b begun = not (times a (part_before b begun) == 0)
 
 -- Two headers hold the requests that wait, those of the clock and those of system time, each by its times; a third one, in a space of its
 -- own, holds all of them in the order in which they were begun. Each request has a time.
-pub record IsHeld (queues : List (List ℕ)) (homes : List (Option ℕ)) (all : List (List ℕ)) (begun : List (Option ℕ)) (dues : List ℕ)
+pub record KeepsTimer (queues : List (List ℕ)) (homes : List (Option ℕ)) (all : List (List ℕ)) (begun : List (Option ℕ)) (dues : List ℕ)
     : Type 0 where
   pub two_headers : length queues ≡ 2
   pub one_header : length all ≡ 1

@@ -40,8 +40,8 @@ abbrev pub offset : Timer → ℤ
 offset timer = pos timer.system -ℤ pos timer.clock
 
 -- clock and system time gain one tick
-abbrev pub ticked : Timer → Timer
-ticked timer = record timer { clock = timer.clock + timer.tick_micros; system = timer.system + timer.tick_micros }
+abbrev pub clock_ticked : Timer → Timer
+clock_ticked timer = record timer { clock = timer.clock + timer.tick_micros; system = timer.system + timer.tick_micros }
 
 -- system time becomes this time; the clock stays (autodoc timer.device TR_SETSYSTIME)
 abbrev pub system_set : ℕ → Timer → Timer
@@ -59,9 +59,9 @@ moment timer (AtClock time) = pos time
 moment timer (AtSystem time) = pos time -ℤ offset timer
 
 -- a due time has come (RKM Devices, Timer Device)
-abbrev pub has_come : Timer → Due → Bool
-has_come timer (AtClock time) = nat_le time timer.clock
-has_come timer (AtSystem time) = nat_le time timer.system
+abbrev pub is_due : Timer → Due → Bool
+is_due timer (AtClock time) = nat_le time timer.clock
+is_due timer (AtSystem time) = nat_le time timer.system
 
 -- the due time is a system time
 abbrev pub is_system : Due → Bool
@@ -93,8 +93,8 @@ next_of passes timer = option_map (λ (w : Waiting). w.request) (chosen (sooner 
 
 -- of all requests that wait, the one that finishes next, if the time of one has come (RKM Devices, Timer Device)
 unfoldable pub due_next : Timer → Option ℕ
-due_next timer = next_of (λ (w : Waiting). has_come timer w.due) timer
+due_next timer = next_of (λ (w : Waiting). is_due timer w.due) timer
 
 -- of the requests that wait for a system time, the one that finishes next, if the time of one has come
 unfoldable pub until_next : Timer → Option ℕ
-until_next timer = next_of (λ (w : Waiting). is_system w.due && has_come timer w.due) timer
+until_next timer = next_of (λ (w : Waiting). is_system w.due && is_due timer w.due) timer

@@ -26,7 +26,8 @@ pub fn first_come<S: ListSpace>(space: &S, h: HeaderId, dues: &[u64], time: u64)
     Some(r)
 }
 
-/// Whether request `a` comes before request `b`, which waits too: it is later by now than the other, or as late and was begun before.
+/// Whether request `a` comes before request `b`, which waits too: it is later by now than the other, or as late and was
+/// begun before.
 pub fn is_first<S: ListSpace>(space: &S, a: NodeId, late_a: u64, b: NodeId, late_b: u64) -> bool
     requires { home (S.homes space.now) b ≡ Some ALL }
     ensures { result ≡ (nat_lt late_b late_a || nat_eq late_b late_a && is_before a b (sequence (S.sequences space.now) ALL)) }

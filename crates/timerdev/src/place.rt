@@ -15,9 +15,11 @@ pub const SYSTEM: HeaderId = 1;
 /// The only header of the other space: that of all requests that wait.
 pub const ALL: HeaderId = 0;
 
-/// The request of a header after which one goes that is due at that time, or none if it goes first: after those that are due by then.
+/// The request of a header after which one goes that is due at that time, or none if it goes first: after those that
+/// are due by then.
 ///
-/// The requests of the header are by their times. The walk begins at the last of them, since a new request mostly is due last.
+/// The requests of the header are by their times. The walk begins at the last of them, since a new request mostly is
+/// due last.
 pub fn place_after<S: ListSpace>(space: &S, h: HeaderId, dues: &[u64], due: u64) -> Option<NodeId>
     requires header { h < length (S.sequences space.now) }
     requires each { length (S.homes space.now) ≡ length dues.now }

@@ -1,6 +1,6 @@
 //! The clock, system time, and the requests that wait.
 ghost use Rattle.std.specs.Prelude.{◌≡◌, ◌<◌, ◌≤◌, ◌+◌, ◌^◌, false, not, IfOk, IfSome, IsTrue};
-ghost use Rattle.timerdev.specs.Timing.{AtClock, AtSystem, begins_to_wait, due_next, is_waiting, looked_at, new_timer, system_set, ticked, until_next, waits_no_more};
+ghost use Rattle.timerdev.specs.Timing.{AtClock, AtSystem, begins_to_wait, due_next, is_waiting, looked_at, new_timer, system_set, clock_ticked, until_next, waits_no_more};
 ghost use Rattle.timerdev.specs.Held.{due_for, on_timer, taken_off};
 
 mod readers;
@@ -15,11 +15,12 @@ use std::marker::Model;
 /// The number of a request, from 0.
 pub type ReqId = usize;
 
-/// The clock of timer.device, system time, and the requests that wait for a time of either, each kind by its time, and all in the order in
-/// which they were begun.
+/// The clock of timer.device, system time, and the requests that wait for a time of either, each kind by its time, and
+/// all in the order in which they were begun.
 ///
-/// All room is made by `new`; no other call takes memory. `add` and `add_until` look at those requests alone that are due after the new
-/// one, and `due` at more than two only if one of the clock and one of system time are due at one due time. Devices, timer device.
+/// All room is made by `new`; no other call takes memory. `add` and `add_until` look at those requests alone that are
+/// due after the new one, and `due` at more than two only if one of the clock and one of system time are due at one due
+/// time. Devices, timer device.
 #[derive(Drop)]
 pub struct Timer<S: ListSpace> {
     queues: S,
@@ -34,7 +35,7 @@ pub struct Timer<S: ListSpace> {
 impl<S: ListSpace> Model for Timer<S> {
     ghost use Rattle.std.specs.Prelude.{length};
     ghost use Rattle.execlist.specs.Lists.{sequence};
-    ghost use Rattle.timerdev.specs.Held.{Held, IsHeld, due_in, waiting_for};
+    ghost use Rattle.timerdev.specs.Held.{Held, KeepsTimer, due_in, waiting_for};
 
     ghost Value = { Held };
 
@@ -49,12 +50,12 @@ impl<S: ListSpace> Model for Timer<S> {
       };
     } };
 
-    ghost invariant = { λ q. IsHeld (S.sequences q.queues) (S.homes q.queues) (S.sequences q.begun) (S.homes q.begun) q.dues.items };
+    ghost invariant = { λ q. KeepsTimer (S.sequences q.queues) (S.homes q.queues) (S.sequences q.begun) (S.homes q.begun) q.dues.items };
 }
 
 impl<S: ListSpace> Timer<S> {
-    /// A clock and a system time that are at 0 and gain that many microseconds at each tick, and room for requests of that many numbers, at
-    /// most 4,096. None waits.
+    /// A clock and a system time that are at 0 and gain that many microseconds at each tick, and room for requests of
+    /// that many numbers, at most 4,096. None waits.
     ///
     /// An error means that memory is refused.
     pub fn new(alloc: Global, requests: usize, tick_micros: u32) -> Result<Self, AllocError>
@@ -75,7 +76,8 @@ impl<S: ListSpace> Timer<S> {
         })
     }
 
-    /// Sets clock and system time to 0, which gain that many microseconds at each tick, as `new` made them. No request waits any more.
+    /// Sets clock and system time to 0, which gain that many microseconds at each tick, as `new` made them. No request
+    /// waits any more.
     ///
     /// Source: project rule.
     pub fn reset(&mut self, tick_micros: u32)
@@ -111,7 +113,7 @@ impl<S: ListSpace> Timer<S> {
     pub fn tick(&mut self)
         requires clock { self.old.timer.clock + self.old.timer.tick_micros < 2 ^ 64 }
         requires system { self.old.timer.system + self.old.timer.tick_micros < 2 ^ 64 }
-        ensures { self.new ≡ on_timer ticked self.old }
+        ensures { self.new ≡ on_timer clock_ticked self.old }
     {
         self.clock += u64::from(self.tick_micros);
         self.system += u64::from(self.tick_micros);
@@ -158,9 +160,10 @@ impl<S: ListSpace> Timer<S> {
         self.put(SYSTEM, r, at);
     }
 
-    /// Takes off the first request whose time has come and answers it, or answers none if there is none. First is the one of the first
-    /// due time, and of those of one due time the one that was begun first; the due time of a request that waits for system time is that time
-    /// less how far system time is ahead of the clock now. Devices, timer device: TR_ADDREQUEST.
+    /// Takes off the first request whose time has come and answers it, or answers none if there is none. First is the
+    /// one of the first due time, and of those of one due time the one that was begun first; the due time of a request
+    /// that waits for system time is that time less how far system time is ahead of the clock now. Devices, timer
+    /// device: TR_ADDREQUEST.
     pub fn due(&mut self) -> Option<ReqId>
         ensures value { result ≡ due_next self.old.timer }
         ensures next { self.new ≡ on_timer (taken_off (due_next self.old.timer)) self.old }
@@ -171,8 +174,8 @@ impl<S: ListSpace> Timer<S> {
         Some(r)
     }
 
-    /// Takes off the first request that waits for system time and whose time has come, and answers it, or answers none if there is none.
-    /// Autodoc timer.device: TR_SETSYSTIME; Devices, timer device: UNIT_WAITUNTIL.
+    /// Takes off the first request that waits for system time and whose time has come, and answers it, or answers none
+    /// if there is none. Autodoc timer.device: TR_SETSYSTIME; Devices, timer device: UNIT_WAITUNTIL.
     pub fn due_until(&mut self) -> Option<ReqId>
         ensures value { result ≡ until_next self.old.timer }
         ensures next { self.new ≡ on_timer (taken_off (until_next self.old.timer)) self.old }
@@ -223,8 +226,8 @@ impl<S: ListSpace> Timer<S> {
         self.begun.remove(r);
     }
 
-    // The first request whose time has come: of the first of the clock and the first of system time, the one that is later by now, or the
-    // one that was begun first.
+    // The first request whose time has come: of the first of the clock and the first of system time, the one that is
+    // later by now, or the one that was begun first.
     fn first_due(&self) -> Option<ReqId>
         ensures value { result ≡ due_next self.now.timer }
         ensures waits { IfSome result (λ r. IsTrue (is_waiting r self.now.timer)) }

@@ -1,4 +1,5 @@
-//! Reports of a search: the text of one, its reading, and the sum of the reports of all parts. No machine is known here.
+//! Reports of a search: the text of one, its reading, and the sum of the reports of all parts. No machine is known
+//! here.
 #![tactic(auto)]
 
 mod events;

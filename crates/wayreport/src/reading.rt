@@ -23,7 +23,7 @@ pub const REPORT_LIMIT: usize = 268_435_456;
 /// What is before the digest in the last line.
 const CLOSING: &str = "lines above: SHA-256 ";
 
-/// Why a text is no report.
+/// Why a text is not a report.
 #[derive(Clone, Copy)]
 pub enum ReportFault {
     /// Memory was refused.
@@ -297,12 +297,13 @@ fn plain_text(bytes: &[u8]) -> Result<&str, ReportFault>
     }
 }
 
-/// Reads a report. What is read prints the same text again, byte for byte, its numbers fit together, each first way is the text of a way, and a
-/// terminal shows each character as it is: any other text is refused.
+/// Reads a report. What is read prints the same text again, byte for byte, its numbers fit together, each first way is
+/// the text of a way, and a terminal shows each character as it is: any other text is refused.
 ///
 /// # Errors
 ///
-/// `TooLong`; `IsChanged` if the last line is not that of the lines above it, `IsOtherVersion`, `NotAReport`, and `OutOfMemory`.
+/// `TooLong`; `IsChanged` if the last line is not that of the lines above it, `IsOtherVersion`, `NotAReport`, and
+/// `OutOfMemory`.
 ///
 /// Source: project rule.
 pub fn read_report(alloc: Global, text: &[u8]) -> Result<Report, ReportFault>

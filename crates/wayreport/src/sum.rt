@@ -186,8 +186,8 @@ fn check_numbers(reports: &[Report]) -> Result<(), SumFault> {
 ///
 /// # Errors
 ///
-/// `NoReport`; `IsWhole`, `IsOther`, `IsRepeated` and `IsMissing` name the report, or the part; `OutOfMemory`; `TooManyWays` when a sum has
-/// more than 64 bits.
+/// `NoReport`; `IsWhole`, `IsOther`, `IsRepeated` and `IsMissing` name the report, or the part; `OutOfMemory`;
+/// `TooManyWays` when a sum has more than 64 bits.
 ///
 /// Source: project rule.
 pub fn sum_reports(alloc: Global, reports: &[Report]) -> Result<Report, SumFault>

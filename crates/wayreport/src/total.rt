@@ -16,8 +16,8 @@ pub struct Tally {
     pub first: String,
 }
 
-/// The outcomes of some parts, in the order in which they were first seen. A text is found by its hash, so that a sum of many outcomes is as
-/// fast as one of few.
+/// The outcomes of some parts, in the order in which they were first seen. A text is found by its hash, so that a sum
+/// of many outcomes is as fast as one of few.
 #[derive(Drop)]
 pub struct Total {
     tallies: IndexMap<Vec<u8>, Tally>,

@@ -2,7 +2,7 @@
 use Rattle.std.proofs.Common.{◌≡◌, ◌∙◌, ℕ, zero, suc, Bool, true, false, Option, None, Some, List, ◌++◌, refl, ap, ap₂}
 use Rattle.scheduler.specs.Schedule.{Schedule, task_count}
 use Rattle.execmodel.specs.State.{Scripts, State}
-use Rattle.execsim.specs.{Agreement.Agrees, Agreement.Seen, Agreement.in_order, Headline.flow_of, declared.machine.Flow.Flow, Standing.runs_text, Standing.standing_text, Standing.wait_text, Standing.waits_text}
+use Rattle.execsim.specs.{Agreement.Agrees, Agreement.Seen, Agreement.in_order, Headline.flow_of, declared.machine.Flow.Flow, WaitingLines.runs_text, WaitingLines.standing_text, WaitingLines.wait_text, WaitingLines.waits_text}
 use Rattle.wayrun.specs.Seen.{ending, stops}
 
 -- in which order the ready tasks are kept makes no difference

@@ -4,7 +4,7 @@ use Rattle.std.specs.Prelude.{ℕ, Bool, true, false, List, [], ◌++◌}
 use Rattle.script.specs.{File.MachineData, declared.event.Event.Event}
 use Rattle.scheduler.specs.Schedule.{Schedule}
 use Rattle.execmodel.specs.{State.Outcome, State.Scripts, Step.run}
-use Rattle.execsim.specs.Standing.{standing_text}
+use Rattle.execsim.specs.WaitingLines.{standing_text}
 use Rattle.execsim.specs.declared.machine.Flow.TheVariants.{Going, Alerted}
 use Rattle.execsim.specs.declared.machine.Flow.{Flow}
 use Rattle.wayrun.specs.{Look.shown_of, declared.see.See.See}

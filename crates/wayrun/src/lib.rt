@@ -1,4 +1,5 @@
-//! What is seen of each way: one way is run from the first state of its machine, and a search notes what is seen of all ways of a part.
+//! What is seen of each way: one way is run from the first state of its machine, and a search notes what is seen of all
+//! ways of a part.
 #![tactic(auto)]
 
 mod look;

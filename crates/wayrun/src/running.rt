@@ -1,9 +1,10 @@
-//! One way, run from the first state of its machine, of which what is seen is kept. The machine is kept from way to way, and reset before each.
+//! One way, run from the first state of its machine, of which what is seen is kept. The machine is kept from way to
+//! way, and reset before each.
 ghost use Rattle.std.specs.Prelude.{◌≡◌, ◌≤◌, ◌++◌, [], false, IfOk, OnOk, sum_by};
 ghost use Rattle.exectrace.specs.declared.sinks.SinkState.{SinkState};
 ghost use Rattle.script.specs.Events.{event_ticks};
 ghost use Rattle.execmodel.specs.{State.booted, Step.run};
-ghost use Rattle.execsim.specs.{Agreement.Agrees, Headline.flow_of, Standing.standing_text, Time.HasTimeFor};
+ghost use Rattle.execsim.specs.{Agreement.Agrees, Headline.flow_of, WaitingLines.standing_text, Time.HasTimeFor};
 ghost use Rattle.wayrun.specs.Seen.{ending, seen_of, stops};
 
 use crate::look::Look;
@@ -76,7 +77,8 @@ impl Bench {
     }
 }
 
-/// Puts a machine back to its first state: that of the file, before its start. One that was made of another file is made anew.
+/// Puts a machine back to its first state: that of the file, before its start. One that was made of another file is
+/// made anew.
 fn made_again(
     alloc: Global,
     machine: &mut Machine<LinkSpace>,

@@ -85,13 +85,13 @@ impl<'a> Show for Runs<'a> {
 
 /// Runs each way of a part from the first state of the machine, and answers the table of what is seen.
 ///
-/// The ways are those with at most `sizes.most` extras of these kinds among the actions; the part names them by their numbers from 0. No way
-/// is left out, no outcome is made up, each count is right, and each first way is the least.
+/// The ways are those with at most `sizes.most` extras of these kinds among the actions; the part names them by their
+/// numbers from 0. No way is left out, no outcome is made up, each count is right, and each first way is the least.
 ///
 /// # Errors
 ///
-/// `OutOfMemory`; `TooManyOutcomes` for more than 65,536; `TooMuch` for outcomes of more than `MOST_BYTES`, with the number of ways before;
-/// `TooManyTicks` when a way has more than 1,000,000.
+/// `OutOfMemory`; `TooManyOutcomes` for more than 65,536; `TooMuch` for outcomes of more than `MOST_BYTES`, with the
+/// number of ways before; `TooManyTicks` when a way has more than 1,000,000.
 ///
 /// Source: project rule.
 pub fn search<'a, P: Watcher + Drop>(

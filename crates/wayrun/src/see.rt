@@ -2,7 +2,8 @@
 ghost use Rattle.std.specs.Prelude.{◌≡◌};
 ghost use Rattle.wayrun.specs.Words.{see_text};
 
-/// What is seen of a way. How it ends is always seen: the line of the alert that ends it, or who runs, and the call of each task that waits.
+/// What is seen of a way. How it ends is always seen: the line of the alert that ends it, or who runs, and the call of
+/// each task that waits.
 #[derive(Clone, Copy)]
 pub enum See {
     /// How it ends.

@@ -11,4 +11,3 @@ pub mod Exact
 mod Rules
 mod Sorting
 mod Folding
-mod Groups

@@ -1,6 +1,6 @@
 -- Ways one by one, and their number.
-use Rattle.std.proofs.Common.{◌≡◌, ◌∙◌, ℕ, suc, ◌+◌, ◌-◌, ◌<◌, ◌≤◌, List, [], ◌∷◌, ◌++◌, map, length, take, drop, get_or, refl, ap, ap₂, sym, append_assoc, arith, fold, append-nil, map-id}
-use Rattle.std.proofs.lemmas.{List.map-append, List.drop_more, List.drop_all, List.take_more, List.take-append-le, List.length_push, Grind.fold-append, Grind.flat_map-append}
+use Rattle.std.proofs.Common.{◌≡◌, ◌∙◌, ℕ, suc, ◌+◌, ◌-◌, ◌<◌, ◌≤◌, List, [], ◌∷◌, ◌++◌, map, length, take, drop, get_or, refl, ap, ap₂, sym, append_assoc, arith, fold, append-nil}
+use Rattle.std.proofs.lemmas.{List.map-append, List.drop_more, List.take_more, List.take-append-le, List.length_push, Grind.fold-append, Grind.flat_map-append}
 use Rattle.ways.specs.Ways.{exactly, with_before, with_each, ways}
 
 module _ {E : Type 0} where
@@ -54,21 +54,8 @@ module _ {E : Type 0} where
         ∙ (sym (fold_more v old (with_each kinds (exactly kinds j (a ∷ drop (at + 1) acts))) a (exactly kinds (suc j) (drop (at + 1) acts)))
         ∙ (ap (λ xs. fold f v (map (λ rest. old ++ rest) (exactly kinds (suc j) xs))) (sym here) ∙ before))
 
-    -- the last place
-    pub place_last : (v w : S) (front : List E) (kinds acts : List E) (extras at : ℕ) (target : S) → length acts ≤ at → 0 < extras
-        → fold f v (map (λ rest. front ++ rest) (exactly kinds (suc (extras - 1)) (drop at acts))) ≡ target
-        → w ≡ fold f v (map (λ rest. front ++ rest) (with_each kinds (exactly kinds (extras - 1) (drop (length acts) acts))))
-        → w ≡ target
-    place_last v w front kinds acts extras at target end some before step =
-        step ∙ (ap (λ xs. fold f v (map (λ rest. front ++ rest) (with_each kinds (exactly kinds (extras - 1) xs)))) (drop_all (length acts) acts (omega arith))
-        ∙ (ap (λ xs. fold f v (map (λ rest. front ++ rest) (exactly kinds (suc (extras - 1)) xs))) (sym (drop_all at acts end)) ∙ before))
-
     -- one extra more
     pub extra_more : (p q r : S) (kinds acts : List E) (k n : ℕ) → n ≡ suc k → q ≡ fold f p (ways kinds k acts) → r ≡ fold f q (exactly kinds n acts) → r ≡ fold f p (ways kinds n acts)
     extra_more p q r kinds acts k n is before step =
         step ∙ (ap₂ (λ (m : ℕ) (s : S). fold f s (exactly kinds m acts)) is before
         ∙ (sym (fold-append f p (ways kinds k acts) (exactly kinds (suc k) acts)) ∙ ap (λ m. fold f p (ways kinds m acts)) (sym is)))
-
-    -- with nothing in front
-    pub with_nothing : (p q : S) (front : List E) (ws : List (List E)) → front ≡ [] → q ≡ fold f p (map (λ rest. front ++ rest) ws) → q ≡ fold f p ws
-    with_nothing p q front ws none is = is ∙ (ap (λ l. fold f p (map (λ rest. l ++ rest) ws)) none ∙ ap (fold f p) (map-id ws))

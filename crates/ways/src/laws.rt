@@ -25,16 +25,18 @@ pub fn exact()
     ensures first { (seen : List Event → List ℕ) (ways : List (List Event)) (text : List ℕ) → first_in (table_of seen [] ways) text ≡ first_showing seen text ways }
 {}
 
-/// Which lists are ways, by three rules: no action and no extra make the empty way; an extra of one of the kinds may come first; and so may the first
-/// action. Each list that they make is among the ways with that many extras, and no other is.
+/// Which lists are ways, by three rules: no action and no extra make the empty way; an extra of one of the kinds may
+/// come first; and so may the first action. Each list that they make is among the ways with that many extras, and no
+/// other is.
 #[tactic(auto, using(crate::proofs::Rules::listed, crate::proofs::Rules::made))]
 pub fn three_rules_make_the_ways()
     ensures { (kinds acts way : List Event) (j : ℕ) → IsOneOf (exactly kinds j acts) way ↔ IsWay kinds j acts way }
 {}
 
-/// The order of the ways: number the kinds from 0, and give each action the number of kinds. Then the ways with that many extras are in the order of a
-/// dictionary, each before all after it: at the first place at which two of them differ an extra is before an action, and an extra of an earlier kind
-/// before one of a later kind. And the ways among any events are those, with the events in the place of their numbers.
+/// The order of the ways: number the kinds from 0, and give each action the number of kinds. Then the ways with that
+/// many extras are in the order of a dictionary, each before all after it: at the first place at which two of them
+/// differ an extra is before an action, and an extra of an earlier kind before one of a later kind. And the ways among
+/// any events are those, with the events in the place of their numbers.
 #[tactic(auto, using(crate::proofs::Sorting::ways_in_order, crate::proofs::Sorting::map_ways))]
 pub fn ways_are_in_order()
     ensures sorted { (many j actions : ℕ) → AreInOrder (exactly (range_with_len 0 many) j (replicate actions many)) }

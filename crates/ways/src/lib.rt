@@ -1,4 +1,5 @@
-//! The ways in which extra events can come among the actions of a frame, and the table of what is seen of each. No machine is known here.
+//! The ways in which extra events can come among the actions of a frame, and the table of what is seen of each. No
+//! machine is known here.
 #![tactic(auto)]
 
 mod fault;

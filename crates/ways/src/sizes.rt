@@ -74,7 +74,8 @@ fn next_row(
 }
 
 impl Sizes {
-    /// The numbers for up to that many extras of that many kinds among up to that many actions, or none if one is beyond 64 bits.
+    /// The numbers for up to that many extras of that many kinds among up to that many actions, or none if one is
+    /// beyond 64 bits.
     pub fn new(
         alloc: Global,
         kinds: usize,

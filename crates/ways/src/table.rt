@@ -12,7 +12,8 @@ use std::marker::Model;
 /// How many outcomes a table may have.
 pub const MOST_OUTCOMES: usize = 65_536;
 
-/// How many bytes the outcomes of a table may take: the bytes of their texts, and those of the actions of their first ways.
+/// How many bytes the outcomes of a table may take: the bytes of their texts, and those of the actions of their first
+/// ways.
 pub const MOST_BYTES: usize = 160_000_000;
 
 /// How many bytes an action takes.
@@ -98,7 +99,8 @@ impl Table {
     ///
     /// # Errors
     ///
-    /// `OutOfMemory`; `TooManyOutcomes`; `TooMuch`, with the number of ways before, for outcomes of more than `MOST_BYTES`.
+    /// `OutOfMemory`; `TooManyOutcomes`; `TooMuch`, with the number of ways before, for outcomes of more than
+    /// `MOST_BYTES`.
     pub fn note(
         &mut self,
         alloc: Global,

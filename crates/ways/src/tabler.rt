@@ -125,8 +125,8 @@ impl<S: Show, P: Watcher> Visitor for Tabler<S, P> {
     }
 }
 
-/// Notes what is seen of each way of a part: of the ways with at most `sizes.most` extras of these kinds among the actions those that the
-/// part names by their numbers.
+/// Notes what is seen of each way of a part: of the ways with at most `sizes.most` extras of these kinds among the
+/// actions those that the part names by their numbers.
 ///
 /// # Errors
 ///

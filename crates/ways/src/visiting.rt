@@ -27,7 +27,8 @@ pub struct Window {
     pub left: u64,
 }
 
-/// Visits the ways that begin with `way`, have one of the kinds after it, and then exactly that many extras more among the actions from `at`.
+/// Visits the ways that begin with `way`, have one of the kinds after it, and then exactly that many extras more among
+/// the actions from `at`.
 #[cycle(visiting)]
 fn visit_here<V: Visitor>(
     visitor: &mut V,
@@ -151,7 +152,8 @@ fn visit_most<V: Visitor>(
     Ok(())
 }
 
-/// Visits the ways with at most that many extras among the actions from number `skip` on, `left` of them, each once and in their order.
+/// Visits the ways with at most that many extras among the actions from number `skip` on, `left` of them, each once and
+/// in their order.
 ///
 /// # Errors
 ///

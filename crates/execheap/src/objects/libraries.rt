@@ -1,4 +1,5 @@
-//! Libraries, and the blocks into which they are loaded: by number, and opened, closed and removed by address (RKM Libraries, Exec Libraries).
+//! Libraries, and the blocks into which they are loaded: by number, and opened, closed and removed by address (RKM
+//! Libraries, Exec Libraries).
 ghost use Rattle.std.specs.Prelude.{◌≡◌, None, Some, IfSome, IsTrue, IfOk, OnErr, OnOk};
 ghost use Rattle.execlib.specs.Libraries.{close_fault, count_of, is_loaded};
 ghost use Rattle.execheap.specs.{Table.base_at, Table.library_at, Numbered.IsKnown, Numbered.shown_memory, Numbered.shown_heap, Refusals.alert_of};
@@ -11,8 +12,8 @@ use execlib::libs::LibId;
 use execlist::space::ListSpace;
 
 impl<S: ListSpace> Objects<S> {
-    /// The number of the loaded library that begins at an address, if one does. A call on libraries begins here, and learns here what
-    /// always holds of the objects.
+    /// The number of the loaded library that begins at an address, if one does. A call on libraries begins here, and
+    /// learns here what always holds of the objects.
     pub fn library_number(&self, address: u32) -> Option<LibId>
         ensures value { result ≡ library_at address self.now.table }
         ensures live { IfSome result (λ i. base_at i self.now.table.libs ≡ Some address) }
@@ -32,7 +33,8 @@ impl<S: ListSpace> Objects<S> {
         self.table.library_count(i)
     }
 
-    /// Opens the library of a name that has at least a version, loading it first if it is absent: its base, if it was opened.
+    /// Opens the library of a name that has at least a version, loading it first if it is absent: its base, if it was
+    /// opened.
     ///
     /// Source: autodoc exec.library/OpenLibrary.
     pub fn open_library(&mut self, name: &str, version: u32) -> Option<u32>
@@ -100,11 +102,11 @@ impl<S: ListSpace> Objects<S> {
 }
 
 impl<S: ListSpace> Heap<S> {
-    /// Opens the library of a name that has at least a version, and answers its base. One that is absent is loaded first: it takes a block
-    /// of its size, of public memory, and others are expunged under low memory for it as in `alloc_mem`. It is open once more, and is not to be
-    /// expunged any more. None if there is none of the name, its version is lower, it is open 65,535 times, or its block fits nowhere;
-    /// then nothing changes but what were expunged under low memory. Autodoc exec.library/OpenLibrary; the count, and that a library takes public memory: project
-    /// rule.
+    /// Opens the library of a name that has at least a version, and answers its base. One that is absent is loaded
+    /// first: it takes a block of its size, of public memory, and the others are asked for memory as in `alloc_mem`. It
+    /// is open once more, and is not to be expunged any more. None if there is none of the name, its version is lower,
+    /// it is open 65,535 times, or its block fits nowhere; then nothing changes but libraries that were asked for
+    /// memory. Autodoc exec.library/OpenLibrary; the count, and that a library takes public memory: project rule.
     pub fn open_library(&mut self, name: &str, version: u32) -> Option<u32>
         ensures answer { result ≡ model.opening name.now version self.old }
         ensures next { self.new ≡ model.opened name.now version self.old }
@@ -112,9 +114,9 @@ impl<S: ListSpace> Heap<S> {
         self.objects.open_library(name, version)
     }
 
-    /// Closes once the library that begins at an address. One that is to be expunged, and is open no more, is freed. It is refused if no
-    /// loaded library begins at the address (Handle), and if it is not open (Lib). Autodoc exec.library/CloseLibrary; the refusals: project
-    /// rule.
+    /// Closes once the library that begins at an address. One that is to be expunged, and is open no more, is freed. It
+    /// is refused if no loaded library begins at the address (Handle), and if it is not open (Lib). Autodoc
+    /// exec.library/CloseLibrary; the refusals: project rule.
     pub fn close_library(&mut self, base: u32) -> Result<(), Refusal>
         ensures alert { alert_of result ≡ model.close_alert base self.old.heap }
         ensures next { OnOk result (self.new ≡ model.closed base self.old) }
@@ -125,9 +127,9 @@ impl<S: ListSpace> Heap<S> {
         Ok(())
     }
 
-    /// Removes the library that begins at an address: one that is not open is freed, an open one is to be expunged when it is closed for the
-    /// last time. It is refused if no loaded library begins at the address (Handle). Autodoc exec.library/RemLibrary; the refusal: project
-    /// rule.
+    /// Removes the library that begins at an address: one that is not open is freed, an open one is to be expunged when
+    /// it is closed for the last time. It is refused if no loaded library begins at the address (Handle). Autodoc
+    /// exec.library/RemLibrary; the refusal: project rule.
     pub fn remove_library(&mut self, base: u32) -> Result<(), Refusal>
         ensures alert { alert_of result ≡ model.library_alert base self.old.heap }
         ensures next { OnOk result (self.new ≡ model.after_expunge base self.old) }
@@ -138,8 +140,8 @@ impl<S: ListSpace> Heap<S> {
         Ok(())
     }
 
-    /// Answers how often the library that begins at an address is open. It is refused if no loaded library begins there (Handle). RKM
-    /// Libraries, Exec Libraries: `lib_OpenCnt`; the refusal: project rule.
+    /// Answers how often the library that begins at an address is open. It is refused if no loaded library begins there
+    /// (Handle). RKM Libraries, Exec Libraries: `lib_OpenCnt`; the refusal: project rule.
     pub fn library_count(&self, base: u32) -> Result<u32, Refusal>
         ensures alert { alert_of result ≡ model.library_alert base self.now.heap }
         ensures answer { IfOk result (λ answer. answer ≡ model.count_of base self.now.heap) }

@@ -1,8 +1,9 @@
-//! Lists and nodes: by number, with the blocks in which they live; how they are found by address; and the calls by address.
+//! Lists and nodes: by number, with the blocks in which they live; how they are found by address; and the calls by
+//! address.
 ghost use Rattle.std.specs.Prelude.{◌≡◌, [], None, Some, find, map, option_map, IfOk, IfSome, IsSome, OnErr, OnOk};
 ghost use Rattle.std.specs.Option.{ForSome};
 ghost use Rattle.execlist.specs.{Order.first, Lists.home, Lists.is_named, Lists.last, Lists.part_after, Lists.part_before, Lists.part_from, Lists.sequence, Pool.slot};
-ghost use Rattle.execmodel.specs.{State.ListHead, State.Node, State.on_heap, Memory.freed, Memory.placed, GivingWay.after_asking_for_object, Objects.place_for_object};
+ghost use Rattle.execmodel.specs.{State.ListHead, State.Node, State.on_heap, Memory.freed, Memory.placed, LowMemory.after_asking_for_object, Objects.place_for_object};
 ghost use Rattle.execheap.specs.{Numbered.IsKnown, Numbered.places, Numbered.shown_memory, Numbered.address_in, Numbered.shown_heap, Changes.key_with, Changes.at_head, Changes.at_tail, Changes.queued, Changes.put, Changes.taken_out, Changes.head_taken, Changes.tail_taken, Refusals.alert_of, Refusals.is_none_or_in};
 ghost use Rattle.execheap.specs.declared.tag.Kind.TheVariants as variant;
 ghost use Rattle.execmodel.specs.Lists as model;
@@ -17,7 +18,8 @@ use execlist::space::{HeaderId, ListSpace, NodeId};
 impl<S: ListSpace> Objects<S> {
     // ---- lists and nodes made and freed
 
-    /// A new empty list, if the pool has one left and its block fits once libraries were expunged under low memory: its address.
+    /// A new empty list, if the pool has one left and its block fits, at once or after libraries were asked for memory:
+    /// its address.
     ///
     /// Source: autodoc amiga.lib/NewList; that it takes the memory is a project rule.
     pub fn make_list(&mut self) -> Option<u32>
@@ -28,7 +30,8 @@ impl<S: ListSpace> Objects<S> {
         Some(list)
     }
 
-    /// A new node with that key, if the pool has one left and its block fits once libraries were expunged under low memory: its address.
+    /// A new node with that key, if the pool has one left and its block fits, at once or after libraries were asked for
+    /// memory: its address.
     ///
     /// Source: RKM Libraries, Exec Lists and Queues: node initialization; that it takes the memory is a project rule.
     pub fn make_node(&mut self, pri: i8, name: Option<Name>) -> Option<u32>
@@ -310,8 +313,8 @@ impl<S: ListSpace> Objects<S> {
         }
     }
 
-    /// The list and the node that begin at addresses, the node not linked, and the node of the list that begins at a third one, or none
-    /// for 0.
+    /// The list and the node that begin at addresses, the node not linked, and the node of the list that begins at a
+    /// third one, or none for 0.
     pub fn to_insert(
         &self,
         list: u32,
@@ -345,7 +348,8 @@ impl<S: ListSpace> Objects<S> {
         }
     }
 
-    /// Where FindName begins: at the first node of the list that begins at an address, or after the linked node that does.
+    /// Where FindName begins: at the first node of the list that begins at an address, or after the linked node that
+    /// does.
     ///
     /// Source: autodoc exec.library/FindName: it starts at a list header or after a node.
     pub fn to_search(&self, start: u32) -> Result<(HeaderId, Option<NodeId>), Refusal>
@@ -380,8 +384,9 @@ impl<S: ListSpace> Objects<S> {
 impl<S: ListSpace> Heap<S> {
     // ---- lists and nodes made and freed
 
-    /// Makes an empty list and answers its address; none if the pool has no list left, which asks nothing, or its block fits nowhere once
-    /// libraries were expunged under low memory (autodoc amiga.lib/NewList; that it takes the memory: project rule).
+    /// Makes an empty list and answers its address; none if the pool has no list left, which asks nothing, or its block
+    /// fits nowhere, even after libraries were asked for memory (autodoc amiga.lib/NewList; that it takes the memory:
+    /// project rule).
     pub fn new_list(&mut self) -> Option<u32>
         ensures address { result ≡ place_for_object model.is_list model.list_size (after_asking_for_object model.is_list model.list_size self.old) }
         ensures next { self.new ≡ placed model.list_size (ListHead []) result (after_asking_for_object model.is_list model.list_size self.old) }
@@ -389,8 +394,9 @@ impl<S: ListSpace> Heap<S> {
         self.objects.make_list()
     }
 
-    /// Makes a node with that priority and that name or none, which is not linked, and answers its address; none if the pool has no
-    /// node left, which asks nothing, or its block fits nowhere once libraries were expunged under low memory (project rule).
+    /// Makes a node with that priority and that name or none, which is not linked, and answers its address; none if the
+    /// pool has no node left, which asks nothing, or its block fits nowhere, even after libraries were asked for memory
+    /// (project rule).
     pub fn new_node(&mut self, pri: i8, name: Option<Name>) -> Option<u32>
         ensures address { result ≡ place_for_object model.is_node model.node_size (after_asking_for_object model.is_node model.node_size self.old) }
         ensures next { self.new ≡ placed model.node_size (Node (key_with pri (option_map (λ text. text.bytes) name))) result (after_asking_for_object model.is_node model.node_size self.old) }
@@ -398,7 +404,8 @@ impl<S: ListSpace> Heap<S> {
         self.objects.make_node(pri, name)
     }
 
-    /// Frees a list. It is refused if no list begins at the address (Handle), and if the list has nodes (Link); project rule.
+    /// Frees a list. It is refused if no list begins at the address (Handle), and if the list has nodes (Link); project
+    /// rule.
     pub fn free_list(&mut self, list: u32) -> Result<(), Refusal>
         ensures alert { alert_of result ≡ model.free_list_alert list self.old.heap }
         ensures next { OnOk result (self.new ≡ freed list self.old) }
@@ -409,7 +416,8 @@ impl<S: ListSpace> Heap<S> {
         Ok(())
     }
 
-    /// Frees a node. It is refused if no node begins at the address (Handle), and if the node is linked (Link); project rule.
+    /// Frees a node. It is refused if no node begins at the address (Handle), and if the node is linked (Link); project
+    /// rule.
     pub fn free_node(&mut self, node: u32) -> Result<(), Refusal>
         ensures alert { alert_of result ≡ model.free_node_alert node self.old.heap }
         ensures next { OnOk result (self.new ≡ freed node self.old) }
@@ -446,8 +454,9 @@ impl<S: ListSpace> Heap<S> {
         Ok(())
     }
 
-    /// Puts a node before the first node of lower priority in a list, or last if there is none. It is refused if no list or no node
-    /// begins at its address (Handle), and if the node is linked (Link). Autodoc exec.library/Enqueue; the refusals: project rule.
+    /// Puts a node before the first node of lower priority in a list, or last if there is none. It is refused if no
+    /// list or no node begins at its address (Handle), and if the node is linked (Link). Autodoc exec.library/Enqueue;
+    /// the refusals: project rule.
     pub fn enqueue(&mut self, list: u32, node: u32) -> Result<(), Refusal>
         ensures alert { alert_of result ≡ model.link_alert list node self.old.heap }
         ensures next { OnOk result (self.new ≡ on_heap (model.enqueued list node) self.old) }
@@ -458,9 +467,9 @@ impl<S: ListSpace> Heap<S> {
         Ok(())
     }
 
-    /// Puts a node after a node of a list, or first for address 0. It is refused if no list or no node begins at its address
-    /// (Handle), and if the node is linked or its predecessor is not in the list (Link). Autodoc exec.library/Insert; the
-    /// refusals: project rule.
+    /// Puts a node after a node of a list, or first for address 0. It is refused if no list or no node begins at its
+    /// address (Handle), and if the node is linked or its predecessor is not in the list (Link). Autodoc
+    /// exec.library/Insert; the refusals: project rule.
     pub fn insert(&mut self, list: u32, node: u32, pred: u32) -> Result<(), Refusal>
         ensures alert { alert_of result ≡ model.insert_alert list node pred self.old.heap }
         ensures next { OnOk result (self.new ≡ on_heap (model.inserted list node pred) self.old) }
@@ -471,8 +480,8 @@ impl<S: ListSpace> Heap<S> {
         Ok(())
     }
 
-    /// Takes a node out of the list that has it. It is refused if no node begins at the address (Handle), and if the node is not
-    /// linked (Link). Autodoc exec.library/Remove; the refusals: project rule.
+    /// Takes a node out of the list that has it. It is refused if no node begins at the address (Handle), and if the
+    /// node is not linked (Link). Autodoc exec.library/Remove; the refusals: project rule.
     pub fn remove(&mut self, node: u32) -> Result<(), Refusal>
         ensures alert { alert_of result ≡ model.linked_alert node self.old.heap }
         ensures next { OnOk result (self.new ≡ on_heap (model.unlinked node) self.old) }
@@ -483,8 +492,8 @@ impl<S: ListSpace> Heap<S> {
         Ok(())
     }
 
-    /// Takes the first node out of a list and answers its address, or 0 for an empty list. It is refused if no list begins at the
-    /// address (Handle). Autodoc exec.library/RemHead; the refusal: project rule.
+    /// Takes the first node out of a list and answers its address, or 0 for an empty list. It is refused if no list
+    /// begins at the address (Handle). Autodoc exec.library/RemHead; the refusal: project rule.
     pub fn rem_head(&mut self, list: u32) -> Result<u32, Refusal>
         ensures alert { alert_of result ≡ model.list_alert list self.old.heap }
         ensures answer { IfOk result (λ answer. answer ≡ model.first_of list self.old.heap) }
@@ -496,8 +505,8 @@ impl<S: ListSpace> Heap<S> {
         Ok(self.objects.address_or_0(n))
     }
 
-    /// Takes the last node out of a list and answers its address, or 0 for an empty list. It is refused if no list begins at the
-    /// address (Handle). Autodoc exec.library/RemTail; the refusal: project rule.
+    /// Takes the last node out of a list and answers its address, or 0 for an empty list. It is refused if no list
+    /// begins at the address (Handle). Autodoc exec.library/RemTail; the refusal: project rule.
     pub fn rem_tail(&mut self, list: u32) -> Result<u32, Refusal>
         ensures alert { alert_of result ≡ model.list_alert list self.old.heap }
         ensures answer { IfOk result (λ answer. answer ≡ model.last_of list self.old.heap) }
@@ -511,8 +520,8 @@ impl<S: ListSpace> Heap<S> {
 
     // ---- scanning
 
-    /// Answers the address of the first node of a list, or 0 for an empty list. It is refused if no list begins at the address
-    /// (Handle). RKM Libraries, Exec Lists and Queues: scanning a list; the refusal: project rule.
+    /// Answers the address of the first node of a list, or 0 for an empty list. It is refused if no list begins at the
+    /// address (Handle). RKM Libraries, Exec Lists and Queues: scanning a list; the refusal: project rule.
     pub fn first(&self, list: u32) -> Result<u32, Refusal>
         ensures alert { alert_of result ≡ model.list_alert list self.now.heap }
         ensures answer { IfOk result (λ answer. answer ≡ model.first_of list self.now.heap) }
@@ -521,8 +530,8 @@ impl<S: ListSpace> Heap<S> {
         Ok(self.objects.address_or_0(self.objects.first(h)))
     }
 
-    /// Answers the address of the last node of a list, or 0 for an empty list. It is refused if no list begins at the address
-    /// (Handle). RKM Libraries, Exec Lists and Queues: scanning a list; the refusal: project rule.
+    /// Answers the address of the last node of a list, or 0 for an empty list. It is refused if no list begins at the
+    /// address (Handle). RKM Libraries, Exec Lists and Queues: scanning a list; the refusal: project rule.
     pub fn last(&self, list: u32) -> Result<u32, Refusal>
         ensures alert { alert_of result ≡ model.list_alert list self.now.heap }
         ensures answer { IfOk result (λ answer. answer ≡ model.last_of list self.now.heap) }
@@ -531,8 +540,9 @@ impl<S: ListSpace> Heap<S> {
         Ok(self.objects.address_or_0(self.objects.last(h)))
     }
 
-    /// Answers the address of the node after a linked one, or 0 if that is the last. It is refused if no node begins at the address
-    /// (Handle), and if the node is not linked (Link). RKM Libraries, Exec Lists and Queues: `ln_Succ`; the refusals: project rule.
+    /// Answers the address of the node after a linked one, or 0 if that is the last. It is refused if no node begins at
+    /// the address (Handle), and if the node is not linked (Link). RKM Libraries, Exec Lists and Queues: `ln_Succ`; the
+    /// refusals: project rule.
     pub fn succ(&self, node: u32) -> Result<u32, Refusal>
         ensures alert { alert_of result ≡ model.linked_alert node self.now.heap }
         ensures answer { IfOk result (λ answer. answer ≡ model.succ_of node self.now.heap) }
@@ -541,8 +551,9 @@ impl<S: ListSpace> Heap<S> {
         Ok(self.objects.address_or_0(self.objects.succ(n)))
     }
 
-    /// Answers the address of the node before a linked one, or 0 if that is the first. It is refused if no node begins at the address
-    /// (Handle), and if the node is not linked (Link). RKM Libraries, Exec Lists and Queues: `ln_Pred`; the refusals: project rule.
+    /// Answers the address of the node before a linked one, or 0 if that is the first. It is refused if no node begins
+    /// at the address (Handle), and if the node is not linked (Link). RKM Libraries, Exec Lists and Queues: `ln_Pred`;
+    /// the refusals: project rule.
     pub fn pred(&self, node: u32) -> Result<u32, Refusal>
         ensures alert { alert_of result ≡ model.linked_alert node self.now.heap }
         ensures answer { IfOk result (λ answer. answer ≡ model.pred_of node self.now.heap) }
@@ -551,9 +562,9 @@ impl<S: ListSpace> Heap<S> {
         Ok(self.objects.address_or_0(self.objects.pred(n)))
     }
 
-    /// Answers the address of the first node of a name in a list, or after a linked node, or 0; names compare byte for byte. It is refused
-    /// if neither a list nor a node begins at the start (Handle), and if the node is not linked (Link). Autodoc
-    /// exec.library/FindName; the refusals: project rule.
+    /// Answers the address of the first node of a name in a list, or after a linked node, or 0; names compare byte for
+    /// byte. It is refused if neither a list nor a node begins at the start (Handle), and if the node is not linked
+    /// (Link). Autodoc exec.library/FindName; the refusals: project rule.
     pub fn find_name(&self, start: u32, name: &str) -> Result<u32, Refusal>
         ensures alert { alert_of result ≡ model.find_alert start self.now.heap }
         ensures answer { IfOk result (λ answer. answer ≡ model.found_node start name.now self.now.heap) }

@@ -1,9 +1,10 @@
-//! Ports and messages: by number, with the blocks in which they live; how they are found by address; and the calls by address.
+//! Ports and messages: by number, with the blocks in which they live; how they are found by address; and the calls by
+//! address.
 ghost use Rattle.std.specs.Prelude.{◌≡◌, ◌<◌, ◌≤◌, not, [], None, Some, IfSome, IsSome, IsTrue, ◌≢◌, IfOk, option_map, OnErr, OnOk, find};
 ghost use Rattle.execlist.specs.{Order.first, Lists.home, Pool.slot};
 ghost use Rattle.msgport.specs.Ports.{has_messages, is_message, is_port, is_public, message_at, messages_of, new_message, port_at, made_private, made_public, nt_freemsg, nt_message, nt_replymsg, posted, taken_off, typed, with_message, with_port};
 ghost use Rattle.msgport.specs.Port.{arrival_action, new_port};
-ghost use Rattle.execmodel.specs.{State.Message, State.MsgPort, State.on_heap, Memory.freed, Memory.placed, GivingWay.after_asking_for_object, Objects.place_for_object, Lists.or_none};
+ghost use Rattle.execmodel.specs.{State.Message, State.MsgPort, State.on_heap, Memory.freed, Memory.placed, LowMemory.after_asking_for_object, Objects.place_for_object, Lists.or_none};
 ghost use Rattle.execheap.specs.{Numbered.message_places, Numbered.places, Numbered.shown_memory, Numbered.IsKnown, Numbered.address_in, Numbered.shown_heap, Changes.on_ports, Refusals.alert_of, Listing.listed, Listing.replied_by, Listing.replying};
 ghost use Rattle.std.specs.Option.{ForSome};
 ghost use Rattle.execmodel.specs.Ports as model;
@@ -28,7 +29,8 @@ impl<S: ListSpace> Objects<S> {
 
     // ---- numbers and addresses
 
-    /// The address of what may be in a port: of a live message, or of a live request, whose numbers as messages are after.
+    /// The address of what may be in a port: of a live message, or of a live request, whose numbers as messages are
+    /// after.
     pub fn address_of_message(&self, m: MsgId) -> u32
         requires { IsSome (slot (message_places self.now) m) }
         ensures { slot (message_places self.now) m ≡ Some result }
@@ -53,7 +55,8 @@ impl<S: ListSpace> Objects<S> {
 
     // ---- made and freed
 
-    /// A new port of a task, which signals it by the signal of that number, if the pool has one left and its block fits once libraries were expunged under low memory: its address.
+    /// A new port of a task, which signals it by the signal of that number, if the pool has one left and its block
+    /// fits, at once or after libraries were asked for memory: its address.
     ///
     /// Source: autodoc exec.library/CreateMsgPort.
     pub fn make_port(&mut self, task: TaskId, bit: u32) -> Option<u32>
@@ -68,7 +71,8 @@ impl<S: ListSpace> Objects<S> {
         Some(port)
     }
 
-    /// A new message with a reply port, or 0, and a word, if the pool has one left and its block fits once libraries were expunged under low memory: its address.
+    /// A new message with a reply port, or 0, and a word, if the pool has one left and its block fits, at once or after
+    /// libraries were asked for memory: its address.
     ///
     /// Source: RKM Libraries, Exec Messages and Ports: messages; that it takes the memory is a project rule.
     pub fn make_message(&mut self, reply: u32, word: u32) -> Option<u32>
@@ -223,7 +227,8 @@ impl<S: ListSpace> Objects<S> {
         }
     }
 
-    /// The port that begins at an address, which has no message, is not public, and is the reply port of no request that is in progress.
+    /// The port that begins at an address, which has no message, is not public, and is the reply port of no request
+    /// that is in progress.
     pub fn port_to_delete(&self, port: u32) -> Result<PortId, Refusal>
         ensures alert { alert_of result ≡ model.delete_alert port (shown_memory self.now) }
         ensures found { IfOk result (λ p. slot (places variant.Port self.now) p ≡ Some port) }
@@ -314,8 +319,8 @@ impl<S: ListSpace> Objects<S> {
     }
 
     /// The message that begins at an address, which is in no port.
-    pub fn loose_message_at(&self, message: u32) -> Result<MsgId, Refusal>
-        ensures alert { alert_of result ≡ model.loose_alert message (shown_heap self.now) }
+    pub fn unqueued_message_at(&self, message: u32) -> Result<MsgId, Refusal>
+        ensures alert { alert_of result ≡ model.unqueued_alert message (shown_heap self.now) }
         ensures found { IfOk result (λ m. slot (places variant.Message self.now) m ≡ Some message) }
         ensures live { IfOk result (λ m. IsTrue (is_message m self.now.ports)) }
         ensures loose { IfOk result (λ m. home self.now.ports.places m ≡ None) }
@@ -337,7 +342,7 @@ impl<S: ListSpace> Objects<S> {
         ensures known { IsKnown self.now }
     {
         let p = self.port_at(port)?;
-        let m = self.loose_message_at(message)?;
+        let m = self.unqueued_message_at(message)?;
         Ok((p, m))
     }
 
@@ -353,7 +358,7 @@ impl<S: ListSpace> Objects<S> {
         ensures live_port { IfOk result (λ pair. ForSome pair.1 (λ p. IsTrue (is_port p self.now.ports))) }
         ensures known { IsKnown self.now }
     {
-        let m = self.loose_message_at(message)?;
+        let m = self.unqueued_message_at(message)?;
         let p = self.reply_port_at(self.ports().reply_port(m))?;
         Ok((m, p))
     }
@@ -384,9 +389,9 @@ impl<S: ListSpace> Objects<S> {
 impl<S: ListSpace> Heap<S> {
     // ---- ports made and freed
 
-    /// Makes a port of a task, which signals it by the signal of that number (16 to 31), and answers its address; none if the pool has
-    /// no port left, which asks nothing, or its block fits nowhere once libraries were expunged under low memory. It has no message and is not public
-    /// (autodoc exec.library/CreateMsgPort).
+    /// Makes a port of a task, which signals it by the signal of that number (16 to 31), and answers its address; none
+    /// if the pool has no port left, which asks nothing, or its block fits nowhere, even after libraries were asked for
+    /// memory. It has no message and is not public (autodoc exec.library/CreateMsgPort).
     pub fn new_port(&mut self, task: TaskId, bit: u32) -> Option<u32>
         requires own { 16 ≤ bit }
         requires signal { bit < 32 }
@@ -403,9 +408,9 @@ impl<S: ListSpace> Heap<S> {
         self.objects.number_at(Kind::Port, port).is_some()
     }
 
-    /// Frees a port, and answers its task and the number of its signal. It is refused if no port begins at the address (Handle), and
-    /// if the port has messages, is public, or is the reply port of a request that is in progress (Port). Autodoc exec.library/DeleteMsgPort;
-    /// the refusals: project rule.
+    /// Frees a port, and answers its task and the number of its signal. It is refused if no port begins at the address
+    /// (Handle), and if the port has messages, is public, or is the reply port of a request that is in progress (Port).
+    /// Autodoc exec.library/DeleteMsgPort; the refusals: project rule.
     pub fn delete_port(&mut self, port: u32) -> Result<(TaskId, u32), Refusal>
         ensures alert { alert_of result ≡ model.delete_alert port self.old }
         ensures task { IfOk result (λ owner. owner.0 ≡ (model.port_of port self.old.heap).task) }
@@ -421,8 +426,9 @@ impl<S: ListSpace> Heap<S> {
 
     // ---- public ports
 
-    /// Makes a port public under a name, before the first public port of lower priority. It is refused if no port begins at the
-    /// address (Handle), and if the port is public already (Link). Autodoc exec.library/AddPort; the refusals: project rule.
+    /// Makes a port public under a name, before the first public port of lower priority. It is refused if no port
+    /// begins at the address (Handle), and if the port is public already (Link). Autodoc exec.library/AddPort; the
+    /// refusals: project rule.
     pub fn add_port(&mut self, port: u32, name: Name, pri: i8) -> Result<(), Refusal>
         ensures alert { alert_of result ≡ model.add_port_alert port pri self.old }
         ensures next { OnOk result (self.new ≡ listed port name.bytes pri self.old) }
@@ -433,8 +439,8 @@ impl<S: ListSpace> Heap<S> {
         Ok(())
     }
 
-    /// Makes a port public no more. It is refused if no port begins at the address (Handle), and if the port is not public (Link).
-    /// Autodoc exec.library/RemPort; the refusals: project rule.
+    /// Makes a port public no more. It is refused if no port begins at the address (Handle), and if the port is not
+    /// public (Link). Autodoc exec.library/RemPort; the refusals: project rule.
     pub fn rem_port(&mut self, port: u32) -> Result<(), Refusal>
         ensures alert { alert_of result ≡ model.rem_port_alert port self.old }
         ensures next { OnOk result (self.new ≡ model.made_private port self.old) }
@@ -445,8 +451,9 @@ impl<S: ListSpace> Heap<S> {
         Ok(())
     }
 
-    /// Answers the address of the first public port of a name, or 0; names compare byte for byte. The public ports are by priority, and
-    /// those of one priority in the order in which they were made public. Autodoc exec.library/FindPort.
+    /// Answers the address of the first public port of a name, or 0; names compare byte for byte. The public ports are
+    /// by priority, and those of one priority in the order in which they were made public. Autodoc
+    /// exec.library/FindPort.
     pub fn find_port(&self, name: &str) -> u32
         ensures { result ≡ model.port_or_none (find (model.is_called name.now) self.now.public) }
     {
@@ -467,9 +474,10 @@ impl<S: ListSpace> Heap<S> {
 
     // ---- messages made and freed
 
-    /// Makes a message of type 0 with a reply port, 0 for none, and a word, which is in no port, and answers its address; none if the
-    /// pool has no message left, which asks nothing, or its block fits nowhere once libraries were expunged under low memory. It is refused if the
-    /// reply port is not 0 and no port begins there (Handle). Project rule.
+    /// Makes a message of type 0 with a reply port, 0 for none, and a word, which is in no port, and answers its
+    /// address; none if the pool has no message left, which asks nothing, or its block fits nowhere, even after
+    /// libraries were asked for memory. It is refused if the reply port is not 0 and no port begins there (Handle).
+    /// Project rule.
     pub fn new_message(&mut self, reply: u32, word: u32) -> Result<Option<u32>, Refusal>
         ensures alert { alert_of result ≡ model.reply_port_alert reply self.old.heap }
         ensures address { IfOk result (λ place. place ≡ place_for_object model.is_message model.message_size (after_asking_for_object model.is_message model.message_size self.old)) }
@@ -480,13 +488,14 @@ impl<S: ListSpace> Heap<S> {
         Ok(self.objects.make_message(reply, word))
     }
 
-    /// Frees a message. It is refused if no message begins at the address (Handle), and if a port has it (Link). Project rule.
+    /// Frees a message. It is refused if no message begins at the address (Handle), and if a port has it (Link).
+    /// Project rule.
     pub fn free_message(&mut self, message: u32) -> Result<(), Refusal>
-        ensures alert { alert_of result ≡ model.loose_alert message self.old.heap }
+        ensures alert { alert_of result ≡ model.unqueued_alert message self.old.heap }
         ensures next { OnOk result (self.new ≡ freed message self.old) }
         ensures kept { OnErr result (self.new ≡ self.old) }
     {
-        let m = self.objects.loose_message_at(message)?;
+        let m = self.objects.unqueued_message_at(message)?;
         self.objects.free_message(m, message);
         Ok(())
     }
@@ -513,8 +522,9 @@ impl<S: ListSpace> Heap<S> {
         Ok(())
     }
 
-    /// Answers the type of a message: 0 for a new one, NT_MESSAGE, NT_REPLYMSG or NT_FREEMSG. It is refused if no message begins at
-    /// the address (Handle). RKM Libraries, Exec Messages and Ports: `ln_Type`; the refusal: project rule.
+    /// Answers the type of a message: 0 for a new one, NT_MESSAGE, NT_REPLYMSG or NT_FREEMSG. It is refused if no
+    /// message begins at the address (Handle). RKM Libraries, Exec Messages and Ports: `ln_Type`; the refusal: project
+    /// rule.
     pub fn kind(&self, message: u32) -> Result<u8, Refusal>
         ensures alert { alert_of result ≡ model.message_alert message self.now.heap }
         ensures answer { IfOk result (λ kind. kind ≡ (model.content_of message self.now.heap).kind) }
@@ -525,9 +535,9 @@ impl<S: ListSpace> Heap<S> {
 
     // ---- putting and replying
 
-    /// Puts a message at a port, after those that it has, as one of type NT_MESSAGE, and answers what is to be done for it. It is refused
-    /// if no port or no message begins at its address (Handle), and if a port has the message already (Link).
-    /// Autodoc exec.library/PutMsg; the refusals: project rule.
+    /// Puts a message at a port, after those that it has, as one of type NT_MESSAGE, and answers what is to be done for
+    /// it. It is refused if no port or no message begins at its address (Handle), and if a port has the message already
+    /// (Link). Autodoc exec.library/PutMsg; the refusals: project rule.
     pub fn put_message(&mut self, port: u32, message: u32) -> Result<Action, Refusal>
         ensures alert { alert_of result ≡ model.put_alert port message self.old.heap }
         ensures answer { IfOk result (λ action. action ≡ arrival_action (model.port_of port self.old.heap)) }
@@ -538,10 +548,10 @@ impl<S: ListSpace> Heap<S> {
         Ok(self.objects.put(p, m))
     }
 
-    /// Puts a message at its reply port, the one that begins at that address now, as one of type NT_REPLYMSG, and answers what is to be
-    /// done for it; one without a reply port gets the type NT_FREEMSG. It is refused if no message begins at the address (Handle),
-    /// if a port has it already (Link), and if it has a reply port and no port begins there (Handle).
-    /// Autodoc exec.library/ReplyMsg; the refusals: project rule.
+    /// Puts a message at its reply port, the one that begins at that address now, as one of type NT_REPLYMSG, and
+    /// answers what is to be done for it; one without a reply port gets the type NT_FREEMSG. It is refused if no
+    /// message begins at the address (Handle), if a port has it already (Link), and if it has a reply port and no port
+    /// begins there (Handle). Autodoc exec.library/ReplyMsg; the refusals: project rule.
     pub fn reply_message(&mut self, message: u32) -> Result<Action, Refusal>
         ensures alert { alert_of result ≡ model.reply_alert message self.old.heap }
         ensures answer { IfOk result (λ action. action ≡ replying message self.old.heap) }
@@ -560,8 +570,9 @@ impl<S: ListSpace> Heap<S> {
 
     // ---- taking and waiting
 
-    /// Takes what is first in a port, a message or a request that is replied, and answers its address, or 0 if there is none. It is
-    /// refused if no port begins at the address (Handle). Autodoc exec.library/GetMsg; the refusal: project rule.
+    /// Takes what is first in a port, a message or a request that is replied, and answers its address, or 0 if there is
+    /// none. It is refused if no port begins at the address (Handle). Autodoc exec.library/GetMsg; the refusal: project
+    /// rule.
     pub fn take_message(&mut self, port: u32) -> Result<u32, Refusal>
         ensures alert { alert_of result ≡ model.port_alert port self.old.heap }
         ensures answer { IfOk result (λ message. message ≡ or_none (first (model.messages_of port self.old.heap))) }
@@ -574,9 +585,10 @@ impl<S: ListSpace> Heap<S> {
         Ok(self.objects.message_or_0(m))
     }
 
-    /// Answers the address of what is first in a port at which a task may wait, a message or a request that is replied, or none, and the
-    /// number of the port's signal (0 to 31). It is refused if no port begins at the address (Handle), and if the port does not signal
-    /// the task (Port). Autodoc exec.library/WaitPort: what it answers; the refusals: project rule.
+    /// Answers the address of what is first in a port at which a task may wait, a message or a request that is replied,
+    /// or none, and the number of the port's signal (0 to 31). It is refused if no port begins at the address (Handle),
+    /// and if the port does not signal the task (Port). Autodoc exec.library/WaitPort: what it answers; the refusals:
+    /// project rule.
     pub fn message_to_wait_for(
         &self,
         task: TaskId,

@@ -1,5 +1,5 @@
-//! What is in a queue, one after another: the nodes of a list, the messages of a port, the tasks that wait for a semaphore; and where a
-//! message, a request and a public port are. Nothing here changes any of them.
+//! What is in a queue, one after another: the nodes of a list, the messages of a port, the tasks that wait for a
+//! semaphore; and where a message, a request and a public port are. Nothing here changes any of them.
 ghost use Rattle.std.specs.Prelude.{◌≡◌, ◌≢◌, ℕ, find, map, None, Some, IfSome, IsSome, IsTrue, MatchOption, option_map};
 ghost use Rattle.execlist.specs.{Lists.is_named, Lists.part_from, Lists.sequence, Order.first, Pool.slot};
 ghost use Rattle.msgport.specs.Ports.{is_message, is_port, messages_of};
@@ -197,8 +197,8 @@ impl<S: ListSpace> Objects<S> {
 }
 
 impl<S: ListSpace> Heap<S> {
-    /// The node after `after` in the list that begins at an address, or the first one for none; none at the end, and if there is no such
-    /// list or `after` is not in it.
+    /// The node after `after` in the list that begins at an address, or the first one for none; none at the end, and if
+    /// there is no such list or `after` is not in it.
     ///
     /// Source: RKM Libraries, Exec Lists and Queues: scanning a list.
     pub fn node_after(&self, list: u32, after: Option<u32>) -> Option<u32>
@@ -207,8 +207,8 @@ impl<S: ListSpace> Heap<S> {
         self.objects.node_after(list, after)
     }
 
-    /// The message, or the request, after `after` in the port that begins at an address, or the first one for none, in order of arrival;
-    /// none at the end, and if there is no such port or it does not have `after`.
+    /// The message, or the request, after `after` in the port that begins at an address, or the first one for none, in
+    /// order of arrival; none at the end, and if there is no such port or it does not have `after`.
     ///
     /// Source: RKM Libraries, Exec Messages and Ports: `mp_MsgList`.
     pub fn message_after(&self, port: u32, after: Option<u32>) -> Option<u32>
@@ -235,8 +235,8 @@ impl<S: ListSpace> Heap<S> {
         self.objects.public_port(name)
     }
 
-    /// The task that waits after `after` for the semaphore that begins at an address, or the first one for none, in order of request; none
-    /// at the end, and if there is no such semaphore or `after` does not wait for it.
+    /// The task that waits after `after` for the semaphore that begins at an address, or the first one for none, in
+    /// order of request; none at the end, and if there is no such semaphore or `after` does not wait for it.
     ///
     /// Source: RKM Libraries, Exec Semaphores: `ss_WaitQueue`.
     pub fn waiter_after(&self, semaphore: u32, after: Option<TaskId>) -> Option<TaskId>

@@ -1,4 +1,5 @@
-//! What is seen of the memory, of the objects in it and of the timer, by number and by address. Nothing here changes any of them.
+//! What is seen of the memory, of the objects in it and of the timer, by number and by address. Nothing here changes
+//! any of them.
 ghost use Rattle.std.specs.Prelude.{◌≡◌, slice_get, option_map};
 ghost use Rattle.execlist.specs.Lists.{key_at};
 ghost use Rattle.memlist.specs.Readers.{gap_from as first_from, gaps_in};
@@ -121,7 +122,8 @@ impl<S: ListSpace> Heap<S> {
         self.objects.table.region(k)
     }
 
-    /// The lowest gap of a region that begins at an address or above it; none if there is none, and past the last region.
+    /// The lowest gap of a region that begins at an address or above it; none if there is none, and past the last
+    /// region.
     ///
     /// Source: RKM Libraries, Exec Memory Allocation: MemChunk.
     pub fn gap_from(&self, k: usize, address: u32) -> Option<Gap>

@@ -1,11 +1,11 @@
-//! Requests and the timer: by number, with the blocks in which they live and their replies; how they are found by address; and the calls
-//! by address (RKM Devices, Introduction to Amiga System Devices; Devices, timer device).
+//! Requests and the timer: by number, with the blocks in which they live and their replies; how they are found by
+//! address; and the calls by address (RKM Devices, Introduction to Amiga System Devices; Devices, timer device).
 ghost use Rattle.std.specs.Prelude.{◌≡◌, ◌<◌, ◌≤◌, ◌+◌, ◌^◌, false, negsuc, None, Some, IfSome, IsSome, IsTrue, length, option_map, IfOk, true, OnErr, OnOk};
 ghost use Rattle.execlist.specs.{Lists.home, Pool.slot};
-ghost use Rattle.iorequest.specs.{declared.request.ReqState.TheVariants.Replied, Request.finished, Request.idle_request, Request.is_open, Request.is_under_way, Request.reply_port, Request.time_of, Requests.closed, Requests.is_request, Requests.opened, Requests.request_at, Requests.unit_error, Requests.with_request, Requests.written_with};
+ghost use Rattle.iorequest.specs.{declared.request.ReqState.TheVariants.Replied, Request.finished, Request.idle_request, Request.is_opened, Request.is_under_way, Request.reply_port, Request.time_of, Requests.closed, Requests.is_request, Requests.opened, Requests.request_at, Requests.unit_error, Requests.with_request, Requests.written_with};
 ghost use Rattle.msgport.specs.Ports.{is_message, is_port, is_queued};
-ghost use Rattle.timerdev.specs.Timing.{due_next, looked_at, ticked, until_next};
-ghost use Rattle.execmodel.specs.{State.Request, State.on_heap, State.on_timer, Memory.freed, Memory.placed, GivingWay.after_asking_for_object, Objects.place_for_object, Ports.port_of, Ports.port_alert};
+ghost use Rattle.timerdev.specs.Timing.{due_next, looked_at, clock_ticked, until_next};
+ghost use Rattle.execmodel.specs.{State.Request, State.on_heap, State.on_timer, Memory.freed, Memory.placed, LowMemory.after_asking_for_object, Objects.place_for_object, Ports.port_of, Ports.port_alert};
 ghost use Rattle.execheap.specs.{Changes.reserved, Numbered.IsKnown, Numbered.message_of_request, Numbered.places, Numbered.shown_memory, Numbered.shown_heap, Requesting.on_requests, Requesting.on_timing, Refusals.alert_of, Listing.IsSignal, Listing.aborted, Listing.aborting, Listing.acting_begun, Listing.awaited_for, Listing.ended_if, Listing.finishing, Listing.taken_if_replied};
 ghost use Rattle.execmodel.specs.Requests as model;
 ghost use Rattle.execheap.specs.declared.tag.Kind.TheVariants as variant;
@@ -57,7 +57,8 @@ impl<S: ListSpace> Objects<S> {
 
     // ---- made and freed
 
-    /// A new request with that reply port, which is idle and not open, if the pool has one left and its block fits once libraries were expunged under low memory: its address.
+    /// A new request with that reply port, which is idle and not open, if the pool has one left and its block fits, at
+    /// once or after libraries were asked for memory: its address.
     ///
     /// Source: autodoc exec.library/CreateIORequest.
     pub fn make_request(&mut self, port: u32) -> Option<u32>
@@ -86,7 +87,8 @@ impl<S: ListSpace> Objects<S> {
 
     // ---- opening and writing
 
-    /// Opens a request that is not in progress for a unit of the timer, none if another device is meant, and answers the error.
+    /// Opens a request that is not in progress for a unit of the timer, none if another device is meant, and answers
+    /// the error.
     ///
     /// Source: autodoc exec.library/OpenDevice.
     pub fn open_request(&mut self, r: ReqId, unit: Option<u32>) -> i8
@@ -128,7 +130,7 @@ impl<S: ListSpace> Objects<S> {
     pub fn begin_request(&mut self, r: ReqId, quick: bool) -> Action
         requires live { IsTrue (is_request r self.old.requests) }
         requires rests { is_under_way (request_at r self.old.requests) ≡ false }
-        requires open { IsTrue (is_open (request_at r self.old.requests)) }
+        requires open { IsTrue (is_opened (request_at r self.old.requests)) }
         requires loose { home self.old.ports.places (message_of_request r self.old) ≡ None }
         ensures answer { result ≡ next.acting_so (next.goes_on r self.old) quick r self.old }
         ensures next { self.new ≡ next.begun_now quick r self.old }
@@ -202,8 +204,8 @@ impl<S: ListSpace> Objects<S> {
         )
     }
 
-    /// Ends the first request whose time has come, if there is one, with error 0, and answers its number and what is to be done for its
-    /// reply.
+    /// Ends the first request whose time has come, if there is one, with error 0, and answers its number and what is to
+    /// be done for its reply.
     ///
     /// Source: RKM Devices, timer device: TR_ADDREQUEST.
     pub fn finish_due(&mut self) -> Option<(ReqId, Action)>
@@ -290,13 +292,13 @@ impl<S: ListSpace> Objects<S> {
 
     // ---- the clock, and system time
 
-    /// Clock and system time gain the microseconds of a tick. The clock stays so far below 2 to the power 64 that system time
-    /// and the longest time of a request can be added to it, which are less than 2 to the power 54.
+    /// Clock and system time gain the microseconds of a tick. The clock stays so far below 2 to the power 64 that
+    /// system time and the longest time of a request can be added to it, which are less than 2 to the power 54.
     ///
     /// Source: RKM Devices, timer device: UNIT_VBLANK; that ticks alone move the clock is a project rule.
     pub fn tick(&mut self)
         requires { self.old.timing.timer.clock + self.old.timing.timer.tick_micros + 2 ^ 54 ≤ 2 ^ 64 }
-        ensures { self.new ≡ on_timing ticked self.old }
+        ensures { self.new ≡ on_timing clock_ticked self.old }
     {
         self.timer.tick();
     }
@@ -328,7 +330,7 @@ impl<S: ListSpace> Objects<S> {
     }
 
     /// The request that begins at an address, which is not in progress.
-    pub fn resting_request_at(&self, request: u32) -> Result<ReqId, Refusal>
+    pub fn idle_request_at(&self, request: u32) -> Result<ReqId, Refusal>
         ensures alert { alert_of result ≡ model.resting_alert request (shown_heap self.now) }
         ensures found { IfOk result (λ r. slot (places variant.Request self.now) r ≡ Some request) }
         ensures live { IfOk result (λ r. IsTrue (is_request r self.now.requests)) }
@@ -349,23 +351,24 @@ impl<S: ListSpace> Objects<S> {
         ensures loose { IfOk result (λ r. home self.now.ports.places (message_of_request r self.now) ≡ None) }
         ensures known { IsKnown self.now }
     {
-        let r = self.resting_request_at(request)?;
+        let r = self.idle_request_at(request)?;
         let queued = self.is_reply_queued(r);
         if queued { Err(Refusal::Link) } else { Ok(r) }
     }
 
-    /// The request that begins at an address, which may begin but for its reply port: it is not in progress, open, and its reply is in no port.
+    /// The request that begins at an address, which may begin but for its reply port: it is not in progress, open, and
+    /// its reply is in no port.
     fn request_to_begin(&self, request: u32) -> Result<ReqId, Refusal>
         ensures alert { alert_of result ≡ model.begin_alert None request (shown_heap self.now) }
         ensures found { IfOk result (λ r. slot (places variant.Request self.now) r ≡ Some request) }
         ensures live { IfOk result (λ r. IsTrue (is_request r self.now.requests)) }
         ensures content { IfOk result (λ r. request_at r self.now.requests ≡ model.request_of request (shown_heap self.now)) }
         ensures rests { IfOk result (λ r. is_under_way (request_at r self.now.requests) ≡ false) }
-        ensures open { IfOk result (λ r. IsTrue (is_open (request_at r self.now.requests))) }
+        ensures open { IfOk result (λ r. IsTrue (is_opened (request_at r self.now.requests))) }
         ensures loose { IfOk result (λ r. home self.now.ports.places (message_of_request r self.now) ≡ None) }
         ensures known { IsKnown self.now }
     {
-        let r = self.resting_request_at(request)?;
+        let r = self.idle_request_at(request)?;
         let open = self.requests().is_open(r);
         let queued = self.is_reply_queued(r);
         if !open {
@@ -384,7 +387,7 @@ impl<S: ListSpace> Objects<S> {
         ensures live { IfOk result (λ r. IsTrue (is_request r self.now.requests)) }
         ensures content { IfOk result (λ r. request_at r self.now.requests ≡ model.request_of request (shown_heap self.now)) }
         ensures rests { IfOk result (λ r. is_under_way (request_at r self.now.requests) ≡ false) }
-        ensures open { IfOk result (λ r. IsTrue (is_open (request_at r self.now.requests))) }
+        ensures open { IfOk result (λ r. IsTrue (is_opened (request_at r self.now.requests))) }
         ensures loose { IfOk result (λ r. home self.now.ports.places (message_of_request r self.now) ≡ None) }
         ensures known { IsKnown self.now }
     {
@@ -393,15 +396,15 @@ impl<S: ListSpace> Objects<S> {
         Ok(r)
     }
 
-    /// The request that begins at an address and that a task may do: it may begin, and its reply port signals the task by the signal of the number
-    /// that is answered.
+    /// The request that begins at an address and that a task may do: it may begin, and its reply port signals the task
+    /// by the signal of the number that is answered.
     pub fn request_to_do(&self, task: TaskId, request: u32) -> Result<(ReqId, u32), Refusal>
         ensures alert { alert_of result ≡ model.do_alert task request (shown_heap self.now) }
         ensures found { IfOk result (λ pair. slot (places variant.Request self.now) pair.0 ≡ Some request) }
         ensures live { IfOk result (λ pair. IsTrue (is_request pair.0 self.now.requests)) }
         ensures content { IfOk result (λ pair. request_at pair.0 self.now.requests ≡ model.request_of request (shown_heap self.now)) }
         ensures rests { IfOk result (λ pair. is_under_way (request_at pair.0 self.now.requests) ≡ false) }
-        ensures open { IfOk result (λ pair. IsTrue (is_open (request_at pair.0 self.now.requests))) }
+        ensures open { IfOk result (λ pair. IsTrue (is_opened (request_at pair.0 self.now.requests))) }
         ensures loose { IfOk result (λ pair. home self.now.ports.places (message_of_request pair.0 self.now) ≡ None) }
         ensures bit { IfOk result (λ pair. pair.1 ≡ (port_of (model.request_of request (shown_heap self.now)).port (shown_heap self.now)).bit) }
         ensures signal { IfOk result (λ pair. pair.1 < 32) }
@@ -412,8 +415,9 @@ impl<S: ListSpace> Objects<S> {
         Ok((r, bit))
     }
 
-    /// The request that begins at an address and that a task may wait for: it was begun; if it is in progress, its reply port signals the task, by
-    /// the signal of the number that is answered; if it is replied, its reply is in a port.
+    /// The request that begins at an address and that a task may wait for: it was begun; if it is in progress, its
+    /// reply port signals the task, by the signal of the number that is answered; if it is replied, its reply is in a
+    /// port.
     pub fn request_to_wait_for(&self, task: TaskId, request: u32) -> Result<(ReqId, u32), Refusal>
         ensures alert { alert_of result ≡ model.wait_io_alert task request (shown_heap self.now) }
         ensures found { IfOk result (λ pair. slot (places variant.Request self.now) pair.0 ≡ Some request) }
@@ -456,8 +460,8 @@ impl<S: ListSpace> Objects<S> {
     }
 }
 
-/// Finishes a request that is in progress with an error, puts its message as a reply at its reply port, if it has one that lives and is not
-/// done quick, and answers what is to be done for it. The message is not held any more.
+/// Finishes a request that is in progress with an error, puts its message as a reply at its reply port, if it has one
+/// that lives and is not done quick, and answers what is to be done for it. The message is not held any more.
 fn finish<S: ListSpace>(
     table: &Table<S>,
     requests: &mut Requests,
@@ -490,9 +494,10 @@ fn finish<S: ListSpace>(
 impl<S: ListSpace> Heap<S> {
     // ---- made and freed
 
-    /// Makes a request with a reply port, which is idle and not open, and answers its address; none if the pool has no request left, which
-    /// asks nothing, or its block fits nowhere once libraries were expunged under low memory. It is refused if no port begins at the reply port
-    /// (Handle). Autodoc exec.library/CreateIORequest; the refusal: project rule.
+    /// Makes a request with a reply port, which is idle and not open, and answers its address; none if the pool has no
+    /// request left, which asks nothing, or its block fits nowhere, even after libraries were asked for memory. It is
+    /// refused if no port begins at the reply port (Handle). Autodoc exec.library/CreateIORequest; the refusal: project
+    /// rule.
     pub fn new_request(&mut self, port: u32) -> Result<Option<u32>, Refusal>
         ensures alert { alert_of result ≡ port_alert port self.old.heap }
         ensures address { IfOk result (λ place. place ≡ place_for_object model.is_request model.request_size (after_asking_for_object model.is_request model.request_size self.old)) }
@@ -510,8 +515,8 @@ impl<S: ListSpace> Heap<S> {
         self.objects.number_at(Kind::Request, request).is_some()
     }
 
-    /// Frees a request. It is refused if no request begins at the address (Handle), if it is in progress (Io), and if its reply is
-    /// queued (Link). Autodoc exec.library/DeleteIORequest; the refusals: project rule.
+    /// Frees a request. It is refused if no request begins at the address (Handle), if it is in progress (Io), and if
+    /// its reply is queued (Link). Autodoc exec.library/DeleteIORequest; the refusals: project rule.
     pub fn delete_request(&mut self, request: u32) -> Result<(), Refusal>
         ensures alert { alert_of result ≡ model.delete_request_alert request self.old.heap }
         ensures next { OnOk result (self.new ≡ freed request self.old) }
@@ -524,34 +529,34 @@ impl<S: ListSpace> Heap<S> {
 
     // ---- opening and writing
 
-    /// Opens a request for a unit of timer.device, none if another device is meant, and answers the error, which the request has then: 0, or
-    /// IOERR_OPENFAIL (-1), and it is then not open. It is refused if no request begins at the address (Handle), and if it is in progress
-    /// (Io). Autodoc exec.library/OpenDevice; the refusals: project rule.
+    /// Opens a request for a unit of timer.device, none if another device is meant, and answers the error, which the
+    /// request has then: 0, or IOERR_OPENFAIL (-1), and it is then not open. It is refused if no request begins at the
+    /// address (Handle), and if it is in progress (Io). Autodoc exec.library/OpenDevice; the refusals: project rule.
     pub fn open_device(&mut self, request: u32, unit: Option<u32>) -> Result<i8, Refusal>
         ensures alert { alert_of result ≡ model.resting_alert request self.old.heap }
         ensures answer { IfOk result (λ error. error ≡ unit_error unit) }
         ensures next { OnOk result (self.new ≡ on_heap (model.opened_for unit request) self.old) }
         ensures kept { OnErr result (self.new ≡ self.old) }
     {
-        let r = self.objects.resting_request_at(request)?;
+        let r = self.objects.idle_request_at(request)?;
         Ok(self.objects.open_request(r, unit))
     }
 
-    /// Leaves a request not open. It is refused if no request begins at the address (Handle), and if it is in progress (Io). Autodoc
-    /// exec.library/CloseDevice; the refusals: project rule.
+    /// Leaves a request not open. It is refused if no request begins at the address (Handle), and if it is in progress
+    /// (Io). Autodoc exec.library/CloseDevice; the refusals: project rule.
     pub fn close_device(&mut self, request: u32) -> Result<(), Refusal>
         ensures alert { alert_of result ≡ model.resting_alert request self.old.heap }
         ensures next { OnOk result (self.new ≡ on_heap (model.closed_device request) self.old) }
         ensures kept { OnErr result (self.new ≡ self.old) }
     {
-        let r = self.objects.resting_request_at(request)?;
+        let r = self.objects.idle_request_at(request)?;
         self.objects.close_request(r);
         Ok(())
     }
 
-    /// Gives a request a command and a time in seconds and microseconds. It is refused if no request begins at the address (Handle), and
-    /// if it is in progress (Io). RKM Devices, Introduction to Amiga System Devices: `io_Command`; Devices, timer device: `tr_time`; the
-    /// refusals: project rule.
+    /// Gives a request a command and a time in seconds and microseconds. It is refused if no request begins at the
+    /// address (Handle), and if it is in progress (Io). RKM Devices, Introduction to Amiga System Devices:
+    /// `io_Command`; Devices, timer device: `tr_time`; the refusals: project rule.
     pub fn set_request(
         &mut self,
         request: u32,
@@ -563,17 +568,18 @@ impl<S: ListSpace> Heap<S> {
         ensures next { OnOk result (self.new ≡ on_heap (model.with_command command secs micros request) self.old) }
         ensures kept { OnErr result (self.new ≡ self.old) }
     {
-        let r = self.objects.resting_request_at(request)?;
+        let r = self.objects.idle_request_at(request)?;
         self.objects.set_request(r, command, secs, micros);
         Ok(())
     }
 
     // ---- beginning
 
-    /// Begins a request with IOF_QUICK cleared, and answers what is to be done for its reply, if it is done at once; else it waits for its
-    /// time. TR_SETSYSTIME is done at once, and system time is then the time of the request. It is refused if no request begins at the
-    /// address (Handle), if it is in progress or not open (Io), if its reply is queued (Link), and if its reply port does not live
-    /// (Handle). Autodocs exec.library/SendIO and timer.device: TR_SETSYSTIME; the refusals: project rule.
+    /// Begins a request with IOF_QUICK cleared, and answers what is to be done for its reply, if it is done at once;
+    /// else it waits for its time. TR_SETSYSTIME is done at once, and system time is then the time of the request. It
+    /// is refused if no request begins at the address (Handle), if it is in progress or not open (Io), if its reply is
+    /// queued (Link), and if its reply port does not live (Handle). Autodocs exec.library/SendIO and timer.device:
+    /// TR_SETSYSTIME; the refusals: project rule.
     pub fn send_request(&mut self, request: u32) -> Result<Action, Refusal>
         ensures alert { alert_of result ≡ model.send_alert request self.old.heap }
         ensures answer { IfOk result (λ action. action ≡ acting_begun false request self.old) }
@@ -584,9 +590,10 @@ impl<S: ListSpace> Heap<S> {
         Ok(self.objects.begin_request(r, false))
     }
 
-    /// Begins a request with IOF_QUICK set, and answers its error, if it is done at once; else it waits for its time, and the answer is the
-    /// number of the signal by which its reply port notifies the task (0 to 31). It is refused as by `send_request`, and if the reply port does
-    /// not signal the task (Port). Autodoc exec.library/DoIO; the refusals: project rule.
+    /// Begins a request with IOF_QUICK set, and answers its error, if it is done at once; else it waits for its time,
+    /// and the answer is the number of the signal by which its reply port notifies the task (0 to 31). It is refused as
+    /// by `send_request`, and if the reply port does not signal the task (Port). Autodoc exec.library/DoIO; the
+    /// refusals: project rule.
     pub fn do_request(&mut self, task: TaskId, request: u32) -> Result<Awaited, Refusal>
         ensures alert { alert_of result ≡ model.do_alert task request self.old.heap }
         ensures answer { IfOk result (λ answer. answer ≡ awaited_for request self.new.heap) }
@@ -601,8 +608,8 @@ impl<S: ListSpace> Heap<S> {
 
     // ---- waiting and aborting
 
-    /// Answers whether a request is in progress. It is refused if no request begins at the address (Handle). Autodoc exec.library/CheckIO; the
-    /// refusal: project rule.
+    /// Answers whether a request is in progress. It is refused if no request begins at the address (Handle). Autodoc
+    /// exec.library/CheckIO; the refusal: project rule.
     pub fn is_under_way(&self, request: u32) -> Result<bool, Refusal>
         ensures alert { alert_of result ≡ model.request_alert request self.now.heap }
         ensures answer { IfOk result (λ answer. answer ≡ is_under_way (model.request_of request self.now.heap)) }
@@ -611,10 +618,11 @@ impl<S: ListSpace> Heap<S> {
         Ok(self.objects.is_under_way(r))
     }
 
-    /// Answers the error of a request that is done, and takes its reply, if it has one, out of its reply port; for one that is in progress the
-    /// number of the signal by which its reply port notifies the task (0 to 31). It is refused if no request begins at the address (Handle),
-    /// if it never was begun (Io), if it is replied and its reply is not queued (Link), and if it is in progress and its reply port does
-    /// not signal the task (Port). Autodoc exec.library/WaitIO; the refusals: project rule.
+    /// Answers the error of a request that is done, and takes its reply, if it has one, out of its reply port; for one
+    /// that is in progress the number of the signal by which its reply port notifies the task (0 to 31). It is refused
+    /// if no request begins at the address (Handle), if it never was begun (Io), if it is replied and its reply is not
+    /// queued (Link), and if it is in progress and its reply port does not signal the task (Port). Autodoc
+    /// exec.library/WaitIO; the refusals: project rule.
     pub fn wait_for_request(&mut self, task: TaskId, request: u32) -> Result<Awaited, Refusal>
         ensures alert { alert_of result ≡ model.wait_io_alert task request self.old.heap }
         ensures answer { IfOk result (λ answer. answer ≡ awaited_for request self.old.heap) }
@@ -627,8 +635,9 @@ impl<S: ListSpace> Heap<S> {
         Ok(self.objects.looked_for(r, bit))
     }
 
-    /// Ends a request that is in progress with IOERR_ABORTED (-2), and answers what is to be done for its reply; none, and nothing changes, if
-    /// it is not in progress. It is refused if no request begins at the address (Handle). Autodoc exec.library/AbortIO; the refusal: project rule.
+    /// Ends a request that is in progress with IOERR_ABORTED (-2), and answers what is to be done for its reply; none,
+    /// and nothing changes, if it is not in progress. It is refused if no request begins at the address (Handle).
+    /// Autodoc exec.library/AbortIO; the refusal: project rule.
     pub fn abort_request(&mut self, request: u32) -> Result<Option<Action>, Refusal>
         ensures alert { alert_of result ≡ model.request_alert request self.old.heap }
         ensures answer { IfOk result (λ answer. answer ≡ aborting request self.old.heap) }
@@ -645,8 +654,8 @@ impl<S: ListSpace> Heap<S> {
 
     // ---- what a request holds
 
-    /// Answers the seconds of the time of a request. It is refused if no request begins at the address (Handle). Devices, timer device:
-    /// `tr_time`; the refusal: project rule.
+    /// Answers the seconds of the time of a request. It is refused if no request begins at the address (Handle).
+    /// Devices, timer device: `tr_time`; the refusal: project rule.
     pub fn secs(&self, request: u32) -> Result<u32, Refusal>
         ensures alert { alert_of result ≡ model.request_alert request self.now.heap }
         ensures answer { IfOk result (λ secs. secs ≡ (model.request_of request self.now.heap).secs) }
@@ -655,7 +664,8 @@ impl<S: ListSpace> Heap<S> {
         Ok(self.objects.requests().secs(r))
     }
 
-    /// Answers the microseconds of the time of a request. It is refused as `secs`. Devices, timer device: `tr_time`; the refusal: project rule.
+    /// Answers the microseconds of the time of a request. It is refused as `secs`. Devices, timer device: `tr_time`;
+    /// the refusal: project rule.
     pub fn micros(&self, request: u32) -> Result<u32, Refusal>
         ensures alert { alert_of result ≡ model.request_alert request self.now.heap }
         ensures answer { IfOk result (λ micros. micros ≡ (model.request_of request self.now.heap).micros) }
@@ -664,8 +674,8 @@ impl<S: ListSpace> Heap<S> {
         Ok(self.objects.requests().micros(r))
     }
 
-    /// Answers the error of a request: 0, IOERR_OPENFAIL (-1), IOERR_ABORTED (-2) or IOERR_NOCMD (-3). It is refused as `secs`. RKM Devices,
-    /// Introduction to Amiga System Devices: `io_Error`; the refusal: project rule.
+    /// Answers the error of a request: 0, IOERR_OPENFAIL (-1), IOERR_ABORTED (-2) or IOERR_NOCMD (-3). It is refused as
+    /// `secs`. RKM Devices, Introduction to Amiga System Devices: `io_Error`; the refusal: project rule.
     pub fn error(&self, request: u32) -> Result<i8, Refusal>
         ensures alert { alert_of result ≡ model.request_alert request self.now.heap }
         ensures answer { IfOk result (λ error. error ≡ (model.request_of request self.now.heap).error) }
@@ -674,8 +684,8 @@ impl<S: ListSpace> Heap<S> {
         Ok(self.objects.requests().error(r))
     }
 
-    /// Answers whether IOF_QUICK of a request is set. It is refused as `secs`. RKM Devices, Introduction to Amiga System Devices: `io_Flags`; the
-    /// refusal: project rule.
+    /// Answers whether IOF_QUICK of a request is set. It is refused as `secs`. RKM Devices, Introduction to Amiga
+    /// System Devices: `io_Flags`; the refusal: project rule.
     pub fn quick(&self, request: u32) -> Result<bool, Refusal>
         ensures alert { alert_of result ≡ model.request_alert request self.now.heap }
         ensures answer { IfOk result (λ quick. quick ≡ (model.request_of request self.now.heap).quick) }
@@ -686,16 +696,18 @@ impl<S: ListSpace> Heap<S> {
 
     // ---- the clock, and system time
 
-    /// Clock and system time gain the microseconds of a tick. The clock stays 2 to the power 54 below 2 to the power 64, so that system time
-    /// and the longest time of a request can be added. Devices, timer device; project rule: both count ticks alone.
+    /// Clock and system time gain the microseconds of a tick. The clock stays 2 to the power 54 below 2 to the power
+    /// 64, so that system time and the longest time of a request can be added. Devices, timer device; project rule:
+    /// both count ticks alone.
     pub fn tick(&mut self)
         requires { self.old.timer.clock + self.old.timer.tick_micros + 2 ^ 54 ≤ 2 ^ 64 }
-        ensures { self.new ≡ on_timer ticked self.old }
+        ensures { self.new ≡ on_timer clock_ticked self.old }
     {
         self.objects.tick();
     }
 
-    /// Answers whether system time was set since this was asked last, so that those that wait for it are to be looked at. Project rule.
+    /// Answers whether system time was set since this was asked last, so that those that wait for it are to be looked
+    /// at. Project rule.
     pub fn take_setting(&mut self) -> bool
         ensures answer { result ≡ self.old.timer.is_set }
         ensures next { self.new ≡ on_timer looked_at self.old }
@@ -703,9 +715,10 @@ impl<S: ListSpace> Heap<S> {
         self.objects.take_setting()
     }
 
-    /// Finishes the first request whose time has come, with error 0, and answers its address and what is to be done for its reply; none if
-    /// no time has come. First is the one of the first due time, and of those of one due time the one that was begun first; the due time of a
-    /// request that waits for system time is that time less how far system time is ahead of the clock now. Devices, timer device: TR_ADDREQUEST.
+    /// Finishes the first request whose time has come, with error 0, and answers its address and what is to be done for
+    /// its reply; none if no time has come. First is the one of the first due time, and of those of one due time the
+    /// one that was begun first; the due time of a request that waits for system time is that time less how far system
+    /// time is ahead of the clock now. Devices, timer device: TR_ADDREQUEST.
     pub fn finish_due(&mut self) -> Option<(u32, Action)>
         ensures answer { result ≡ finishing self.old.heap (due_next self.old.timer) }
         ensures next { self.new ≡ ended_if (due_next self.old.timer) self.old }
@@ -715,8 +728,9 @@ impl<S: ListSpace> Heap<S> {
         Some((self.objects.address_of(Kind::Request, r), action))
     }
 
-    /// Finishes, with error 0, the first request that waits for system time and whose time has come, and answers its address and what is to
-    /// be done for its reply; none if there is none. Autodoc timer.device: TR_SETSYSTIME; Devices, timer device: UNIT_WAITUNTIL.
+    /// Finishes, with error 0, the first request that waits for system time and whose time has come, and answers its
+    /// address and what is to be done for its reply; none if there is none. Autodoc timer.device: TR_SETSYSTIME;
+    /// Devices, timer device: UNIT_WAITUNTIL.
     pub fn finish_until(&mut self) -> Option<(u32, Action)>
         ensures answer { result ≡ finishing self.old.heap (until_next self.old.timer) }
         ensures next { self.new ≡ ended_if (until_next self.old.timer) self.old }

@@ -10,7 +10,8 @@ use memlist::Region;
 use script::LibraryRecord;
 
 impl<S: ListSpace> Objects<S> {
-    /// Whether the memory has these regions, room for that many objects of each kind and for that many tasks, and these libraries.
+    /// Whether the memory has these regions, room for that many objects of each kind and for that many tasks, and these
+    /// libraries.
     ///
     /// Source: project rule.
     pub fn is_as_large(
@@ -28,8 +29,9 @@ impl<S: ListSpace> Objects<S> {
             && self.table.knows(libraries)
     }
 
-    /// Frees all, as `new` makes it: nothing is allocated, no object lives, no library is loaded, and the clock is at 0. Libraries are expunged under
-    /// low memory or not, and the clock gains that many microseconds at each tick. It takes no memory, and the time grows with what was used.
+    /// Frees all, as `new` makes it: nothing is allocated, no object lives, no library is loaded, and the clock is at
+    /// 0. Libraries are asked for memory or not, and the clock gains that many microseconds at each tick. It takes no
+    /// memory, and the time grows with what was used.
     ///
     /// Source: project rule.
     pub fn reset(&mut self, asks: bool, tick_micros: u32)

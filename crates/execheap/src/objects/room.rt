@@ -1,5 +1,5 @@
-//! The room for the objects of a memory beside its table, if none is made yet: for a group of kinds each a function, since each part that
-//! can fail multiplies the proof.
+//! The room for the objects of a memory beside its table, if none is made yet: for a group of kinds each a function,
+//! since each part that can fail multiplies the proof.
 ghost use Rattle.std.specs.Prelude.{◌≡◌, ◌≤◌, ◌+◌, [], None, replicate, IfOk};
 ghost use Rattle.execlist.specs.{Lists.blank, Pool.all_free};
 ghost use Rattle.msgport.specs.Ports.{no_ports};

@@ -2,14 +2,14 @@
 ghost use Rattle.std.specs.Prelude.{◌≡◌, ◌<◌, not, [], None, Some, IsTrue, IfOk, OnErr, OnOk};
 ghost use Rattle.execlist.specs.{Pool.slot, Answers.fault_or, Answers.kept_or};
 ghost use Rattle.sigsem.specs.Semaphores.{attempted, deep_fault, dropped, free_sem, heir, is_free_for, is_owned, is_sem, let_go, obtained, outcome_for, release_fault, sem_at, waits_at};
-ghost use Rattle.execmodel.specs.{State.Semaphore, State.on_heap, Memory.freed, Memory.placed, GivingWay.after_asking_for_object, Objects.place_for_object, Agreement.WaitsForNone};
+ghost use Rattle.execmodel.specs.{State.Semaphore, State.on_heap, Memory.freed, Memory.placed, LowMemory.after_asking_for_object, Objects.place_for_object, Agreement.WaitsForNone};
 ghost use Rattle.execheap.specs.{Numbered.places, Numbered.shown_memory, Numbered.IsKnown, Numbered.shown_heap, Changes.on_semaphores, Refusals.alert_of};
 ghost use Rattle.execheap.specs.declared.tag.Kind.TheVariants as variant;
 ghost use Rattle.execmodel.specs.Semaphores as model;
 
 use crate::heap::Heap;
 use crate::objects::Objects;
-use crate::refusal::{Refusal, told};
+use crate::refusal::{Refusal, as_refusal};
 use crate::tag::Kind;
 use execlist::space::ListSpace;
 use sigsem::fault::SemFault;
@@ -26,7 +26,8 @@ impl<S: ListSpace> Objects<S> {
 
     // ---- made and freed
 
-    /// A new semaphore, which no task owns, if the pool has one left and its block fits once libraries were expunged under low memory: its address.
+    /// A new semaphore, which no task owns, if the pool has one left and its block fits, at once or after libraries
+    /// were asked for memory: its address.
     ///
     /// Source: autodoc exec.library/InitSemaphore; that it takes the memory is a project rule.
     pub fn make_semaphore(&mut self) -> Option<u32>
@@ -125,8 +126,9 @@ impl<S: ListSpace> Objects<S> {
 impl<S: ListSpace> Heap<S> {
     // ---- semaphores made and freed
 
-    /// Makes a semaphore, which no task owns, and answers its address; none if the pool has no semaphore left, which asks nothing, or its
-    /// block fits nowhere once libraries were expunged under low memory (autodoc exec.library/InitSemaphore; that it takes the memory: project rule).
+    /// Makes a semaphore, which no task owns, and answers its address; none if the pool has no semaphore left, which
+    /// asks nothing, or its block fits nowhere, even after libraries were asked for memory (autodoc
+    /// exec.library/InitSemaphore; that it takes the memory: project rule).
     pub fn new_semaphore(&mut self) -> Option<u32>
         ensures address { result ≡ place_for_object model.is_semaphore model.semaphore_size (after_asking_for_object model.is_semaphore model.semaphore_size self.old) }
         ensures next { self.new ≡ placed model.semaphore_size (Semaphore free_sem []) result (after_asking_for_object model.is_semaphore model.semaphore_size self.old) }
@@ -134,7 +136,8 @@ impl<S: ListSpace> Heap<S> {
         self.objects.make_semaphore()
     }
 
-    /// Frees a semaphore. It is refused if no semaphore begins at the address (Handle), and if a task owns it (Sem); project rule.
+    /// Frees a semaphore. It is refused if no semaphore begins at the address (Handle), and if a task owns it (Sem);
+    /// project rule.
     pub fn free_semaphore(&mut self, semaphore: u32) -> Result<(), Refusal>
         ensures alert { alert_of result ≡ model.free_sem_alert semaphore self.old.heap }
         ensures next { OnOk result (self.new ≡ freed semaphore self.old) }
@@ -147,9 +150,9 @@ impl<S: ListSpace> Heap<S> {
 
     // ---- obtaining and releasing
 
-    /// Asks for a semaphore for one of the tasks, which waits for none. A free one is the task's, with the count 1; the owner's count is
-    /// one more; any other task waits, after those that asked before. Answers which of these came of it. It is refused if no semaphore
-    /// begins at the address (Handle), and if the count would go past 32767 (Sem).
+    /// Asks for a semaphore for one of the tasks, which waits for none. A free one is the task's, with the count 1; the
+    /// owner's count is one more; any other task waits, after those that asked before. Answers which of these came of
+    /// it. It is refused if no semaphore begins at the address (Handle), and if the count would go past 32767 (Sem).
     /// Autodoc exec.library/ObtainSemaphore; the refusals: project rule.
     pub fn obtain_semaphore(&mut self, task: TaskId, semaphore: u32) -> Result<Obtained, Refusal>
         requires task { task < self.old.tasks }
@@ -160,12 +163,12 @@ impl<S: ListSpace> Heap<S> {
         ensures kept { OnErr result (self.new ≡ self.old) }
     {
         let n = self.objects.semaphore_at(semaphore)?;
-        told(self.objects.obtain(n, task))
+        as_refusal(self.objects.obtain(n, task))
     }
 
-    /// Asks for a semaphore for a task that is not to wait, and answers whether it has it: if it would have to wait, nothing changes. It
-    /// is refused if no semaphore begins at the address (Handle), and if the count would go past 32767 (Sem).
-    /// Autodoc exec.library/AttemptSemaphore; the refusals: project rule.
+    /// Asks for a semaphore for a task that is not to wait, and answers whether it has it: if it would have to wait,
+    /// nothing changes. It is refused if no semaphore begins at the address (Handle), and if the count would go past
+    /// 32767 (Sem). Autodoc exec.library/AttemptSemaphore; the refusals: project rule.
     pub fn attempt_semaphore(&mut self, task: TaskId, semaphore: u32) -> Result<bool, Refusal>
         ensures alert { alert_of result ≡ model.obtain_alert task semaphore self.old.heap }
         ensures answer { IfOk result (λ has. has ≡ is_free_for task (model.sem_of semaphore self.old.heap)) }
@@ -173,13 +176,14 @@ impl<S: ListSpace> Heap<S> {
         ensures kept { OnErr result (self.new ≡ self.old) }
     {
         let n = self.objects.semaphore_at(semaphore)?;
-        told(self.objects.attempt(n, task))
+        as_refusal(self.objects.attempt(n, task))
     }
 
-    /// Releases a semaphore once, for its owner. The last release hands it on: the first of the tasks that wait there waits no more and is
-    /// the owner with the count 1, and if none waits no task owns it. Answers the new owner, or none if the owner stays or no task is
-    /// the owner any more. It is refused if no semaphore begins at the address (Handle), and if the task does not own it (Sem).
-    /// Autodoc exec.library/ReleaseSemaphore; the refusals: project rule.
+    /// Releases a semaphore once, for its owner. The last release hands it on: the first of the tasks that wait there
+    /// waits no more and is the owner with the count 1, and if none waits no task owns it. Answers the new owner, or
+    /// none if the owner stays or no task is the owner any more. It is refused if no semaphore begins at the address
+    /// (Handle), and if the task does not own it (Sem). Autodoc exec.library/ReleaseSemaphore; the refusals: project
+    /// rule.
     pub fn release_semaphore(
         &mut self,
         task: TaskId,
@@ -191,10 +195,11 @@ impl<S: ListSpace> Heap<S> {
         ensures kept { OnErr result (self.new ≡ self.old) }
     {
         let n = self.objects.semaphore_at(semaphore)?;
-        told(self.objects.release(n, task))
+        as_refusal(self.objects.release(n, task))
     }
 
-    /// One of the tasks waits for no semaphore any more; the others keep their order. Project rule: a task that waits may be removed.
+    /// One of the tasks waits for no semaphore any more; the others keep their order. Project rule: a task that waits
+    /// may be removed.
     pub fn drop_waiter(&mut self, task: TaskId)
         requires { task < self.old.tasks }
         ensures { self.new ≡ on_heap (model.dropped task) self.old }

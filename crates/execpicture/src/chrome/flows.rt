@@ -1,6 +1,6 @@
 //! The flows: from who does something to the task that it reaches.
 use super::records::Process;
-use crate::deeds::{Aim, Deed, Doer, Means};
+use crate::deeds::{Aim, Arrow, Doer, Means};
 use crate::page::Page;
 use crate::page::Value::{Count, Number, Plain};
 use script::Source;
@@ -50,7 +50,7 @@ const END: &str =
     "{\"ph\":\"f\",\"bp\":\"e\",\"id\":{},\"cat\":\"{}\",\"name\":\"{}\",\"pid\":{},\"tid\":{},\"ts\":{}.5,\"args\":{\"wakes\":{}}},\n";
 
 /// Writes where a flow begins: in the middle of step `number`, on the track of who does something.
-fn begin_flow(deed: &Deed, number: u64, id: u64, page: &mut Page) {
+fn begin_flow(deed: &Arrow, number: u64, id: u64, page: &mut Page) {
     let name = Plain(flow_name(deed.means));
     let (process, track) = track_of(deed.doer);
     page.fill(
@@ -67,7 +67,7 @@ fn begin_flow(deed: &Deed, number: u64, id: u64, page: &mut Page) {
 }
 
 /// Writes where a flow ends: at what a task is after step `number`.
-fn end_flow(deed: &Deed, t: usize, number: u64, id: u64, page: &mut Page) {
+fn end_flow(deed: &Arrow, t: usize, number: u64, id: u64, page: &mut Page) {
     let name = Plain(flow_name(deed.means));
     page.fill(
         END,
@@ -84,7 +84,7 @@ fn end_flow(deed: &Deed, t: usize, number: u64, id: u64, page: &mut Page) {
 }
 
 /// Writes the flows of a step; `done` were written before it. Answers how many were written by then.
-pub(super) fn write_flows(deeds: &[Deed], number: u64, done: u64, page: &mut Page) -> u64 {
+pub(super) fn write_flows(deeds: &[Arrow], number: u64, done: u64, page: &mut Page) -> u64 {
     let mut id = done;
     for deed in deeds {
         if let Aim::Task(t) = deed.aim {

@@ -61,7 +61,8 @@ pub(super) fn write_threads(file: &Listed, page: &mut Page) {
     write_thread(Process::Interrupts, TIMER_TRACK, "timer", page);
 }
 
-/// Writes the slice of a task that was so from a number up to another; one that was never added, and one that was removed, has none.
+/// Writes the slice of a task that was so from a number up to another; one that was never added, and one that was
+/// removed, has none.
 fn write_task(objects: &Objects<'_>, t: usize, open: OpenTask, to: u64, page: &mut Page) {
     if matches!(open.shown.state, TaskState::Absent | TaskState::Removed) {
         return;
@@ -78,8 +79,8 @@ fn write_task(objects: &Objects<'_>, t: usize, open: OpenTask, to: u64, page: &m
     write_slice(&slice, page);
 }
 
-/// Writes what the slice of an object is named: the owner of a semaphore, or the time of a request in progress; nothing else has one. Answers
-/// whether it has one.
+/// Writes what the slice of an object is named: the owner of a semaphore, or the time of a request in progress; nothing
+/// else has one. Answers whether it has one.
 fn write_name(objects: &Objects<'_>, shown: ObjectSeen, page: &mut Page) -> bool {
     match shown {
         ObjectSeen::Semaphore(Some(t)) => page.push_str(objects.task_name(t)),
@@ -90,7 +91,8 @@ fn write_name(objects: &Objects<'_>, shown: ObjectSeen, page: &mut Page) -> bool
     true
 }
 
-/// Writes the slice of an object that was so from a number up to another: an owner of a semaphore, or a request in progress.
+/// Writes the slice of an object that was so from a number up to another: an owner of a semaphore, or a request in
+/// progress.
 fn write_object(objects: &Objects<'_>, track: usize, open: OpenObject, to: u64, page: &mut Page) {
     let mut name = page.draft();
     if write_name(objects, open.shown, &mut name) {

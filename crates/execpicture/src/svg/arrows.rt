@@ -1,7 +1,7 @@
 //! The arrows: who does something, and whom it reaches.
 use super::names::{aim_text, doer_text, means_text};
 use super::plan::Plan;
-use crate::deeds::{Aim, Deed, Doer, Means};
+use crate::deeds::{Aim, Arrow, Doer, Means};
 use crate::forms::Px;
 use crate::page::Page;
 use crate::page::Value::{At, Plain, Xml};
@@ -26,7 +26,7 @@ const LOCK: &str =
     "<path d=\"M{},{} m-6,-3 h12 v9 h-12 z m2.6,0 v-2.4 a3.4,3.4 0 0 1 6.8,0 v2.4\" class=\"ground line\"/>\n";
 
 /// The middle of the row of who does something.
-fn row_of(scene: &Scene<'_>, plan: &Plan<'_>, deed: &Deed) -> Option<Px> {
+fn row_of(scene: &Scene<'_>, plan: &Plan<'_>, deed: &Arrow) -> Option<Px> {
     match deed.doer {
         Doer::Task(t) => Some(plan.task(t)),
         Doer::Server(source) => plan.source(source),
@@ -49,7 +49,7 @@ fn end_of(plan: &Plan<'_>, aim: Aim, from: Px) -> Option<Px> {
 }
 
 /// Draws the line of an arrow, whole if it wakes and dashed if not.
-fn draw_shaft(deed: &Deed, x: Px, from: Px, to: Px, page: &mut Page) {
+fn draw_shaft(deed: &Arrow, x: Px, from: Px, to: Px, page: &mut Page) {
     let (class, tip) = match deed.doer {
         Doer::Timer => ("times", "run-time"),
         _ => ("line", "run-tip"),
@@ -76,7 +76,7 @@ fn draw_shaft(deed: &Deed, x: Px, from: Px, to: Px, page: &mut Page) {
 }
 
 /// Writes a deed in words.
-fn write_said(scene: &Scene<'_>, deed: &Deed, page: &mut Page) {
+fn write_said(scene: &Scene<'_>, deed: &Arrow, page: &mut Page) {
     let doer = doer_text(scene, deed.doer);
     let aim = aim_text(scene, deed.aim);
     let more = if deed.wakes { ", which wakes" } else { "" };
@@ -92,7 +92,7 @@ fn write_said(scene: &Scene<'_>, deed: &Deed, page: &mut Page) {
 }
 
 /// Writes the arrow of a deed, with its sign between the first two rows.
-fn write_arrow(scene: &Scene<'_>, plan: &Plan<'_>, deed: &Deed, x: Px, page: &mut Page) {
+fn write_arrow(scene: &Scene<'_>, plan: &Plan<'_>, deed: &Arrow, x: Px, page: &mut Page) {
     let Some(from) = row_of(scene, plan, deed) else {
         return;
     };

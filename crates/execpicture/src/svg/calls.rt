@@ -3,7 +3,7 @@ use super::frame::write_part;
 use super::names::colour_of;
 use super::plan::{MARGIN, Plan};
 use super::shapes::{dot, line, open_text, text};
-use crate::film::{Actor, Turn};
+use crate::film::{Actor, PointKind};
 use crate::forms::Px;
 use crate::lines::{TraceLine, read_line};
 use crate::objects::command_at;
@@ -39,10 +39,10 @@ fn write_call(said: &str, page: &mut Page) {
 
 /// What is written in a column, beside its alert.
 #[derive(Clone, Copy)]
-struct Entry<'a> {
+struct ColumnText<'a> {
     said: &'a str,
     class: &'a str,
-    /// The number of the task, counted from 1; 0 if it is no task's.
+    /// The number of the task, counted from 1; 0 if it is not a task's.
     task: usize,
 }
 
@@ -80,13 +80,17 @@ fn silent_word(scene: &Scene<'_>, actor: Actor) -> &'static str {
 }
 
 /// What is written for a step of a task that has made no call: its word, or nothing if the call was refused.
-fn entry_without_call<'a>(scene: &'a Scene<'_>, column: &'a Column, actor: Actor) -> Entry<'a> {
+fn entry_without_call<'a>(
+    scene: &'a Scene<'_>,
+    column: &'a Column,
+    actor: Actor,
+) -> ColumnText<'a> {
     let name = scene.objects.task_name(actor.task);
     let (said, class) = match alert_in(column) {
         Some(alert) if is_of(alert, name) => ("", "ink"),
         _ => (silent_word(scene, actor), "faint slant"),
     };
-    Entry {
+    ColumnText {
         said,
         class,
         task: actor.task.saturating_add(1),
@@ -94,9 +98,9 @@ fn entry_without_call<'a>(scene: &'a Scene<'_>, column: &'a Column, actor: Actor
 }
 
 /// What is written for a step of a task.
-fn entry_of_task<'a>(scene: &'a Scene<'_>, column: &'a Column, actor: Actor) -> Entry<'a> {
+fn entry_of_task<'a>(scene: &'a Scene<'_>, column: &'a Column, actor: Actor) -> ColumnText<'a> {
     match call_in(column, scene.objects.task_name(actor.task)) {
-        Some(said) => Entry {
+        Some(said) => ColumnText {
             said,
             class: colour_of(actor.task).fill,
             task: actor.task.saturating_add(1),
@@ -116,18 +120,18 @@ fn has_served(column: &Column) -> bool {
 }
 
 /// What is written in a column.
-fn entry_of<'a>(scene: &'a Scene<'_>, column: &'a Column) -> Entry<'a> {
-    let (said, class) = match (column.point.turn, has_served(column)) {
-        (Turn::Step | Turn::Start, _) => match column.point.actor {
+fn entry_of<'a>(scene: &'a Scene<'_>, column: &'a Column) -> ColumnText<'a> {
+    let (said, class) = match (column.point.kind, has_served(column)) {
+        (PointKind::Step | PointKind::Start, _) => match column.point.actor {
             Some(actor) => return entry_of_task(scene, column, actor),
             None => (column.text.lines().next().unwrap_or(""), "ink"),
         },
-        (Turn::Tick, true) => ("tick, served", "soft"),
-        (Turn::Tick, false) => ("tick, latched", "soft"),
-        (Turn::Request(_), true) => ("request, served", "soft"),
-        (Turn::Request(_), false) => ("request, latched", "soft"),
+        (PointKind::Tick, true) => ("tick, served", "soft"),
+        (PointKind::Tick, false) => ("tick, latched", "soft"),
+        (PointKind::Request(_), true) => ("request, served", "soft"),
+        (PointKind::Request(_), false) => ("request, latched", "soft"),
     };
-    Entry {
+    ColumnText {
         said,
         class,
         task: 0,
@@ -135,7 +139,7 @@ fn entry_of<'a>(scene: &'a Scene<'_>, column: &'a Column) -> Entry<'a> {
 }
 
 /// Writes what a column has: its entry, and its alert after that.
-fn write_entry(entry: &Entry<'_>, alert: Option<&str>, page: &mut Page) {
+fn write_entry(entry: &ColumnText<'_>, alert: Option<&str>, page: &mut Page) {
     write_call(entry.said, page);
     if let Some(alert) = alert {
         let gap = if entry.said.is_empty() { "" } else { ", " };
@@ -166,7 +170,7 @@ pub(super) fn longest(scene: &Scene<'_>, page: &mut Page) -> usize {
 }
 
 /// Writes the text of a column, turned by a quarter.
-fn write_turned(plan: &Plan<'_>, entry: &Entry<'_>, column: &Column, page: &mut Page) {
+fn write_turned(plan: &Plan<'_>, entry: &ColumnText<'_>, column: &Column, page: &mut Page) {
     page.fill(
         "<text transform=\"translate({},{}) rotate(90)\" font-size=\"10\" class=\"{}\">",
         &[

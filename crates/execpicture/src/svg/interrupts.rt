@@ -54,7 +54,8 @@ impl Row {
         }
     }
 
-    /// Writes the name of a server that ran, if there is room up to the next that was served. Answers whether it was written.
+    /// Writes the name of a server that ran, if there is room up to the next that was served. Answers whether it was
+    /// written.
     fn write_server(&mut self, x: Px, name: &str, page: &mut Page) -> bool {
         let fits = x.is_above(self.free);
         if fits {
@@ -83,7 +84,7 @@ impl Row {
                 _ => {}
             }
         }
-        if !is_served && requests(column.point.turn, self.source) {
+        if !is_served && requests(column.point.kind, self.source) {
             self.draw_asked(mid, page);
         }
     }
@@ -123,7 +124,8 @@ fn write_row(page: &mut Page, plan: &Plan<'_>, y: Px, name: &str) {
     text(page, MARGIN, y + Px(4), 11, "ink", name);
 }
 
-/// Writes a software interrupt that ran in a column, with its name if that is free from before it. Answers from where it is free then.
+/// Writes a software interrupt that ran in a column, with its name if that is free from before it. Answers from where
+/// it is free then.
 fn write_softint(plan: &Plan<'_>, y: Px, column: u32, name: &str, free: Px, page: &mut Page) -> Px {
     let from = plan.start(column) + Px(1);
     let to = plan.x(column) - Px(1);

@@ -1,4 +1,5 @@
-//! The rows of the objects: who owns a semaphore and who waits for it, what is in a port, and which request is in progress.
+//! The rows of the objects: who owns a semaphore and who waits for it, what is in a port, and which request is in
+//! progress.
 use super::frame::write_part;
 use super::names::colour_of;
 use super::plan::{MARGIN, Plan};
@@ -148,8 +149,8 @@ fn draw_waiters(scene: &Scene<'_>, plan: &Plan<'_>, address: u32, y: Px, page: &
     }
 }
 
-/// What a program needs to know of a span: a semaphore's owner, counted from 1 and 0 for none; how many messages a port has; or whether a
-/// request is in progress.
+/// What a program needs to know of a span: a semaphore's owner, counted from 1 and 0 for none; how many messages a port
+/// has; or whether a request is in progress.
 fn facts_of(seen: ObjectSeen) -> (&'static str, usize) {
     match seen {
         ObjectSeen::Absent => ("", 0),
@@ -161,7 +162,8 @@ fn facts_of(seen: ObjectSeen) -> (&'static str, usize) {
     }
 }
 
-/// Opens the group of a span of an object: its address, the numbers at which the span begins and ends, and what is seen.
+/// Opens the group of a span of an object: its address, the numbers at which the span begins and ends, and what is
+/// seen.
 fn open_span(scene: &Scene<'_>, address: u32, span: &Span<ObjectSeen>, page: &mut Page) {
     let from = scene.number_of(span.from);
     let to = scene.number_of(span.to);

@@ -1,5 +1,5 @@
 //! Where each part of a picture is.
-use crate::film::Turn;
+use crate::film::PointKind;
 use crate::forms::{Px, count, width_of};
 use crate::scene::Scene;
 use crate::seen::{Kind, ObjectSeen};
@@ -128,7 +128,7 @@ fn is_shown(scene: &Scene<'_>, source: Source) -> bool {
         }
     }
     for column in scene.columns.iter() {
-        if requests(column.point.turn, source) {
+        if requests(column.point.kind, source) {
             return true;
         }
     }
@@ -136,10 +136,10 @@ fn is_shown(scene: &Scene<'_>, source: Source) -> bool {
 }
 
 /// Whether what is done requests an interrupt of a source.
-pub(super) fn requests(turn: Turn, source: Source) -> bool {
-    match turn {
-        Turn::Tick => source == Source::Vertb,
-        Turn::Request(other) => source == other,
+pub(super) fn requests(kind: PointKind, source: Source) -> bool {
+    match kind {
+        PointKind::Tick => source == Source::Vertb,
+        PointKind::Request(other) => source == other,
         _ => false,
     }
 }
@@ -202,8 +202,8 @@ fn step_for(last: u32) -> Px {
     }
 }
 
-/// Where each part of the picture of a scene is, with the places of the objects that have a row. `longest` is how many characters the longest
-/// call has.
+/// Where each part of the picture of a scene is, with the places of the objects that have a row. `longest` is how many
+/// characters the longest call has.
 pub(super) fn plan_of<'a>(scene: &Scene<'_>, objects: &'a [usize], longest: usize) -> Plan<'a> {
     let many = scene.file.machine.tasks().len();
     let dense = many >= MANY_TASKS;

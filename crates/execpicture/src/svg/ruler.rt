@@ -1,7 +1,7 @@
 //! The ruler: the events of the event text, the numbers of the points, and the clock.
 use super::plan::{MARGIN, Plan, RULER};
 use super::shapes::{Area, across, line, open_text, rect, text};
-use crate::film::{Point, Turn};
+use crate::film::{Point, PointKind};
 use crate::forms::{Px, width_of};
 use crate::page::Page;
 use crate::page::Value::{Millis, Number, Plain};
@@ -17,7 +17,8 @@ struct Lanes {
 }
 
 impl Lanes {
-    /// Puts a label into the lowest line in which it has room, and answers how far that is above the lowest; none if it has room in none.
+    /// Puts a label into the lowest line in which it has room, and answers how far that is above the lowest; none if it
+    /// has room in none.
     fn put(&mut self, from: Px, to: Px) -> Option<Px> {
         if from.is_above(self.first) {
             self.first = to;
@@ -70,7 +71,7 @@ fn write_tint(plan: &Plan<'_>, from: Px, to: Px, class: &str, page: &mut Page) {
     rect(page, area, 0, class);
 }
 
-/// Writes the line of an event between two places, and tints the columns between them if it is no run.
+/// Writes the line of an event between two places, and tints the columns between them if it is not a run.
 fn write_group(plan: &Plan<'_>, from: Px, to: Px, event: Event, page: &mut Page) {
     match event {
         Event::Run(_) => {}
@@ -124,13 +125,13 @@ fn write_numbers(scene: &Scene<'_>, plan: &Plan<'_>, page: &mut Page) {
 }
 
 /// Whether the clock is shown at a point: after the start and after the last of several ticks.
-fn shows_clock(scene: &Scene<'_>, column: u32, turn: Turn) -> bool {
+fn shows_clock(scene: &Scene<'_>, column: u32, kind: PointKind) -> bool {
     if let Some(after) = point_after(scene, column) {
-        if matches!(after.turn, Turn::Tick) {
+        if matches!(after.kind, PointKind::Tick) {
             return false;
         }
     }
-    column == 0 || matches!(turn, Turn::Tick)
+    column == 0 || matches!(kind, PointKind::Tick)
 }
 
 /// Writes what the clock shows, if there is room for it.
@@ -138,7 +139,7 @@ fn write_clock(scene: &Scene<'_>, plan: &Plan<'_>, page: &mut Page) {
     let mut free = Px(0);
     for column in scene.columns.iter() {
         let x = plan.x(column.number) + Px(3);
-        if x.is_above(free) && shows_clock(scene, column.number, column.point.turn) {
+        if x.is_above(free) && shows_clock(scene, column.number, column.point.kind) {
             open_text(page, x, RULER + Px(30), 10, "time strong");
             page.fill("{} ms</text>\n", &[Millis(column.point.clock)]);
             free = x + Px(52);

@@ -27,8 +27,8 @@ fn state_word(state: TaskState) -> &'static str {
     }
 }
 
-/// Opens the group of a bar, with what a program needs to know of it: the task, counted from 1, its state, and the numbers at which the bar
-/// begins and ends.
+/// Opens the group of a bar, with what a program needs to know of it: the task, counted from 1, its state, and the
+/// numbers at which the bar begins and ends.
 fn open_bar(scene: &Scene<'_>, t: usize, span: &Span<TaskSeen>, page: &mut Page) {
     let from = Number(scene.number_of(span.from));
     let to = Number(scene.number_of(span.to));
@@ -46,7 +46,8 @@ fn open_bar(scene: &Scene<'_>, t: usize, span: &Span<TaskSeen>, page: &mut Page)
     page.fill("{}, from {} to {}</title>\n", &[Xml(words), from, to]);
 }
 
-/// Draws the bar of a span of a task: high if it runs, flat if it is ready, and a line if it waits, dashed for a semaphore.
+/// Draws the bar of a span of a task: high if it runs, flat if it is ready, and a line if it waits, dashed for a
+/// semaphore.
 fn draw_bar(plan: &Plan<'_>, t: usize, span: &Span<TaskSeen>, page: &mut Page) {
     let from = plan.x(span.from);
     let to = plan.x(span.to);
@@ -119,7 +120,8 @@ fn write_priority(pri: i8, page: &mut Page) {
     write!(page, "{pri}</text>\n")
 }
 
-/// Writes the name of a task at the left of its row: after its number if the row is dense, or else above its number and its priority.
+/// Writes the name of a task at the left of its row: after its number if the row is dense, or else above its number and
+/// its priority.
 fn write_name(scene: &Scene<'_>, plan: &Plan<'_>, t: usize, page: &mut Page) {
     let Some(task) = scene.file.machine.tasks().get(t) else {
         return;
@@ -161,7 +163,8 @@ fn write_label(scene: &Scene<'_>, plan: &Plan<'_>, y: Px, span: &Span<TaskSeen>,
     }
 }
 
-/// Writes the name of a task again over its row, at each sixtieth column, so that it is seen in each part of a wide picture.
+/// Writes the name of a task again over its row, at each sixtieth column, so that it is seen in each part of a wide
+/// picture.
 fn write_name_again(plan: &Plan<'_>, y: Px, name: &str, page: &mut Page) {
     let foot = if plan.dense { y + Px(4) } else { y - Px(15) };
     for column in 1..plan.last {
@@ -172,7 +175,8 @@ fn write_name_again(plan: &Plan<'_>, y: Px, name: &str, page: &mut Page) {
     }
 }
 
-/// Writes over the arrows what each task waits for, if the rows are not dense, and the names of the tasks in a wide picture.
+/// Writes over the arrows what each task waits for, if the rows are not dense, and the names of the tasks in a wide
+/// picture.
 pub(super) fn write_labels(scene: &Scene<'_>, plan: &Plan<'_>, page: &mut Page) {
     for (t, track) in scene.tasks.iter().enumerate() {
         let y = plan.task(t);

@@ -1,5 +1,6 @@
-//! A machine whose bodies grow while it runs: a command is fed to a task, at the end of its body, and a caller sees when a task comes to the end of
-//! its body. The laws `execmodel::feeding` say that what comes of it is what comes of the machine whose bodies are whole from the start.
+//! A machine whose bodies grow while it runs: a command is fed to a task, at the end of its body, and a caller sees
+//! when a task comes to the end of its body. The laws `execmodel::feeding` say that what comes of it is what comes of
+//! the machine whose bodies are whole from the start.
 ghost use Rattle.std.specs.Prelude.{◌≡◌, OnErr, OnOk};
 ghost use Rattle.script.specs.Commands.{command_view};
 ghost use Rattle.execmodel.specs.{Calls.next_call, Feeding.at_end, Feeding.fed, Feeding.fed_to, Feeding.if_no_call, Feeding.without_call, State.State};
@@ -13,9 +14,10 @@ use std::alloc::AllocError;
 use taskq::TaskId;
 
 impl<S: ListSpace> Machine<S> {
-    /// Feeds a command to a task, by its number from 0 in the order of the file: it becomes the last one of the task's body. Nothing changes if there
-    /// is no such task. A task that is at the end of its body then goes on with it. The command jumps nowhere, and has no variable, as `read_fed` of
-    /// `taskscript` reads it, so it is the same in each body.
+    /// Feeds a command to a task, by its number from 0 in the order of the file: it becomes the last one of the task's
+    /// body. Nothing changes if there is no such task. A task that is at the end of its body then goes on with it. The
+    /// command jumps nowhere, and has no variable, as `read_fed` of `taskscript` reads it, so it is the same in each
+    /// body.
     ///
     /// # Errors
     ///
@@ -27,12 +29,13 @@ impl<S: ListSpace> Machine<S> {
         ensures moves { OnOk result (Moves (fed t (command_view command)) self.old.seen self.new.seen) }
         ensures kept { OnErr result (self.new ≡ self.old) }
     {
-        self.rests = false;
+        self.is_settled = false;
         self.kernel.feed(t, command)
     }
 
-    /// Answers the task that the next step finds at the end of its body: it runs, no software interrupt runs first, it waits in no call, and none of
-    /// its commands is left. That step ends the task, unless it is fed before. None if the next step finds no task so.
+    /// Answers the task that the next step finds at the end of its body: it runs, no software interrupt runs first, it
+    /// waits in no call, and none of its commands is left. That step ends the task, unless it is fed before. None if
+    /// the next step finds no task so.
     ///
     /// Source: project rule.
     pub fn at_end(&self) -> Option<TaskId>
@@ -93,7 +96,7 @@ impl<S: ListSpace> Kernel<S> {
     fn at_end(&self) -> Option<TaskId>
         ensures { result ≡ end_seen self.now }
     {
-        if self.stopped || self.is_softint_due() {
+        if self.stopped || self.softint_runs_next() {
             None
         } else {
             self.running_at_end()

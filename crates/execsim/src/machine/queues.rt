@@ -1,5 +1,6 @@
-//! What is in the queues of a machine, one after another, and where a message, a request and a public port are; and the free memory. Nothing
-//! here changes the machine, and nothing takes memory. Each call may be made between any two events.
+//! What is in the queues of a machine, one after another, and where a message, a request and a public port are; and the
+//! free memory. Nothing here changes the machine, and nothing takes memory. Each call may be made between any two
+//! events.
 ghost use Rattle.std.specs.Prelude.{◌≡◌, option_map};
 ghost use Rattle.execlist.specs.{Lists.part_from, Order.first};
 ghost use Rattle.timerdev.specs.DueTimes.{due_of, due_view};
@@ -12,8 +13,8 @@ use execlist::space::ListSpace;
 use taskq::TaskId;
 
 impl<S: ListSpace> Machine<S> {
-    /// Answers the node after `after` in the list that begins at an address, or its first one for none; none at the end, and if there is no
-    /// such list or `after` is not in it.
+    /// Answers the node after `after` in the list that begins at an address, or its first one for none; none at the
+    /// end, and if there is no such list or `after` is not in it.
     ///
     /// Source: RKM Libraries, Exec Lists and Queues: scanning a list.
     pub fn node_after(&self, list: u32, after: Option<u32>) -> Option<u32>
@@ -22,8 +23,8 @@ impl<S: ListSpace> Machine<S> {
         self.kernel.memory.node_after(list, after)
     }
 
-    /// Answers the message, or the request, after `after` in the port that begins at an address, or the first one for none, in order of
-    /// arrival; none at the end, and if there is no such port or it does not have `after`.
+    /// Answers the message, or the request, after `after` in the port that begins at an address, or the first one for
+    /// none, in order of arrival; none at the end, and if there is no such port or it does not have `after`.
     ///
     /// Source: RKM Libraries, Exec Messages and Ports: `mp_MsgList`.
     pub fn message_after(&self, port: u32, after: Option<u32>) -> Option<u32>
@@ -50,8 +51,8 @@ impl<S: ListSpace> Machine<S> {
         self.kernel.memory.public_port(name)
     }
 
-    /// Answers the task that waits after `after` for the semaphore that begins at an address, or the first one for none, in order of
-    /// request; none at the end, and if there is no such semaphore or `after` does not wait for it.
+    /// Answers the task that waits after `after` for the semaphore that begins at an address, or the first one for
+    /// none, in order of request; none at the end, and if there is no such semaphore or `after` does not wait for it.
     ///
     /// Source: RKM Libraries, Exec Semaphores: `ss_WaitQueue`.
     pub fn waiter_after(&self, semaphore: u32, after: Option<TaskId>) -> Option<TaskId>
@@ -69,8 +70,8 @@ impl<S: ListSpace> Machine<S> {
         self.kernel.memory.due(request)
     }
 
-    /// Answers the lowest gap of a region that begins at an address or above it; none if there is none, and past the last region. The
-    /// region is named by its place in the file, from 0.
+    /// Answers the lowest gap of a region that begins at an address or above it; none if there is none, and past the
+    /// last region. The region is named by its place in the file, from 0.
     ///
     /// Source: RKM Libraries, Exec Memory Allocation: MemChunk.
     pub fn gap_from(&self, k: usize, address: u32) -> Option<Gap>

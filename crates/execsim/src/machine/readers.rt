@@ -1,8 +1,8 @@
-//! What a machine shows: its tasks, the ready ones, its variables, its clock, and the interrupts that are pending. Nothing here changes the
-//! machine, and nothing takes memory. Each call may be made between any two events.
+//! What a machine shows: its tasks, the ready ones, its variables, its clock, and the interrupts that are pending.
+//! Nothing here changes the machine, and nothing takes memory. Each call may be made between any two events.
 ghost use Rattle.std.specs.Prelude.{◌≡◌, IfSome, is_some, length, nat_lt, option_copied, slice_get, option_map};
 ghost use Rattle.execlist.specs.{Lists.part_from, Order.first};
-ghost use Rattle.scheduler.specs.Schedule.{name_of};
+ghost use Rattle.scheduler.specs.Schedule.{task_name};
 ghost use Rattle.execheap.specs.BlockViews.{block_view};
 ghost use Rattle.execmodel.specs.{Memory.block_at, State.program_of};
 ghost use Rattle.execsim.specs.{Actions.softint_seen, Readers.actor_seen, Readers.machine_view, Readers.task_seen, Views.call_view};
@@ -32,8 +32,8 @@ pub struct TaskView {
     pub forbids: i8,
     /// Its count of Disable, -1 to 127.
     pub disables: i8,
-    /// The place of its next command in its code, from 0; the number of commands at the end. A task that waits in a call is at the place of
-    /// that call.
+    /// The place of its next command in its code, from 0; the number of commands at the end. A task that waits in a
+    /// call is at the place of that call.
     pub place: usize,
 }
 
@@ -87,7 +87,7 @@ impl<S: ListSpace> Machine<S> {
     /// Source: RKM Libraries, Exec Tasks: `ln_Name`.
     pub fn task_name(&self, t: TaskId) -> Option<&str>
         ensures known { is_some result ≡ nat_lt t (length self.now.seen.scripts.programs) }
-        ensures name { IfSome result (λ name. name.now ≡ name_of self.now.seen.schedule t) }
+        ensures name { IfSome result (λ name. name.now ≡ task_name self.now.seen.schedule t) }
     {
         if t < self.kernel.programs.len() {
             Some(self.kernel.sched.name(t).as_str())
@@ -96,8 +96,8 @@ impl<S: ListSpace> Machine<S> {
         }
     }
 
-    /// Lends the call that a task waits in, or is to try again when it runs next, with the values that its arguments had when it was made;
-    /// none for a task that is in no call.
+    /// Lends the call that a task waits in, or is to try again when it runs next, with the values that its arguments
+    /// had when it was made; none for a task that is in no call.
     ///
     /// Source: project rule.
     pub fn call(&self, t: TaskId) -> Option<&Call>
@@ -121,8 +121,8 @@ impl<S: ListSpace> Machine<S> {
         }
     }
 
-    /// Answers the ready task that is to run after `after`, or the one that is to run next for none; none at the end, and if `after` is not
-    /// ready.
+    /// Answers the ready task that is to run after `after`, or the one that is to run next for none; none at the end,
+    /// and if `after` is not ready.
     ///
     /// Source: RKM Libraries, Exec Tasks: task scheduling.
     pub fn ready_after(&self, after: Option<TaskId>) -> Option<TaskId>
@@ -131,15 +131,15 @@ impl<S: ListSpace> Machine<S> {
         self.kernel.sched.ready_after(after)
     }
 
-    /// Answers the task whose command or end the next step is; none if no task runs, a software interrupt runs first, or an alert has stopped
-    /// the machine.
+    /// Answers the task whose command or end the next step is; none if no task runs, a software interrupt runs first,
+    /// or an alert has stopped the machine.
     ///
     /// Source: RKM Libraries, Exec Tasks and Exec Interrupts.
     #[inline(always)]
     pub fn next_actor(&self) -> Option<TaskId>
         ensures { result ≡ actor_seen self.now.seen }
     {
-        if self.kernel.stopped || self.kernel.is_softint_due() {
+        if self.kernel.stopped || self.kernel.softint_runs_next() {
             None
         } else {
             self.kernel.sched.running()
@@ -175,8 +175,8 @@ impl<S: ListSpace> Machine<S> {
         &self.kernel.shared
     }
 
-    /// Answers the caused software interrupt that is to run after `after`, or the one that is to run next for none, by its number from 0 in
-    /// the order of the file; none at the end, and if `after` is not caused.
+    /// Answers the caused software interrupt that is to run after `after`, or the one that is to run next for none, by
+    /// its number from 0 in the order of the file; none at the end, and if `after` is not caused.
     ///
     /// Source: RKM Libraries, Exec Interrupts: software interrupts.
     pub fn caused_after(&self, after: Option<IntId>) -> Option<IntId>
@@ -196,7 +196,8 @@ impl<S: ListSpace> Machine<S> {
         self.kernel.memory.region(k)
     }
 
-    /// Answers what is seen of the block of memory that begins at an address, and of the object in it; none if no block begins there.
+    /// Answers what is seen of the block of memory that begins at an address, and of the object in it; none if no block
+    /// begins there.
     ///
     /// Source: RKM Libraries, Exec Memory Allocation; project rule: Exec keeps no kinds of objects.
     pub fn block(&self, address: u32) -> Option<BlockView>
@@ -208,7 +209,7 @@ impl<S: ListSpace> Machine<S> {
 
 impl<S: ListSpace> Kernel<S> {
     /// Whether a software interrupt runs before any task's command.
-    pub(super) fn is_softint_due(&self) -> bool
+    pub(super) fn softint_runs_next(&self) -> bool
         ensures { result ≡ is_some (softint_seen self.now) }
     {
         if self.sched.may_interrupt() {

@@ -1,5 +1,5 @@
-//! Free chunks in the memory that they describe: the first two words of each are the address of the next and its size. Each case is a table of
-//! steps: calls, each with what it must answer.
+//! Free chunks in the memory that they describe: the first two words of each are the address of the next and its size.
+//! Each case is a table of steps: calls, each with what it must answer.
 ghost use Rattle.std.specs.Prelude.{◌≡◌, length};
 
 use super::comparing::same;

@@ -1,5 +1,5 @@
-//! A list space in vectors and one of linked cells: known sequences, and mixed calls to which each has to answer what the other does.
-//! `Driver` tests at run time what a call of the space asks, so that any call may be tried.
+//! A list space in vectors and one of linked cells: known sequences, and mixed calls to which each has to answer what
+//! the other does. `Driver` tests at run time what a call of the space asks, so that any call may be tried.
 ghost use Rattle.std.specs.Prelude.{◌≡◌, ◌≤◌, length};
 
 use execlist::key::Name;
@@ -45,7 +45,8 @@ enum Look {
     FindNameAfter(NodeId, &'static str),
 }
 
-/// What came of a call: its condition failed, it was done, or it answered a header, a node, a priority or whether it is so.
+/// What came of a call: its condition failed, it was done, or it answered a header, a node, a priority or whether it is
+/// so.
 #[derive(Clone, Copy, Debug, PartialEq, Eq)]
 enum Answer {
     Refused,
@@ -166,7 +167,8 @@ impl<S: ListSpace> Driver<S> {
     }
 }
 
-/// A call after the step of that number, counted from 0, has the answer that is wanted, at a node or a header of that number.
+/// A call after the step of that number, counted from 0, has the answer that is wanted, at a node or a header of that
+/// number.
 fn same(rt: &impl Abort, number: usize, place: usize, answer: Answer, wanted: Answer) {
     assert_eq!(rt; answer, wanted, "in step {number}, at {place}");
 }
@@ -250,8 +252,8 @@ enum Step {
 
 use Step::*;
 
-/// Nodes 0 to 5 get keys and are enqueued in header 0: a node goes after its equals, and a search goes on after a node. Then the space is
-/// reset, and has no node in a header, no priority and no name.
+/// Nodes 0 to 5 get keys and are enqueued in header 0: a node goes after its equals, and a search goes on after a node.
+/// Then the space is reset, and has no node in a header, no priority and no name.
 static STEPS: [Step; 36] = [
     Does(SetKey(0, 0, Some("x")), Done),
     Does(Put(0, 0, ByPriority), Done),

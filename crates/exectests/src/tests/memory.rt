@@ -28,7 +28,7 @@ const OVERLAP: Result<(), MemFault> = Err(MemFault::Overlap);
 
 const TOO_LARGE: Result<(), MemFault> = Err(MemFault::TooLarge);
 
-/// A base that is no multiple of 8.
+/// A base that is not a multiple of 8.
 const ODD: Place = Plain(4100, 8);
 
 /// More bytes than a machine may have.

@@ -56,7 +56,8 @@ fn take_all(pool: &mut Pool<u32>, rt: &impl Abort, case: &str, steps: &[Step]) {
     }
 }
 
-/// What is shown on a pool of that many numbers: a number holds its item until it is free, and setting puts another item in place.
+/// What is shown on a pool of that many numbers: a number holds its item until it is free, and setting puts another
+/// item in place.
 static CASES: [(&str, usize, &[Step]); 2] = [
     (
         "a pool of two",

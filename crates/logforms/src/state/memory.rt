@@ -39,8 +39,8 @@ fn push_front(page: &mut Page, address: u32, size: u32) {
     page.push_str("  ");
 }
 
-/// Adds the block that begins at an address of a region, or else the next gap, and answers how many bytes it takes from the address on; none if
-/// neither is there.
+/// Adds the block that begins at an address of a region, or else the next gap, and answers how many bytes it takes from
+/// the address on; none if neither is there.
 fn push_at<S: ListSpace>(
     page: &mut Page,
     machine: &Machine<S>,

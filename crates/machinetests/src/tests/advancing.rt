@@ -7,8 +7,8 @@ use std::alloc::{AllocError, Global};
 use std::test::*;
 use taskscript::read_machine;
 
-/// How many steps that print nothing a started machine does after each of its next two steps that may print; at most 5 each. None if a write
-/// fails.
+/// How many steps that print nothing a started machine does after each of its next two steps that may print; at most 5
+/// each. None if a write fails.
 fn silent_steps(alloc: Global, file: &MachineFile) -> Result<Option<(u32, u32)>, AllocError> {
     let mut machine: Machine<LinkSpace> = Machine::boot(alloc, file)?;
     let mut out = WriteSink::new(Vec::<u8>::new(alloc));

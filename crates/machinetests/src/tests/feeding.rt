@@ -7,8 +7,8 @@ use std::alloc::{AllocError, Global};
 use std::test::*;
 use taskscript::{read_fed, read_machine};
 
-/// What a started machine writes up to its first step, before which its first task is fed a command, and which task is at the end of its body before
-/// that and after it. None if a write fails.
+/// What a started machine writes up to its first step, before which its first task is fed a command, and which task is
+/// at the end of its body before that and after it. None if a write fails.
 fn fed(
     alloc: Global,
     file: &MachineFile,

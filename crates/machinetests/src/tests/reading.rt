@@ -37,7 +37,8 @@ impl Read for Slow<'_> {
     }
 }
 
-/// How many bytes a reader has, how many it gives at once, how it ends, what reading it answers, and how many bytes are left in it then.
+/// How many bytes a reader has, how many it gives at once, how it ends, what reading it answers, and how many bytes are
+/// left in it then.
 type Case = (usize, usize, Ending, Result<(), ReadFault>, usize);
 
 const ALL: usize = usize::MAX;

@@ -50,7 +50,8 @@ impl<S: ListSpace> Ports<S> {
         self.queues.home(m)
     }
 
-    /// Answers the message after `after` in a port, or the first one for none; none at the end, and if the port does not have `after`.
+    /// Answers the message after `after` in a port, or the first one for none; none at the end, and if the port does
+    /// not have `after`.
     ///
     /// Source: RKM Libraries, Exec Messages and Ports: `mp_MsgList`.
     pub fn message_after(&self, p: PortId, after: Option<MsgId>) -> Option<MsgId>

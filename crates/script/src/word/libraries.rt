@@ -8,7 +8,8 @@ use crate::word::row::{Kind, Row};
 /// A call on libraries.
 #[derive(Clone, Copy, Debug, PartialEq, Eq)]
 pub enum LibraryWord {
-    /// Opens a library of a name and at least a version, and loads it first if it is absent (autodoc exec.library/OpenLibrary).
+    /// Opens a library of a name and at least a version, and loads it first if it is absent (autodoc
+    /// exec.library/OpenLibrary).
     OpenLibrary,
     /// Closes a library once (autodoc exec.library/CloseLibrary).
     CloseLibrary,

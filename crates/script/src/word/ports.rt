@@ -20,8 +20,8 @@ pub enum PortWord {
     FindPort,
     /// Sets the port's action to PA_SIGNAL (project rule; RKM Libraries, Exec Messages and Ports: mp_Flags).
     PortSignal,
-    /// Sets the port's action to PA_SOFTINT, which causes a software interrupt (project rule; RKM Libraries, Exec Messages and Ports:
-    /// mp_Flags).
+    /// Sets the port's action to PA_SOFTINT, which causes a software interrupt (project rule; RKM Libraries, Exec
+    /// Messages and Ports: mp_Flags).
     PortCause,
     /// Sets the port's action to PA_IGNORE (project rule; RKM Libraries, Exec Messages and Ports: mp_Flags).
     PortIgnore,

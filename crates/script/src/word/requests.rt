@@ -16,7 +16,8 @@ pub enum RequestWord {
     OpenDevice,
     /// Closes a request, which is not open any more (autodoc exec.library/CloseDevice).
     CloseDevice,
-    /// Gives a request a command and a time (RKM Devices, Introduction to Amiga System Devices: io_Command; Devices, timer device: tr_time).
+    /// Gives a request a command and a time (RKM Devices, Introduction to Amiga System Devices: io_Command; Devices,
+    /// timer device: tr_time).
     SetIO,
     /// Begins a request, and waits until it is done (autodoc exec.library/DoIO).
     DoIO,

@@ -8,7 +8,8 @@ use crate::word::row::{Kind, Row};
 /// A call on signal semaphores.
 #[derive(Clone, Copy, Debug, PartialEq, Eq)]
 pub enum SemaphoreWord {
-    /// Makes a semaphore that no task owns (autodoc exec.library/InitSemaphore; that it takes the memory: project rule).
+    /// Makes a semaphore that no task owns (autodoc exec.library/InitSemaphore; that it takes the memory: project
+    /// rule).
     NewSem,
     /// Frees a semaphore that no task owns (project rule).
     FreeSem,

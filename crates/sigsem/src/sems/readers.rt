@@ -22,8 +22,8 @@ impl<S: ListSpace> Sems<S> {
         }
     }
 
-    /// Answers the task that waits at a semaphore after `after`, or the first one for none; none at the end, and if `after` does not wait
-    /// there.
+    /// Answers the task that waits at a semaphore after `after`, or the first one for none; none at the end, and if
+    /// `after` does not wait there.
     ///
     /// Source: RKM Libraries, Exec Semaphores: `ss_WaitQueue`.
     pub fn waiter_after(&self, s: SemId, after: Option<TaskId>) -> Option<TaskId>

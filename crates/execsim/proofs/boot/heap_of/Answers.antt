@@ -1,5 +1,5 @@
--- The proof of `heap_of`: the memory of a file: nothing is allocated, and no library is loaded; libraries are expunged under low memory if
--- the file is of version 2.
+-- The proof of `heap_of`: the memory of a file: nothing is allocated, and no library is loaded; libraries are asked for
+-- memory if the file is of version 2.
 use Rattle.std.proofs.Common.{◌≡◌, length, sym, ap, ◌∙◌}
 use Rattle.std.proofs.lemmas.List.{length-map}
 use Rattle.script.specs.Records.{task_view}

@@ -1,4 +1,4 @@
--- The proof of `stops_over`: the machine stands as the run of the events leaves it.
+-- The proof of `stops_over`: the machine is as the run of the events leaves it.
 use Rattle.std.proofs.Common.{◌∙◌, ap, refl}
 use Rattle.execmodel.specs.{State.booted, Step.run}
 use Rattle.execsim.specs.declared.machine.readers.MachineView.{MachineView}

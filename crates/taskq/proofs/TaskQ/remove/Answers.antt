@@ -1,6 +1,6 @@
 -- A ready task leaves its header; any other was in none, and leaving it out changes nothing.
 use Rattle.std.proofs.Common.{◌<◌, None, ap, ◌∙◌, sym, arith, length, slice_set}
-use Rattle.execlist.specs.{Order.without, Lists.home, Lists.sequence}
+use Rattle.execlist.specs.{Order.without_item, Lists.home, Lists.sequence}
 use Rattle.taskq.specs.{declared.TaskState.TheVariants.Removed, Tasks.home_for}
 use Rattle.taskq.proofs.TaskLemmas.{departed, not_there, home_read, home_for_none, known_live, homes_written, written_same, states_kept}
 use Rattle.taskq.proofs.TaskQ.remove.Goals.{in-Ready, in_default}
@@ -27,7 +27,7 @@ returns-clause-ready g c =
     let own = home_read (g.S.ListSpace.homes s) c.self.inside.states.items c.args.t c.index.result.now c.self.invariant.ready_held known c.index.ensures in
     elim c.match-index.branch [
       | in-Ready w ↦ rw w.self-inside-is (departed all (g.S.ListSpace.sequences w.remove.new.self) (home (g.S.ListSpace.homes s) c.args.t) c.args.t c.self.invariant.one_header (own ∙ ap home_for w.in-Ready.is) w.remove.ensures.taken)
-          ∙ ap (λ q. without c.args.t q.ready) c.self.view_is
+          ∙ ap (λ q. without_item c.args.t q.ready) c.self.view_is
       | in_default w ↦ rw w.self-inside-is (not_there c.args.t (sequence all 0) (home (g.S.ListSpace.homes s) c.args.t) (own ∙ home_for_none c.index.result.now w.in_default.not-Ready) (g.met.S.ListSpace.stands s 0 c.args.t))
-          ∙ ap (λ q. without c.args.t q.ready) c.self.view_is
+          ∙ ap (λ q. without_item c.args.t q.ready) c.self.view_is
     ]

@@ -1,7 +1,7 @@
 -- The proof of `events_of`.
 use Rattle.std.proofs.Common.{◌≡◌, sym, ◌∙◌, arith, true, false, ◌++◌, ◌∷◌, [], ◌+◌, length, map, take}
 use Rattle.std.proofs.lemmas.{List.length_push, List.Sums.sum_by_push}
-use Rattle.script.specs.Events.{is_within, event_steps, event_ticks}
+use Rattle.script.specs.Events.{keeps_event_limits, event_steps, event_ticks}
 use Rattle.taskscript.specs.Events.{is_skipped}
 use Rattle.taskscript.proofs.EventTurns.{text_at, skip_found, skip_judged, bad_line, more_found, counted, too_many, goes_on, limits, all_within}
 use Rattle.taskscript.proofs.events.events_of.Goals as goal
@@ -30,7 +30,7 @@ returns-then-not-are_within c = λ _.
     let ft : c.from-ticks.result ≡ event_ticks e = cc in
     let ln : c.len.result ≡ length es = omega arith in
     let sums = counted es e c.loop-i.steps c.loop-i.ticks c.loop-i.invariant.steps_sum c.loop-i.invariant.ticks_sum in
-    let within : is_within (es ++ e ∷ []) ≡ false = sym (c.if-not-are_within.ensures ∙ rw (fs, ft, ln) sums) in
+    let within : keeps_event_limits (es ++ e ∷ []) ≡ false = sym (c.if-not-are_within.ensures ∙ rw (fs, ft, ln) sums) in
     sym c.loop-i.invariant.judged ∙ too_many c.args.lines.now c.loop-i.i c.in-Some.event c.loop-i.events.items c.loop-i-test.true (sym c.is_skipped.ensures ∙ c.if-is_skipped.false) c.in-Some.ensures c.loop-i.invariant.found within
 
 pub loop-i-preserved : goal.loop-i-preserved
@@ -41,7 +41,7 @@ loop-i-preserved c =
     let ft : c.from-ticks.result ≡ event_ticks e = cc in
     let ln : c.len.result ≡ length es = omega arith in
     let sums = counted es e c.loop-i.steps c.loop-i.ticks c.loop-i.invariant.steps_sum c.loop-i.invariant.ticks_sum in
-    let within : is_within (es ++ e ∷ []) ≡ true = sym (c.if-not-are_within.ensures ∙ rw (fs, ft, ln) sums) in
+    let within : keeps_event_limits (es ++ e ∷ []) ≡ true = sym (c.if-not-are_within.ensures ∙ rw (fs, ft, ln) sums) in
     let small = limits (c.loop-i.steps + c.from-steps.result) (c.loop-i.ticks + c.from-ticks.result) (c.len.result + 1) (sym c.if-not-are_within.ensures) in
     let fine = sym c.is_skipped.ensures ∙ c.if-is_skipped.false in
     rw c.in_ok-push.ensures.items (record {

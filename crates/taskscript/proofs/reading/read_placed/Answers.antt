@@ -10,7 +10,7 @@ returns-in_err-table-clause-machine c =
     rw (p.1, p.2) (refused c.args.bytes.now c.in_err-table.field-0.0 c.in_err-table.ensures.err)
 
 pub returns-clause-machine : goal.returns-clause-machine
-returns-clause-machine c = decided c.args.bytes.now (table_view c.in_ok-table.table) c.machine_of.result c.in_ok-table.ensures.ok c.machine_of.ensures
+returns-clause-machine c = decided c.args.bytes.now (table_view c.in_ok-table.table) c.read_tree.result c.in_ok-table.ensures.ok c.read_tree.ensures
 
 pub returns-clause-listing : goal.returns-clause-listing
-returns-clause-listing c = listed c.args.bytes.now (table_view c.in_ok-table.table) c.machine_of.result c.in_ok-table.ensures.ok c.machine_of.ensures
+returns-clause-listing c = listed c.args.bytes.now (table_view c.in_ok-table.table) c.read_tree.result c.in_ok-table.ensures.ok c.read_tree.ensures

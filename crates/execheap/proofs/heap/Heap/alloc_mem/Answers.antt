@@ -1,6 +1,6 @@
 -- A block fits if it is shown to fit, and is shown where it is put.
 use Rattle.std.proofs.Common.{ap, ◌∙◌}
-use Rattle.execmodel.specs.{State.Plain, Memory.place_for, Memory.placed, GivingWay.after_asking}
+use Rattle.execmodel.specs.{State.Plain, Memory.place_for, Memory.placed, LowMemory.after_asking}
 use Rattle.execheap.proofs.heap.Heap.alloc_mem.Goals as goal
 
 pub returns-clause-address : goal.returns-clause-address

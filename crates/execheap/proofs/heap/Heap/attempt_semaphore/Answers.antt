@@ -4,7 +4,7 @@ use Rattle.execmodel.specs.{State.Memory, State.on_heap, Semaphores.obtain_alert
 use Rattle.execlist.specs.Answers.{fault_or}
 use Rattle.sigsem.specs.Semaphores as sems
 use Rattle.sigsem.specs.Semaphores.{Semaphores, deep_fault, is_free_for}
-use Rattle.execheap.specs.{Refusals.alert_of, Refusals.told, Numbered.shown_heap, Numbered.shown_memory}
+use Rattle.execheap.specs.{Refusals.alert_of, Refusals.as_refusal, Numbered.shown_heap, Numbered.shown_memory}
 use Rattle.execheap.proofs.SemaphoreAlerts.{obtain_refused, obtain_told, sem_of_shown, told_answer, told_next}
 use Rattle.execheap.proofs.{Dropping.attempted_shown, Passed.passed_on}
 use Rattle.execheap.proofs.heap.Heap.attempt_semaphore.Goals as goal
@@ -16,9 +16,9 @@ returns-in_err-n-clause-alert g c =
     ∙ ap (λ (m : Memory). obtain_alert c.args.task c.args.semaphore m.heap) c.self.view_is
 
 -- any refusal by number is reported as one
-refusal_told : (g : _) (c : goal.After-told g) → c.told.result
-    ≡ told (fault_or (deep_fault c.in_ok-n.n c.args.task c.self.inside.objects.sems) (is_free_for c.args.task (sems.sem_at c.in_ok-n.n c.self.inside.objects.sems)))
-refusal_told g c = c.told.ensures ∙ ap told c.attempt.ensures.answer
+refusal_told : (g : _) (c : goal.After-as_refusal g) → c.as_refusal.result
+    ≡ as_refusal (fault_or (deep_fault c.in_ok-n.n c.args.task c.self.inside.objects.sems) (is_free_for c.args.task (sems.sem_at c.in_ok-n.n c.self.inside.objects.sems)))
+refusal_told g c = c.as_refusal.ensures ∙ ap as_refusal c.attempt.ensures.answer
 
 pub returns-clause-alert : goal.returns-clause-alert
 returns-clause-alert g c =

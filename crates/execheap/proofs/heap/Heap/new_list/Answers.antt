@@ -1,6 +1,6 @@
 -- The object is made if it is shown to fit, and is shown where it is made.
 use Rattle.std.proofs.Common.{[], ap, ◌∙◌}
-use Rattle.execmodel.specs.{State.ListHead, Lists.is_list, Memory.placed, GivingWay.after_asking_for_object, Objects.place_for_object}
+use Rattle.execmodel.specs.{State.ListHead, Lists.is_list, Memory.placed, LowMemory.after_asking_for_object, Objects.place_for_object}
 use Rattle.execheap.proofs.heap.Heap.new_list.Goals as goal
 
 pub returns-clause-address : goal.returns-clause-address

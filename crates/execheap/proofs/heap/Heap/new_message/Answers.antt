@@ -1,7 +1,7 @@
 -- A message is made if it is shown to fit, and is shown where it is made.
 use Rattle.std.proofs.Common.{ap, ◌∙◌}
 use Rattle.msgport.specs.Ports.{new_message}
-use Rattle.execmodel.specs.{State.Message, Memory.placed, GivingWay.after_asking_for_object, Objects.place_for_object, Ports.is_message}
+use Rattle.execmodel.specs.{State.Message, Memory.placed, LowMemory.after_asking_for_object, Objects.place_for_object, Ports.is_message}
 use Rattle.execheap.proofs.heap.Heap.new_message.Goals as goal
 
 pub returns-clause-address : goal.returns-clause-address

@@ -1,7 +1,7 @@
 -- A node is made if it is shown to fit, and is shown where it is made.
 use Rattle.std.proofs.Common.{rules, ap, ◌∙◌, option_map}
 use Rattle.std.proofs.lemmas.Int.{to_z-of_z}
-use Rattle.execmodel.specs.{State.Node, Memory.placed, GivingWay.after_asking_for_object, Objects.place_for_object, Lists.is_node}
+use Rattle.execmodel.specs.{State.Node, Memory.placed, LowMemory.after_asking_for_object, Objects.place_for_object, Lists.is_node}
 use Rattle.execheap.specs.Changes.{key_with}
 use Rattle.execheap.proofs.heap.Heap.new_node.Goals as goal
 use mir.Syntax.{w8}

@@ -1,7 +1,7 @@
 -- The object is made if it is shown to fit, and is shown where it is made.
 use Rattle.std.proofs.Common.{[], ap, ◌∙◌}
 use Rattle.sigsem.specs.Semaphores.{free_sem}
-use Rattle.execmodel.specs.{State.Semaphore, Semaphores.is_semaphore, Memory.placed, GivingWay.after_asking_for_object, Objects.place_for_object}
+use Rattle.execmodel.specs.{State.Semaphore, Semaphores.is_semaphore, Memory.placed, LowMemory.after_asking_for_object, Objects.place_for_object}
 use Rattle.execheap.proofs.heap.Heap.new_semaphore.Goals as goal
 
 pub returns-clause-address : goal.returns-clause-address

@@ -4,7 +4,7 @@ use Rattle.execmodel.specs.{State.Memory, State.on_heap, Semaphores.obtain_alert
 use Rattle.execlist.specs.{Lists.times, Answers.fault_or}
 use Rattle.sigsem.specs.Semaphores as sems
 use Rattle.sigsem.specs.Semaphores.{Semaphores, deep_fault, outcome_for}
-use Rattle.execheap.specs.{Refusals.alert_of, Refusals.told, Numbered.shown_heap, Numbered.shown_memory}
+use Rattle.execheap.specs.{Refusals.alert_of, Refusals.as_refusal, Numbered.shown_heap, Numbered.shown_memory}
 use Rattle.execheap.proofs.SemaphoreAlerts.{obtain_refused, obtain_told, sem_of_shown, told_answer, told_next}
 use Rattle.execheap.proofs.{Dropping.obtained_shown, Dropping.waits_at_none, Passed.passed_on}
 use Rattle.execheap.proofs.heap.Heap.obtain_semaphore.Goals as goal
@@ -22,9 +22,9 @@ obtain-requires-clause-stopped g c =
     (λ a. ap (λ (m : Memory). times c.args.task (waiters_of a m.heap)) c.self.view_is ∙ c.requires.stopped a)
 
 -- any refusal by number is reported as one
-refusal_told : (g : _) (c : goal.After-told g) → c.told.result
-    ≡ told (fault_or (deep_fault c.in_ok-n.n c.args.task c.self.inside.objects.sems) (outcome_for c.args.task (sems.sem_at c.in_ok-n.n c.self.inside.objects.sems)))
-refusal_told g c = c.told.ensures ∙ ap told c.obtain.ensures.answer
+refusal_told : (g : _) (c : goal.After-as_refusal g) → c.as_refusal.result
+    ≡ as_refusal (fault_or (deep_fault c.in_ok-n.n c.args.task c.self.inside.objects.sems) (outcome_for c.args.task (sems.sem_at c.in_ok-n.n c.self.inside.objects.sems)))
+refusal_told g c = c.as_refusal.ensures ∙ ap as_refusal c.obtain.ensures.answer
 
 pub returns-clause-alert : goal.returns-clause-alert
 returns-clause-alert g c =

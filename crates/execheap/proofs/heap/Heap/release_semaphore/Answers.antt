@@ -4,7 +4,7 @@ use Rattle.execmodel.specs.{State.Memory, State.on_heap, Semaphores.heir, Semaph
 use Rattle.execlist.specs.Answers.{fault_or}
 use Rattle.sigsem.specs.Semaphores as sems
 use Rattle.sigsem.specs.Semaphores.{Semaphores, let_go, release_fault}
-use Rattle.execheap.specs.{Refusals.alert_of, Refusals.told, Numbered.shown_heap, Numbered.shown_memory}
+use Rattle.execheap.specs.{Refusals.alert_of, Refusals.as_refusal, Numbered.shown_heap, Numbered.shown_memory}
 use Rattle.execheap.proofs.SemaphoreAlerts.{heir_shown, release_refused, release_told, told_answer, told_next}
 use Rattle.execheap.proofs.{Dropping.released_shown, Passed.passed_on}
 use Rattle.execheap.proofs.heap.Heap.release_semaphore.Goals as goal
@@ -16,9 +16,9 @@ returns-in_err-n-clause-alert g c =
     ∙ ap (λ (m : Memory). release_alert c.args.task c.args.semaphore m.heap) c.self.view_is
 
 -- any refusal by number is reported as one
-refusal_told : (g : _) (c : goal.After-told g) → c.told.result
-    ≡ told (fault_or (release_fault c.in_ok-n.n c.args.task c.self.inside.objects.sems) (sems.heir c.in_ok-n.n c.self.inside.objects.sems))
-refusal_told g c = c.told.ensures ∙ ap told c.release.ensures.answer
+refusal_told : (g : _) (c : goal.After-as_refusal g) → c.as_refusal.result
+    ≡ as_refusal (fault_or (release_fault c.in_ok-n.n c.args.task c.self.inside.objects.sems) (sems.heir c.in_ok-n.n c.self.inside.objects.sems))
+refusal_told g c = c.as_refusal.ensures ∙ ap as_refusal c.release.ensures.answer
 
 pub returns-clause-alert : goal.returns-clause-alert
 returns-clause-alert g c =

@@ -1,6 +1,6 @@
--- A block fits if it is shown to fit, and is shown where it is put, once libraries were expunged under low memory.
+-- A block fits if it is shown to fit, and is shown where it is put, after libraries were asked for memory.
 use Rattle.std.proofs.Common.{ap, ◌∙◌}
-use Rattle.execmodel.specs.{State.Plain, Memory.place_for, Memory.placed, GivingWay.after_asking}
+use Rattle.execmodel.specs.{State.Plain, Memory.place_for, Memory.placed, LowMemory.after_asking}
 use Rattle.execheap.specs.Numbered.{shown_memory}
 use Rattle.execheap.proofs.Asked.{kept_taken, place_taken, shown_taken}
 use Rattle.execheap.proofs.objects.Objects.allocate.Goals as goal

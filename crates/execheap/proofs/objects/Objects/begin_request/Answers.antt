@@ -1,4 +1,4 @@
--- A request that rests is held and waits, or is done at once, if system time may be set.
+-- A request that is idle is held and waits, or is done at once, if system time may be set.
 use Rattle.std.proofs.Common.{◌≡◌, ◌+◌, None, ap, false, refl, sym, subst, ◌∙◌, pos, ◌<◌, ◌^◌, IsTrue}
 use Rattle.execlist.specs.Lists.{home}
 use Rattle.iorequest.specs.{Request.finished, Request.is_under_way, Request.outcome, Request.reply_port, Request.time_of, Requests.is_request, Requests.request_at, Requests.with_request}

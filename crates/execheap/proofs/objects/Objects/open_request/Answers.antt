@@ -1,4 +1,4 @@
--- The request is another one that rests.
+-- The request is another one that is idle.
 use Rattle.std.proofs.Common.{ap, refl, ◌∙◌}
 use Rattle.iorequest.specs.{Request.is_under_way, Requests.is_request, Requests.request_at}
 use Rattle.execheap.specs.Numbered.{Numbered}

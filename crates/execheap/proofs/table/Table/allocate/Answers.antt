@@ -1,4 +1,4 @@
--- A plain block is no object, and libraries that are expunged under low memory for it leave a table sound.
+-- A plain block is not an object, and libraries that are asked for memory for it leave a table sound.
 use Rattle.std.proofs.Common.{ap, ◌∙◌}
 use Rattle.memlist.specs.Fit.{fit}
 use Rattle.execheap.specs.Table.{after_asking}

@@ -1,4 +1,4 @@
--- A plain block that goes is no object.
+-- A plain block that goes is not an object.
 use Rattle.execheap.proofs.Plain.{sound_plain_freed}
 use Rattle.execheap.proofs.table.Table.free_plain.Goals as goal
 

@@ -1,4 +1,5 @@
--- The number that is next gets the address if the block was put, and libraries that are expunged under low memory for it leave a table sound.
+-- The number that is next gets the address if the block was put, and libraries that are asked for memory for it leave a
+-- table sound.
 use Rattle.std.proofs.Common.{None, Some, ap, ◌∙◌}
 use Rattle.execheap.specs.Table.{next_object, ready_for}
 use Rattle.execheap.proofs.Asking.{lie_in, object_made, sound_made, sound_unmade}

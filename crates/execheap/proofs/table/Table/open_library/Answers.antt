@@ -1,4 +1,5 @@
--- A library that is loaded takes a fresh block with its tag, and those that are expunged under low memory for it leave a table sound.
+-- A library that is loaded takes a fresh block with its tag, and those that are asked for memory for it leave a table
+-- sound.
 use Rattle.execlib.specs.Libraries.{library_to_open}
 use Rattle.execheap.proofs.{Asking.lie_in, Asking.sound_open, Loaded.to_open_known}
 use Rattle.execheap.proofs.table.Table.open_library.Goals as goal

@@ -1,4 +1,4 @@
--- The block is taken in the regions in which libraries were expunged under low memory.
+-- The block is taken in the regions as they are after libraries were asked for memory.
 use Rattle.std.proofs.Common.{ap, ◌∙◌}
 use Rattle.memlist.specs.{Fit.fit, Memory.Memory}
 use Rattle.execlib.specs.Libraries.{after_asking, lent}

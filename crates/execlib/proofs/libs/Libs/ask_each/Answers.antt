@@ -1,4 +1,4 @@
--- As long as the block fits nowhere the next library is expunged under low memory, and once it fits no other is asked.
+-- As long as the block fits nowhere the next library is asked for memory, and once it fits no other is asked.
 use Rattle.std.proofs.Common.{◌≡◌, ◌<◌, ◌+◌, ◌-◌, ap, sym, subst, ◌∙◌, arith, length}
 use Rattle.std.specs.List.{range_with_len}
 use Rattle.execlib.specs.Libraries.{Lent, asked_each, gives_way, lent}

@@ -1,4 +1,4 @@
--- A library that is absent takes its block once the others have been expunged under low memory; the others do not load it.
+-- A library that is absent takes its block after the others were asked for memory; the others do not load it.
 use Rattle.std.proofs.Common.{ap, sym, ◌∙◌, Some}
 use Rattle.memlist.specs.{Fit.fit, Memory.allocated}
 use Rattle.execlib.specs.Libraries.{Lent, after_asking, library_at, lent, public_memory}

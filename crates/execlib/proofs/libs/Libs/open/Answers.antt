@@ -1,4 +1,4 @@
--- The library that is opened is, after the others were expunged under low memory, open as often as before.
+-- The library that is opened is, after the others were asked for memory, open as often as before.
 use Rattle.std.proofs.Common.{ap, sym, subst, ◌∙◌, not, nat_eq, IsTrue}
 use Rattle.std.specs.Option.{option_map_or}
 use Rattle.execlib.specs.{declared.library.Loaded.Loaded, Libraries.Libraries, Libraries.count_of, Libraries.lent, Libraries.most_openings}

@@ -4,4 +4,4 @@ use Rattle.execsim.proofs.Requesting.{aborted_answers}
 use Rattle.execsim.proofs.kernel.Kernel.aborted.Goals as goal
 
 pub returns-in-Some : goal.returns-in-Some
-returns-in-Some g c = rw (c.in-Ok.is, c.in-Some.is) (aborted_answers _ _ _ c.perform.ensures c.answered.ensures)
+returns-in-Some g c = rw (c.in-Ok.is, c.in-Some.is) (aborted_answers _ _ _ c.perform.ensures c.answer.ensures)

@@ -8,4 +8,4 @@ pub returns : goal.returns
 unfolding performs list_deed
 returns g c = rw (← c.self.view_is) (heap_changed _ _ (link_alert _ _) (on_heap (added_tail _ _)) (λ y. refl) _ _
     (rw (c.number-list.ensures, c.number-node.ensures) at c.add_tail-tried.ensures.alert)
-    (rw (c.number-list.ensures, c.number-node.ensures) at c.add_tail-tried.ensures.next) c.add_tail-tried.ensures.kept c.concluded.ensures)
+    (rw (c.number-list.ensures, c.number-node.ensures) at c.add_tail-tried.ensures.next) c.add_tail-tried.ensures.kept c.conclude.ensures)

@@ -6,8 +6,8 @@ use Rattle.execsim.proofs.kernel.Kernel.attempt_semaphore.Goals as goal
 pub returns-in-Ok : goal.returns-in-Ok
 returns-in-Ok g c = rw (← c.self.view_is) (attempt_made _ _ _ c.in-Ok.has (rw c.number-semaphore.ensures at c.in-Ok.ensures.alert)
     (rw c.number-semaphore.ensures at c.in-Ok.ensures.answer) (rw c.number-semaphore.ensures at c.in-Ok.ensures.next)
-    (rw c.attempted.ensures at c.answered.ensures))
+    (rw c.attempted.ensures at c.answer.ensures))
 
 pub returns-in-Err : goal.returns-in-Err
 returns-in-Err g c = rw (← c.self.view_is) (attempt_refused _ _ _ c.in-Err.why (rw c.number-semaphore.ensures at c.in-Err.ensures.alert)
-    c.in-Err.ensures.kept c.refused.ensures)
+    c.in-Err.ensures.kept c.refuse.ensures)

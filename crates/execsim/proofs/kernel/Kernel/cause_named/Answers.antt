@@ -4,4 +4,4 @@ use Rattle.execsim.proofs.Caused.{caused_done}
 use Rattle.execsim.proofs.kernel.Kernel.cause_named.Goals as goal
 
 pub returns : goal.returns
-returns g c = caused_done _ _ _ c.softint_of_call-i.ensures c.cause.ensures c.done_by.ensures
+returns g c = caused_done _ _ _ c.softint_of_call-i.ensures c.cause.ensures c.end_call_by.ensures

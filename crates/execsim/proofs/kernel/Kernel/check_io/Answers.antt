@@ -10,4 +10,4 @@ pub returns : goal.returns
 unfolding does_check_io
 returns g c = heap_read _ _ (request_alert _) (λ heap. if is_under_way (request_of _ heap) then 0 else _) _
     (rw c.number-request.ensures at c.check-tried.ensures.alert) (rw c.number-request.ensures at c.check-tried.ensures.answer)
-    c.concluded_with.ensures
+    c.conclude_with.ensures

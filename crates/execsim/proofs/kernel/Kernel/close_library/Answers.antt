@@ -4,9 +4,9 @@ use Rattle.execsim.proofs.Opening.{close_none, close_tried}
 use Rattle.execsim.proofs.kernel.Kernel.close_library.Goals as goal
 
 pub returns-then-base-eq0 : goal.returns-then-base-eq0
-returns-then-base-eq0 g c = close_none _ _ (rw c.number-base.ensures at c.if-base-eq0.true) c.done.ensures
+returns-then-base-eq0 g c = close_none _ _ (rw c.number-base.ensures at c.if-base-eq0.true) c.end_call.ensures
 
 pub returns-else-base-eq0 : goal.returns-else-base-eq0
 returns-else-base-eq0 g c = rw (← c.self.view_is) (close_tried _ _ _ _ (rw c.number-base.ensures at c.if-base-eq0.false)
     (rw c.number-base.ensures at c.close_library-tried.ensures.alert)
-    (rw c.number-base.ensures at c.close_library-tried.ensures.next) c.close_library-tried.ensures.kept c.concluded.ensures)
+    (rw c.number-base.ensures at c.close_library-tried.ensures.next) c.close_library-tried.ensures.kept c.conclude.ensures)

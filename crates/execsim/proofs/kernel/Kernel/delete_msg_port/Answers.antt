@@ -3,11 +3,11 @@ use Rattle.execsim.proofs.Porting.{delete_none, delete_tried}
 use Rattle.execsim.proofs.kernel.Kernel.delete_msg_port.Goals as goal
 
 pub returns-then-port-eq0 : goal.returns-then-port-eq0
-returns-then-port-eq0 g c = delete_none _ _ (rw c.number-port.ensures at c.if-port-eq0.true) c.done.ensures
+returns-then-port-eq0 g c = delete_none _ _ (rw c.number-port.ensures at c.if-port-eq0.true) c.end_call.ensures
 
 pub returns-else-port-eq0 : goal.returns-else-port-eq0
 returns-else-port-eq0 g c = rw (← c.self.view_is) (delete_tried _ _ _ _ (rw c.number-port.ensures at c.if-port-eq0.false)
     (rw c.number-port.ensures at c.delete_port-tried.ensures.alert)
     (rw c.number-port.ensures at c.delete_port-tried.ensures.task) (rw c.number-port.ensures at c.delete_port-tried.ensures.bit)
     (rw c.number-port.ensures at c.delete_port-tried.ensures.next) c.delete_port-tried.ensures.kept
-    c.given_back.ensures)
+    c.end_freeing.ensures)

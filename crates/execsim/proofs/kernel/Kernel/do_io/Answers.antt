@@ -16,4 +16,4 @@ returns-in-Ok g c = rw (← c.self.view_is) (do_found _ (call_view c.args.call.n
 pub returns-in-Err : goal.returns-in-Err
 returns-in-Err g c = rw (← c.self.view_is) (do_refused _ (call_view c.args.call.now) _ c.in-Err.why
     (rw (c.is_tried_again.ensures, ← c.self.view_is) at c.if-is_tried_again.false)
-    (rw c.number-request.ensures at c.in-Err.ensures.alert) c.in-Err.ensures.kept c.refused.ensures)
+    (rw c.number-request.ensures at c.in-Err.ensures.alert) c.in-Err.ensures.kept c.refuse.ensures)

@@ -18,7 +18,7 @@ returns-in-Some-value_in_body g c =
     let command = command_view c.in-Some.command.now in
     let call = call_in_body command c.args.self.now.scripts in
     place_done _ _ command (ap (λ (m : Seen). m.stopped) (sym c.self.view_is) ∙ c.if-self.false) (rw c.in-Some.is at here)
-    (stored_as c.args.name.now.bytes command call _ refl (rw c.in-Some-value_in_body.is at c.value_in_body.ensures) (follows_silence _ (c.silent_in_body.ensures c.args.name.now.bytes call refl)))
+    (stored_as c.args.name.now.bytes command call _ refl (rw c.in-Some-value_in_body.is at c.value_in_body.ensures) (follows_silence _ (c.end_silently_in_body.ensures c.args.name.now.bytes call refl)))
 
 pub returns-then-is_print : goal.returns-then-is_print
 returns-then-is_print g c =

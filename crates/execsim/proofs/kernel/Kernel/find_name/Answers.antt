@@ -10,4 +10,4 @@ unfolding performs list_deed
 returns g c = heap_read _ _ (find_alert _)
     (found_node _ (unwrap_or (name_argument 1 (call_view c.args.call.now)) [])) _
     (rw c.number-start.ensures at c.find-tried.ensures.alert) (rw (c.number-start.ensures, c.name.ensures) at c.find-tried.ensures.answer)
-    c.concluded_with.ensures
+    c.conclude_with.ensures

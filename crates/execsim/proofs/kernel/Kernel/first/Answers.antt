@@ -7,4 +7,4 @@ pub returns : goal.returns
 unfolding performs list_deed
 returns g c = rw (← c.self.view_is) (heap_read _ _ (list_alert _) (first_of _) _
     (rw c.number-list.ensures at c.first-tried.ensures.alert) (rw c.number-list.ensures at c.first-tried.ensures.answer)
-    (rw (← c.self.view_is) at c.concluded_with.ensures))
+    (rw (← c.self.view_is) at c.conclude_with.ensures))

@@ -8,4 +8,4 @@ pub returns : goal.returns
 unfolding performs list_deed
 returns g c = rw (← c.self.view_is) (heap_changed _ _ (free_list_alert _) (freed _) (λ y. refl) _ _
     (rw c.number-list.ensures at c.free_list-tried.ensures.alert)
-    (rw c.number-list.ensures at c.free_list-tried.ensures.next) c.free_list-tried.ensures.kept c.concluded.ensures)
+    (rw c.number-list.ensures at c.free_list-tried.ensures.next) c.free_list-tried.ensures.kept c.conclude.ensures)

@@ -8,4 +8,4 @@ pub returns : goal.returns
 unfolding performs list_deed
 returns g c = rw (← c.self.view_is) (heap_changed _ _ (free_node_alert _) (freed _) (λ y. refl) _ _
     (rw c.number-node.ensures at c.free_node-tried.ensures.alert)
-    (rw c.number-node.ensures at c.free_node-tried.ensures.next) c.free_node-tried.ensures.kept c.concluded.ensures)
+    (rw c.number-node.ensures at c.free_node-tried.ensures.next) c.free_node-tried.ensures.kept c.conclude.ensures)

@@ -8,4 +8,4 @@ pub returns : goal.returns
 unfolding does_free_sem
 returns g c = rw (← c.self.view_is) (heap_changed _ _ (free_sem_alert _) (freed _) (λ y. refl) _ _
     (rw c.number-semaphore.ensures at c.free_semaphore-tried.ensures.alert)
-    (rw c.number-semaphore.ensures at c.free_semaphore-tried.ensures.next) c.free_semaphore-tried.ensures.kept c.concluded.ensures)
+    (rw c.number-semaphore.ensures at c.free_semaphore-tried.ensures.next) c.free_semaphore-tried.ensures.kept c.conclude.ensures)

@@ -8,4 +8,4 @@ returns g c = rw (← c.self.view_is) (get_tried _ _ _ _
     (rw c.number-port.ensures at c.take_message-tried.ensures.answer)
     (rw c.number-port.ensures at c.take_message-tried.ensures.none)
     (rw c.number-port.ensures at c.take_message-tried.ensures.next) c.take_message-tried.ensures.kept
-    c.concluded_by.ensures)
+    c.conclude_by.ensures)

@@ -8,4 +8,4 @@ pub returns : goal.returns
 unfolding performs list_deed
 returns g c = rw (← c.self.view_is) (heap_changed _ _ (insert_alert _ _ _) (on_heap (inserted _ _ _)) (λ y. refl) _ _
     (rw (c.number-list.ensures, c.number-node.ensures, c.number-pred.ensures) at c.insert-tried.ensures.alert)
-    (rw (c.number-list.ensures, c.number-node.ensures, c.number-pred.ensures) at c.insert-tried.ensures.next) c.insert-tried.ensures.kept c.concluded.ensures)
+    (rw (c.number-list.ensures, c.number-node.ensures, c.number-pred.ensures) at c.insert-tried.ensures.next) c.insert-tried.ensures.kept c.conclude.ensures)

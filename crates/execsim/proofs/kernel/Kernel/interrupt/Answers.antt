@@ -2,5 +2,5 @@
 use Rattle.execsim.proofs.Serving.{nothing_asks}
 use Rattle.execsim.proofs.kernel.Kernel.interrupt.Goals as goal
 
-pub returns-else-any_asks : goal.returns-else-any_asks
-returns-else-any_asks g c = nothing_asks _ _ (rw c.any_asks.ensures at c.if-any_asks.false)
+pub returns-else-any_latched : goal.returns-else-any_latched
+returns-else-any_latched g c = nothing_asks _ _ (rw c.any_latched.ensures at c.if-any_latched.false)

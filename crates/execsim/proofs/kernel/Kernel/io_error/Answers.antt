@@ -8,4 +8,4 @@ use Rattle.execsim.proofs.kernel.Kernel.io_error.Goals as goal
 pub returns : goal.returns
 unfolding does_io_error
 returns g c = heap_read _ _ (request_alert _) (λ heap. cast_unsigned w32 (request_of _ heap).error) _
-    (rw c.number.ensures at c.error-tried.ensures.alert) (rw c.number.ensures at c.error-tried.ensures.answer) c.concluded_with.ensures
+    (rw c.number.ensures at c.error-tried.ensures.alert) (rw c.number.ensures at c.error-tried.ensures.answer) c.conclude_with.ensures

@@ -7,4 +7,4 @@ use Rattle.execsim.proofs.kernel.Kernel.io_flags.Goals as goal
 pub returns : goal.returns
 unfolding does_io_flags
 returns g c = heap_read _ _ (request_alert _) (λ heap. if (request_of _ heap).quick then 1 else 0) _
-    (rw c.number.ensures at c.flags-tried.ensures.alert) (rw c.number.ensures at c.flags-tried.ensures.answer) c.concluded_with.ensures
+    (rw c.number.ensures at c.flags-tried.ensures.alert) (rw c.number.ensures at c.flags-tried.ensures.answer) c.conclude_with.ensures

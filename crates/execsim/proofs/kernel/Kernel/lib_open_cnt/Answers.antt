@@ -7,4 +7,4 @@ pub returns : goal.returns
 unfolding does_lib_open_cnt
 returns g c = rw (← c.self.view_is) (heap_read _ _ (library_alert _) (count_of _) _
     (rw c.number-base.ensures at c.library_count-tried.ensures.alert) (rw c.number-base.ensures at c.library_count-tried.ensures.answer)
-    (rw (← c.self.view_is) at c.concluded_with.ensures))
+    (rw (← c.self.view_is) at c.conclude_with.ensures))

@@ -7,4 +7,4 @@ pub returns : goal.returns
 unfolding does_msg_type
 returns g c = heap_read _ _ (message_alert _) (λ heap. (content_of _ heap).kind) _
     (rw c.number-message.ensures at c.kind-tried.ensures.alert) (rw c.number-message.ensures at c.kind-tried.ensures.answer)
-    c.concluded_with.ensures
+    c.conclude_with.ensures

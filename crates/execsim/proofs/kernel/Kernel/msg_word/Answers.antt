@@ -7,4 +7,4 @@ pub returns : goal.returns
 unfolding does_msg_word
 returns g c = rw (← c.self.view_is) (heap_read _ _ (message_alert _) (λ heap. (content_of _ heap).word) _
     (rw c.number-message.ensures at c.word-tried.ensures.alert) (rw c.number-message.ensures at c.word-tried.ensures.answer)
-    (rw (← c.self.view_is) at c.concluded_with.ensures))
+    (rw (← c.self.view_is) at c.conclude_with.ensures))

@@ -5,7 +5,7 @@ use Rattle.execsim.proofs.Obtaining.{obtain_again, obtain_tried}
 use Rattle.execsim.proofs.kernel.Kernel.obtain_semaphore.Goals as goal
 
 pub returns-then-is_tried_again : goal.returns-then-is_tried_again
-returns-then-is_tried_again g c = obtain_again _ _ (rw c.is_tried_again.ensures at c.if-is_tried_again.true) c.done.ensures
+returns-then-is_tried_again g c = obtain_again _ _ (rw c.is_tried_again.ensures at c.if-is_tried_again.true) c.end_call.ensures
 
 pub returns-else-is_tried_again : goal.returns-else-is_tried_again
 returns-else-is_tried_again g c = rw (← c.self.view_is) (obtain_tried _ (call_view c.args.call.now) _ _

@@ -4,4 +4,4 @@ use Rattle.execsim.proofs.Obtaining.{passed_on}
 use Rattle.execsim.proofs.kernel.Kernel.passes.Goals as goal
 
 pub returns-in-Some : goal.returns-in-Some
-returns-in-Some g c = rw (c.in-Ok.is, c.in-Some.is) (passed_on _ _ _ _ c.wake.ensures c.done.ensures)
+returns-in-Some g c = rw (c.in-Ok.is, c.in-Some.is) (passed_on _ _ _ _ c.wake.ensures c.end_call.ensures)

@@ -9,4 +9,4 @@ pub returns : goal.returns
 unfolding does_port_ignore
 returns g c = rw (← c.self.view_is) (heap_changed _ _ (port_alert _) (on_heap (with_action Ignore _)) (λ y. refl) _ _
     (rw c.number-port.ensures at c.set_action-tried.ensures.alert)
-    (rw c.number-port.ensures at c.set_action-tried.ensures.next) c.set_action-tried.ensures.kept c.concluded.ensures)
+    (rw c.number-port.ensures at c.set_action-tried.ensures.next) c.set_action-tried.ensures.kept c.conclude.ensures)

@@ -7,4 +7,4 @@ returns g c = rw (← c.self.view_is) (put_tried _ _ _ _
     (rw (c.number-port.ensures, c.number-message.ensures) at c.put_message-tried.ensures.alert)
     (rw c.number-port.ensures at c.put_message-tried.ensures.answer)
     (rw (c.number-port.ensures, c.number-message.ensures) at c.put_message-tried.ensures.next) c.put_message-tried.ensures.kept
-    c.performed.ensures)
+    c.end_putting.ensures)

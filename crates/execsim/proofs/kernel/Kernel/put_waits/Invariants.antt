@@ -1,6 +1,6 @@
 -- What holds in the loops of `Kernel::put_waits`: puts the line of the call of each task that waits.
 use Rattle.exectrace.specs.Sink.{Puts}
-use Rattle.execsim.specs.Standing.{waits_text}
+use Rattle.execsim.specs.WaitingLines.{waits_text}
 use Rattle.execsim.proofs.kernel.Kernel.put_waits.Given as goal
 
 -- the lines of the tasks so far were put

@@ -8,4 +8,4 @@ unfolding does_rem_port
 returns g c = rw (← c.self.view_is) (follows_changed _ _ (rem_port_alert _) (rem_port_alert-in_order _) (made_private _) (made_private _)
     (made_private-in_order _) _ _
     (rw c.number-port.ensures at c.rem_port-tried.ensures.alert)
-    (rw c.number-port.ensures at c.rem_port-tried.ensures.next) c.rem_port-tried.ensures.kept c.concluded.ensures)
+    (rw c.number-port.ensures at c.rem_port-tried.ensures.next) c.rem_port-tried.ensures.kept c.conclude.ensures)

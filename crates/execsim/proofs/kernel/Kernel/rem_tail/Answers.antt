@@ -9,4 +9,4 @@ unfolding performs list_deed
 returns g c = rw (← c.self.view_is) (heap_taken _ _ (list_alert _) (last_of _)
     (on_heap (removed_tail _)) (λ y. refl) _ _
     (rw c.number-list.ensures at c.rem_tail-tried.ensures.alert) (rw c.number-list.ensures at c.rem_tail-tried.ensures.answer)
-    (rw c.number-list.ensures at c.rem_tail-tried.ensures.next) c.rem_tail-tried.ensures.kept c.concluded_with.ensures)
+    (rw c.number-list.ensures at c.rem_tail-tried.ensures.next) c.rem_tail-tried.ensures.kept c.conclude_with.ensures)

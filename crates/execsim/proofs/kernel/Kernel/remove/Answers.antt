@@ -8,4 +8,4 @@ pub returns : goal.returns
 unfolding performs list_deed
 returns g c = rw (← c.self.view_is) (heap_changed _ _ (linked_alert _) (on_heap (unlinked _)) (λ y. refl) _ _
     (rw c.number-node.ensures at c.remove-tried.ensures.alert)
-    (rw c.number-node.ensures at c.remove-tried.ensures.next) c.remove-tried.ensures.kept c.concluded.ensures)
+    (rw c.number-node.ensures at c.remove-tried.ensures.next) c.remove-tried.ensures.kept c.conclude.ensures)

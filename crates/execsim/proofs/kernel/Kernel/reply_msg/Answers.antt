@@ -7,4 +7,4 @@ returns g c = rw (← c.self.view_is) (reply_tried _ _ _ _
     (rw c.number-message.ensures at c.reply_message-tried.ensures.alert)
     (rw c.number-message.ensures at c.reply_message-tried.ensures.answer)
     (rw c.number-message.ensures at c.reply_message-tried.ensures.next) c.reply_message-tried.ensures.kept
-    c.performed.ensures)
+    c.end_putting.ensures)

@@ -6,12 +6,12 @@ pub returns-then-command-lt65536 : goal.returns-then-command-lt65536
 returns-then-command-lt65536 g c = rw (← c.self.view_is) (set_tried _ _ _ _ (rw c.number-command.ensures at c.if-command-lt65536.true)
     (rw c.number-request.ensures at c.set_request-tried.ensures.alert)
     (rw (c.number-request.ensures, c.number-command.ensures, c.number.ensures, c.number-then-command-lt65536.ensures) at c.set_request-tried.ensures.next)
-    c.set_request-tried.ensures.kept c.concluded.ensures)
+    c.set_request-tried.ensures.kept c.conclude.ensures)
 
 pub returns-then-is_request : goal.returns-then-is_request
 returns-then-is_request g c = rw (← c.self-else-command-lt65536.view_is) (set_outside _ _ (rw c.number-command.ensures at c.if-command-lt65536.false)
-    (rw (c.is_request.ensures, c.number-request.ensures) at c.if-is_request.true) (rw (← c.self-else-command-lt65536.view_is) at c.alerted.ensures))
+    (rw (c.is_request.ensures, c.number-request.ensures) at c.if-is_request.true) (rw (← c.self-else-command-lt65536.view_is) at c.alert.ensures))
 
 pub returns-else-is_request : goal.returns-else-is_request
 returns-else-is_request g c = rw (← c.self-else-command-lt65536.view_is) (set_unknown _ _ (rw (c.is_request.ensures, c.number-request.ensures) at c.if-is_request.false)
-    (rw (← c.self-else-command-lt65536.view_is) at c.alerted-else-is_request.ensures))
+    (rw (← c.self-else-command-lt65536.view_is) at c.alert-else-is_request.ensures))

@@ -8,4 +8,4 @@ pub returns : goal.returns
 unfolding does_set_msg_word
 returns g c = rw (← c.self.view_is) (heap_changed _ _ (message_alert _) (on_heap (with_message_word _ _)) (λ y. refl) _ _
     (rw c.number-message.ensures at c.set_word-tried.ensures.alert)
-    (rw (c.number-message.ensures, c.number-word.ensures) at c.set_word-tried.ensures.next) c.set_word-tried.ensures.kept c.concluded.ensures)
+    (rw (c.number-message.ensures, c.number-word.ensures) at c.set_word-tried.ensures.next) c.set_word-tried.ensures.kept c.conclude.ensures)

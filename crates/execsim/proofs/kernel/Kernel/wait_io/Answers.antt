@@ -10,4 +10,4 @@ returns-in-Ok g c = rw (← c.self.view_is) (wait_found _ _ _ c.in-Ok.found
 
 pub returns-in-Err : goal.returns-in-Err
 returns-in-Err g c = rw (← c.self.view_is) (wait_refused _ _ _ c.in-Err.why (rw c.number-request.ensures at c.in-Err.ensures.alert)
-    c.in-Err.ensures.kept c.refused.ensures)
+    c.in-Err.ensures.kept c.refuse.ensures)

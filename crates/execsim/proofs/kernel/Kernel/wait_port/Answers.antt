@@ -12,4 +12,4 @@ returns-in-Ok g c = rw (← c.self.view_is) (wait_looked _ (call_view c.args.cal
 
 pub returns-in-Err : goal.returns-in-Err
 returns-in-Err g c = rw (← c.self.view_is) (wait_refused _ _ c.in-Err.why (rw c.number-port.ensures at c.in-Err.ensures.alert)
-    (rw (← c.self.view_is) at c.refused.ensures))
+    (rw (← c.self.view_is) at c.refuse.ensures))

@@ -21,9 +21,9 @@ invariant_of-self g c = (
 
 pub returns-clause-advances : goal.returns-clause-advances
 returns-clause-advances g c =
-    rw (← c.self.view_is) (advances_by c.advance-silent.ensures.steps c.advance-silent.ensures.within c.requires.good c.end.ensures)
+    rw (← c.self.view_is) (advances_by c.advance-silent.ensures.steps c.advance-silent.ensures.within c.requires.good c.steps_or_fault.ensures)
 
 pub returns-clause-time_left : goal.returns-clause-time_left
 returns-clause-time_left g c = λ whole ticks enough.
     time_stays c.advance-silent.ensures.steps (c.self.invariant.0 (ap (λ (x : Shown). x.failed) c.self.view_is ∙ c.requires.going)) (ap is_good c.requires.good)
-    (ap is_good (c.end.ensures.written.0 whole)) ticks (subst (λ (x : Shown). HasTimeFor ticks x.seen) (sym c.self.view_is) enough)
+    (ap is_good (c.steps_or_fault.ensures.written.0 whole)) ticks (subst (λ (x : Shown). HasTimeFor ticks x.seen) (sym c.self.view_is) enough)

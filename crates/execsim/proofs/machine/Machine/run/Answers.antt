@@ -19,10 +19,10 @@ pub invariant_of-self : goal.invariant_of-self
 invariant_of-self g c = (
   λ going. known_after_action (run_reached c.args.list.now)
       (c.self.invariant.0 (ap (λ (x : Shown). x.failed) c.self.view_is ∙ c.requires.going))
-      (while_good_then (while_good (ap is_good c.requires.good) c.start.ensures) c.events.ensures) (rw c.is_stopped-stopped.ensures at c.finish.ensures) going,
+      (while_good_then (while_good (ap is_good c.requires.good) c.start.ensures) c.events.ensures) (rw c.is_stopped-stopped.ensures at c.flow_or_fault.ensures) going,
   not_known,
 )
 
 pub returns : goal.returns
 returns g c = rw (← c.self.view_is) (acts_by (while_good_then (while_good (ap is_good c.requires.good) c.start.ensures) c.events.ensures) c.requires.good
-    (rw c.is_stopped-stopped.ensures at c.finish.ensures))
+    (rw c.is_stopped-stopped.ensures at c.flow_or_fault.ensures))

@@ -10,7 +10,7 @@ pub invariant_of-self : goal.invariant_of-self
 invariant_of-self g c = (
   λ going. known_after_action after_start (c.self.invariant.0 c.if-self.false)
       (while_good (ap is_good (c.requires (ap (λ (x : Shown). x.failed) (sym c.self.view_is) ∙ c.if-self.false))) c.start.ensures)
-      (rw c.is_stopped-stopped.ensures at c.finish.ensures) going,
+      (rw c.is_stopped-stopped.ensures at c.flow_or_fault.ensures) going,
   not_known,
 )
 
@@ -19,7 +19,7 @@ pub returns-clause-time_left : goal.returns-clause-time_left
 returns-clause-time_left g c = λ going whole ticks enough.
     time_after 0 start_gains after_start (c.self.invariant.0 c.if-self.false)
     (while_good (ap is_good (c.requires going)) c.start.ensures)
-    (rw c.is_stopped-stopped.ensures at c.finish.ensures) whole ticks
+    (rw c.is_stopped-stopped.ensures at c.flow_or_fault.ensures) whole ticks
     (let none : ticks ≡ 0 + ticks = omega arith in
     subst (λ (x : Shown). HasTimeFor (0 + ticks) x.seen) (sym c.self.view_is)
     (subst (λ (n : ℕ). HasTimeFor n c.args.self.now.seen) none enough))

@@ -1,13 +1,13 @@
 -- What is left stays linked to what lives.
 use Rattle.std.proofs.Common.{◌≡◌, ◌∙◌, List, Option, ap, Some, None, length, slice_set, length-set, ℕ, MatchOption}
-use Rattle.msgport.specs.Ports.{IsHeld, MessagePorts}
+use Rattle.msgport.specs.Ports.{KeepsPorts, MessagePorts}
 use Rattle.msgport.proofs.Linking.{taken_held}
 use Rattle.msgport.proofs.ports.Ports.get.Goals as goal
 
 -- the first message is taken out, if there is one
-taken_if : {lists : ℕ} {listings : List (Option ℕ)} {stores : ℕ} {holdings : List (Option ℕ)} {s : MessagePorts} (held : IsHeld lists listings stores holdings s)
+taken_if : {lists : ℕ} {listings : List (Option ℕ)} {stores : ℕ} {holdings : List (Option ℕ)} {s : MessagePorts} (held : KeepsPorts lists listings stores holdings s)
     (o : Option ℕ) (queues : List (List ℕ)) (places : List (Option ℕ)) → length queues ≡ length s.queues
-    → MatchOption o (places ≡ s.places) (λ n. places ≡ slice_set s.places n None) → IsHeld lists listings stores holdings (record s { queues = queues; places = places })
+    → MatchOption o (places ≡ s.places) (λ n. places ≡ slice_set s.places n None) → KeepsPorts lists listings stores holdings (record s { queues = queues; places = places })
 taken_if {lists} {listings} {stores} {holdings} {s} held None queues places each same = rw same (record {
   one_list = held.one_list;
   one_store = held.one_store;

@@ -6,5 +6,5 @@ use Rattle.msgport.proofs.ports.Ports.hold.Goals as goal
 
 pub add_tail-requires-clause-unlinked : goal.add_tail-requires-clause-unlinked
 add_tail-requires-clause-unlinked g c =
-    let loose = subst (λ (s : MessagePorts). IsTrue (not (is_linked c.args.m s))) (sym c.self.view_is) (loose_of c.args.m c.args.self.now (sym c.loose_fault.ensures ∙ c.in-None.is)) in
+    let loose = subst (λ (s : MessagePorts). IsTrue (not (is_linked c.args.m s))) (sym c.self.view_is) (loose_of c.args.m c.args.self.now (sym c.linked_fault.ensures ∙ c.in-None.is)) in
     not_in _ c.args.m _ c.self.invariant.one_store (λ h. g.met.S.ListSpace.stands c.self.inside.held h c.args.m) (neither _ _ loose).1

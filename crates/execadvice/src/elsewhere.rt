@@ -1,0 +1,617 @@
+//! Names of amiga.lib, of dos.library, of other systems and of other languages, with what has their place in a machine
+//! file, or why nothing has.
+
+/// How a task sleeps, is made, ends, and waits for another's end.
+const SLEEP: &str =
+    "SetIO r 9 SECONDS MICROSECONDS and then DoIO r, with a request of timer.device";
+
+const START_TIMER: &str =
+    "SetIO r 9 SECONDS MICROSECONDS and then SendIO r, with a request of timer.device";
+
+const NEW_TASK: &str = "a [[task]] table with start = false, and AddTask NUMBER";
+
+const END: &str = "RemTask 0, or nothing: the end of the code ends the task";
+
+const JOIN: &str = "Wait MASK, with a signal that the other task sends at its end";
+
+/// How a task lets another run.
+const YIELD: &str =
+    "me = FindTask 0 and then SetTaskPri me 0, which lets tasks of that priority run";
+
+/// How a task keeps others away.
+const ATTEMPT: &str = "x = AttemptSemaphore s";
+
+const NO_COUNT: &str =
+    "ReleaseSemaphore s in the task that obtained it; to wake another task, Signal TASK MASK";
+
+/// How one waits for a condition, and says that it holds.
+const CONDITION: &str = "ReleaseSemaphore s, then Wait MASK and then ObtainSemaphore s";
+
+const EACH_TASK: &str = "Signal TASK MASK for each task that waits";
+
+const WAIT_ONE: &str = "x = Wait MASK, with the bit of the signal that may come";
+
+const WAIT_ANY: &str = "x = Wait MASK, with the bits of all signals that may come";
+
+/// How system time is read.
+const READ_TIME: &str = "SetIO r 10 0 0 and then DoIO r; the time is in IOSecs r and IOMicros r";
+
+const RECEIVE: &str = "WaitPort p and then m = GetMsg p";
+
+const MEMORY: &str = "a = AllocMem SIZE 1";
+
+const CLEAR_MEMORY: &str = "a = AllocMem SIZE $10001, for MEMF_PUBLIC and MEMF_CLEAR";
+
+const FREE_MEMORY: &str = "FreeMem a SIZE";
+
+/// How a loop and a choice are written.
+const LOOP: &str = "a label, JumpZ x LABEL and Jump LABEL";
+
+const LOOP_END: &str = "JumpNZ x LABEL, with a label where the loop begins";
+
+const CHOICE: &str = "d = Sub x y and then JumpZ d LABEL, for each value y";
+
+const SIGN: &str =
+    "d = Sub x y, s = And d $80000000 and then JumpNZ s LABEL, which jumps if x is less than y";
+
+/// How a product is made.
+const PRODUCT: &str = "x = Add y y for twice y, and a loop for other products";
+
+/// How a critical part is begun and ended.
+const KEEP_OTHERS: &str = "Forbid, or Disable to keep interrupts out too";
+
+const LET_OTHERS: &str = "Permit, or Enable after Disable";
+
+/// Names of calls of amiga.lib, of dos.library and of other systems, that make, end and time tasks, and show numbers, each with what is written in their
+/// place.
+const CALLS: [(&str, &str); 92] = [
+    ("NewCreateTask", NEW_TASK),
+    ("CreateTaskTags", NEW_TASK),
+    ("CreateProcess", NEW_TASK),
+    ("task", "a [[task]] table of the file"),
+    ("StartTask", "AddTask NUMBER"),
+    ("KillTask", "RemTask NUMBER"),
+    ("SendMessage", "PutMsg p m"),
+    ("ReceiveMessage", RECEIVE),
+    ("WaitMessage", RECEIVE),
+    ("WaitPkt", RECEIVE),
+    ("LockSemaphore", "ObtainSemaphore s"),
+    ("UnlockSemaphore", "ReleaseSemaphore s"),
+    (
+        "CheckSignal",
+        "x = SetSignal 0 MASK, which clears the signals of the mask and returns those received",
+    ),
+    ("DoTimer", SLEEP),
+    ("OpenTimer", "e = OpenDevice \"timer.device\" 0 r"),
+    ("Schedule", YIELD),
+    ("CreateSem", "s = NewSem"),
+    ("AddMsgPort", "AddPort p \"NAME\" 0"),
+    ("FindMsgPort", "p = FindPort \"NAME\""),
+    ("DelPort", "DeleteMsgPort p"),
+    ("InsertHead", "AddHead l n"),
+    ("Log", "Print x"),
+    ("AddVBlankInt", "a [[server]] table with source = \"VERTB\""),
+    ("AddNode", "AddTail l n, AddHead l n or Enqueue l n"),
+    ("RemNode", "Remove n"),
+    ("AllocVecPooled", MEMORY),
+    ("AllocPooled", MEMORY),
+    ("FreePooled", FREE_MEMORY),
+    ("FreeVecPooled", FREE_MEMORY),
+    ("VPrintf", "Print x"),
+    ("FPrintf", "Print x"),
+    ("FPuts", "Print x"),
+    ("putchar", "Print x"),
+    ("cout", "Print x"),
+    ("println", "Print x"),
+    ("AddTOF", "a [[server]] table with source = \"VERTB\""),
+    ("nanosleep", SLEEP),
+    ("msleep", SLEEP),
+    ("delay_ms", SLEEP),
+    ("vTaskDelay", SLEEP),
+    ("alarm", START_TIMER),
+    ("setitimer", START_TIMER),
+    ("_exit", END),
+    ("abort", END),
+    ("pthread_exit", END),
+    ("xTaskCreate", NEW_TASK),
+    ("thread_create", NEW_TASK),
+    ("spawn", NEW_TASK),
+    ("pthread_join", JOIN),
+    ("join", JOIN),
+    ("waitpid", JOIN),
+    ("pthread_cancel", "RemTask NUMBER"),
+    ("getpid", "me = FindTask 0"),
+    ("gettid", "me = FindTask 0"),
+    ("pthread_self", "me = FindTask 0"),
+    ("setpriority", "old = SetTaskPri TASK PRIORITY"),
+    ("nice", "old = SetTaskPri TASK PRIORITY"),
+    ("vTaskPrioritySet", "old = SetTaskPri TASK PRIORITY"),
+    ("vTaskDelete", "RemTask NUMBER"),
+    ("vTaskDelayUntil", SLEEP),
+    ("taskYIELD", YIELD),
+    ("Thread", NEW_TASK),
+    ("CreateThread", NEW_TASK),
+    ("CreateNewProcTags", NEW_TASK),
+    ("ExitThread", END),
+    ("setTimeout", START_TIMER),
+    ("WaitSeconds", SLEEP),
+    ("kprintf", "Print x"),
+    ("KPutStr", "Print x"),
+    ("PutNum", "Print x"),
+    ("GetTaskNum", "me = FindTask 0"),
+    ("ThisTask", "me = FindTask 0"),
+    ("self", "me = FindTask 0"),
+    ("GetHead", "n = First l"),
+    ("GetTail", "n = Last l"),
+    ("GetFirst", "n = First l"),
+    ("GetLast", "n = Last l"),
+    ("GetSucc", "n = Succ n"),
+    ("GetNext", "n = Succ n"),
+    ("GetPred", "n = Pred n"),
+    ("RemFirst", "n = RemHead l"),
+    ("RemLast", "n = RemTail l"),
+    (
+        "IsListEmpty",
+        "n = First l, which is 0 if the list is empty",
+    ),
+    ("DeleteNode", "FreeNode n"),
+    ("DeleteList", "FreeList l"),
+    ("CreateList", "l = NewList"),
+    ("CreateNode", "n = NewNode 0 0"),
+    ("AppendNode", "AddTail l n"),
+    ("TaskDelete", "RemTask NUMBER"),
+    ("EndTask", "RemTask NUMBER"),
+    ("StopTask", "RemTask NUMBER"),
+    (
+        "GetTaskPri",
+        "old = SetTaskPri TASK PRIORITY, which returns the priority before",
+    ),
+];
+
+/// The same of calls that have to do with semaphores, signals, messages and memory.
+const LOCKS: [(&str, &str); 111] = [
+    ("pthread_mutex_init", "s = NewSem"),
+    ("mutex_init", "s = NewSem"),
+    ("sem_init", "s = NewSem"),
+    ("sem_wait", "ObtainSemaphore s"),
+    ("acquire", "ObtainSemaphore s"),
+    ("sem_post", NO_COUNT),
+    ("sem_trywait", ATTEMPT),
+    ("trylock", ATTEMPT),
+    ("mutex_trylock", ATTEMPT),
+    ("pthread_mutex_trylock", ATTEMPT),
+    ("sem_destroy", "FreeSem s"),
+    ("mutex_destroy", "FreeSem s"),
+    ("pthread_mutex_destroy", "FreeSem s"),
+    ("cond_wait", CONDITION),
+    ("pthread_cond_wait", CONDITION),
+    ("cond_signal", "Signal TASK MASK"),
+    ("pthread_cond_signal", "Signal TASK MASK"),
+    ("pthread_cond_broadcast", EACH_TASK),
+    ("notify_all", EACH_TASK),
+    ("notify", "Signal TASK MASK"),
+    (
+        "raise",
+        "Signal TASK MASK, with the number of the own task; there are no exceptions",
+    ),
+    ("pause", "x = Wait MASK"),
+    ("sigwait", "x = Wait MASK"),
+    ("WaitForSingleObject", WAIT_ONE),
+    ("select", WAIT_ANY),
+    ("poll", WAIT_ANY),
+    ("epoll_wait", WAIT_ANY),
+    ("time", READ_TIME),
+    ("clock", READ_TIME),
+    ("gettimeofday", READ_TIME),
+    ("clock_gettime", READ_TIME),
+    ("mq_open", "p = CreateMsgPort"),
+    ("pipe", "p = CreateMsgPort"),
+    ("send", "PutMsg p m"),
+    ("mq_send", "PutMsg p m"),
+    ("msgsnd", "PutMsg p m"),
+    ("recv", RECEIVE),
+    ("receive", RECEIVE),
+    ("mq_receive", RECEIVE),
+    ("msgrcv", RECEIVE),
+    ("calloc", CLEAR_MEMORY),
+    ("new", "a word that makes it, as NewList, NewNode or NewMsg"),
+    ("sched_yield", YIELD),
+    ("cli", "Disable"),
+    ("sti", "Enable"),
+    ("spin_lock", KEEP_OTHERS),
+    ("spin_unlock", LET_OTHERS),
+    ("taskENTER_CRITICAL", KEEP_OTHERS),
+    ("taskEXIT_CRITICAL", LET_OTHERS),
+    ("EnterCriticalSection", "ObtainSemaphore s"),
+    ("LeaveCriticalSection", "ReleaseSemaphore s"),
+    (
+        "synchronized",
+        "ObtainSemaphore s, and ReleaseSemaphore s at the end",
+    ),
+    ("xSemaphoreCreateMutex", "s = NewSem"),
+    ("CreateMutex", "s = NewSem"),
+    ("CreateSemaphore", "s = NewSem"),
+    ("xSemaphoreTake", "ObtainSemaphore s"),
+    ("xSemaphoreGive", NO_COUNT),
+    ("ReleaseMutex", "ReleaseSemaphore s"),
+    ("SetEvent", "Signal TASK MASK"),
+    ("ResetEvent", "SetSignal 0 MASK"),
+    ("CreateEvent", "x = AllocSignal -1"),
+    ("xTaskNotify", "Signal TASK MASK"),
+    ("xTaskNotifyGive", "Signal TASK MASK"),
+    ("ulTaskNotifyTake", "x = Wait MASK"),
+    ("WaitForMultipleObjects", WAIT_ANY),
+    ("WaitEvent", "x = Wait MASK"),
+    ("notifyAll", EACH_TASK),
+    ("xQueueCreate", "p = CreateMsgPort"),
+    ("xQueueSend", "PutMsg p m"),
+    ("xQueueReceive", RECEIVE),
+    ("PostMessage", "PutMsg p m"),
+    ("PostMsg", "PutMsg p m"),
+    ("ReplyMessage", "ReplyMsg m"),
+    ("PeekMsg", "m = WaitPort p, which leaves the message there"),
+    ("AllocMemClear", CLEAR_MEMORY),
+    ("AllocVecTags", MEMORY),
+    ("ObtainSemaphoreExclusive", "ObtainSemaphore s"),
+    ("WaitSem", "ObtainSemaphore s"),
+    ("WaitSemaphore", "ObtainSemaphore s"),
+    ("GetSem", "ObtainSemaphore s"),
+    ("TakeSem", "ObtainSemaphore s"),
+    ("GiveSem", "ReleaseSemaphore s"),
+    ("PutSem", "ReleaseSemaphore s"),
+    ("SignalSem", NO_COUNT),
+    ("PostSem", NO_COUNT),
+    ("DeleteSem", "FreeSem s"),
+    ("DeleteSemaphore", "FreeSem s"),
+    ("DestroySemaphore", "FreeSem s"),
+    ("DeleteMsg", "FreeMsg m"),
+    ("DeleteMessage", "FreeMsg m"),
+    ("FreePort", "DeleteMsgPort p"),
+    ("FreeMsgPort", "DeleteMsgPort p"),
+    ("RemMsgPort", "RemPort p"),
+    ("ClosePort", "DeleteMsgPort p"),
+    ("OpenPort", "p = FindPort \"NAME\""),
+    ("GetPort", "p = FindPort \"NAME\""),
+    ("MsgPort", "p = CreateMsgPort"),
+    ("FreeIORequest", "DeleteIORequest r"),
+    ("FreeRequest", "DeleteIORequest r"),
+    ("GetMsgWord", "x = MsgWord m"),
+    ("GetMsgType", "x = MsgType m"),
+    ("GetMessageWord", "x = MsgWord m"),
+    ("WaitTask", JOIN),
+    ("WaitTimer", "e = WaitIO r"),
+    ("WaitRequest", "e = WaitIO r"),
+    ("WaitTime", SLEEP),
+    ("WaitTicks", SLEEP),
+    ("WaitTick", SLEEP),
+    (
+        "CreateMessage",
+        "m = NewMsg p VALUE, with the reply port p or 0",
+    ),
+    (
+        "AllocMessage",
+        "m = NewMsg p VALUE, with the reply port p or 0",
+    ),
+    ("AllocMsg", "m = NewMsg p VALUE, with the reply port p or 0"),
+];
+
+/// Names of other languages and of assemblers, each with what is written in their place.
+const SIGNS: [(&str, &str); 84] = [
+    ("do", LOOP_END),
+    ("until", LOOP_END),
+    ("unless", "JumpNZ x LABEL"),
+    ("repeat", LOOP),
+    ("wend", "Jump LABEL, with a label where the loop begins"),
+    ("case", CHOICE),
+    ("elif", "JumpZ x LABEL"),
+    ("elseif", "JumpZ x LABEL"),
+    ("then", "JumpNZ x LABEL"),
+    ("default", "Jump LABEL"),
+    ("endif", "a label, to which the jumps go"),
+    (
+        "assert",
+        "JumpNZ x LABEL, past what is to be done if x is 0",
+    ),
+    ("ret", END),
+    ("mov", "x = Set VALUE"),
+    ("movea", "x = Set VALUE"),
+    ("lea", "x = Set VALUE: variables have no addresses"),
+    ("push", "x = Set y: there is no stack"),
+    ("pop", "y = Set x: there is no stack"),
+    ("movem", "x = Set y for each variable: there is no stack"),
+    ("swap", "t = Set x, x = Set y and then y = Set t"),
+    ("exg", "t = Set x, x = Set y and then y = Set t"),
+    ("addi", "x = Add x VALUE"),
+    ("subi", "x = Sub x VALUE"),
+    ("andi", "x = And x VALUE"),
+    ("ori", "x = Or x VALUE"),
+    ("mulu", PRODUCT),
+    ("muls", PRODUCT),
+    ("divu", "a loop of Sub"),
+    ("divs", "a loop of Sub"),
+    ("asl", "x = Add y y for each place"),
+    ("lsr", "a loop of Sub: there is no shift to the right"),
+    ("asr", "a loop of Sub: there is no shift to the right"),
+    ("Shr", "a loop of Sub: there is no shift to the right"),
+    ("bset", "x = Or x MASK, with $1000 as MASK for bit 12"),
+    ("bclr", "b = And x MASK and then x = Sub x b"),
+    (
+        "btst",
+        "b = And x MASK and then JumpZ b LABEL or JumpNZ b LABEL",
+    ),
+    ("blt", SIGN),
+    ("bgt", SIGN),
+    ("ble", SIGN),
+    ("bge", SIGN),
+    ("bmi", SIGN),
+    ("bpl", SIGN),
+    ("bcs", SIGN),
+    ("bcc", SIGN),
+    ("bhi", SIGN),
+    ("bls", SIGN),
+    ("JumpLT", SIGN),
+    ("JumpGT", SIGN),
+    ("JumpLE", SIGN),
+    ("JumpGE", SIGN),
+    ("JumpN", SIGN),
+    ("JumpNeg", SIGN),
+    ("jg", SIGN),
+    ("jge", SIGN),
+    ("jl", SIGN),
+    ("jle", SIGN),
+    ("ja", SIGN),
+    ("jb", SIGN),
+    ("dbf", "x = Sub x 1 and then JumpNZ x LABEL"),
+    ("jz", "JumpZ x LABEL"),
+    ("je", "JumpZ x LABEL"),
+    ("jne", "JumpNZ x LABEL"),
+    ("jnz", "JumpNZ x LABEL"),
+    ("Label", "NAME: alone, with its colon"),
+    ("JumpZero", "JumpZ x LABEL"),
+    ("JumpIfZero", "JumpZ x LABEL"),
+    ("BranchZ", "JumpZ x LABEL"),
+    ("JumpNotZero", "JumpNZ x LABEL"),
+    ("JumpIfNotZero", "JumpNZ x LABEL"),
+    ("BranchNZ", "JumpNZ x LABEL"),
+    ("CALLEXEC", "the call by its name alone, as Forbid"),
+    ("CALLSYS", "the call by its name alone, as Forbid"),
+    ("LINKLIB", "the call by its name alone, as Forbid"),
+    ("match", CHOICE),
+    ("sal", "x = Add y y for each place"),
+    ("sar", "a loop of Sub: there is no shift to the right"),
+    ("imul", PRODUCT),
+    ("mult", PRODUCT),
+    ("Multiply", PRODUCT),
+    ("idiv", "a loop of Sub"),
+    ("Divide", "a loop of Sub"),
+    ("dbne", "x = Sub x 1 and then JumpNZ x LABEL"),
+    ("peek", "x = MsgWord m, which reads the word of a message"),
+    (
+        "poke",
+        "SetMsgWord m VALUE, which sets the word of a message",
+    ),
+];
+
+const NO_FILES: &str = "there are no files";
+
+const NO_INPUT: &str =
+    "nothing is read while a program runs; x = Set NUMBER gives a variable its number";
+
+const NO_CHANCE: &str = "there are no random numbers; x = Set NUMBER";
+
+const NO_TEXTS: &str = "there are no texts, but names of tasks, ports, nodes and the like";
+
+const NO_BYTES: &str = "what is in a block is not shown; a message has one word, MsgWord m";
+
+const NO_PROGRAMS: &str = "there are no programs to start; each task is a [[task]] table";
+
+const NO_PACKETS: &str = "there are no packets of dos.library; PutMsg and WaitPort have messages";
+
+const NO_POOLS: &str = "there are no pools; AllocMem takes memory, and FreeMem frees it";
+
+const NO_HANDLERS: &str = "there are no handlers of signals; x = Wait MASK waits for one";
+
+const NO_DATA: &str = "there is no data but numbers in variables; x = Set NUMBER";
+
+const NOT_NEEDED: &str = "nothing is declared; all words are known";
+
+const NO_CLASSES: &str = "there are no functions and no classes; a task is a [[task]] table";
+
+const NO_EXCEPTIONS: &str = "there are no exceptions; a call answers, and JumpZ x LABEL asks for 0";
+
+const KERNEL: &str = "the kernel does it itself, after a call or an interrupt";
+
+const COMMENT: &str = "a comment is written after the closing quote, behind #";
+
+const NO_ASSEMBLER: &str = "there is no assembler; a line is a word with its arguments";
+
+const NO_GRAPHICS: &str = "there is Exec alone, with timer.device";
+
+const NO_SUSPENDING: &str =
+    "no task stops another; x = Wait MASK stops the own one until a signal comes";
+
+/// Names of calls of amiga.lib, of dos.library and of C whose place nothing has, each with the reason, or with what serves.
+const LACKED: [(&str, &str); 53] = [
+    (
+        "Open",
+        "there are no files; OpenLibrary and OpenDevice open a library and a device",
+    ),
+    (
+        "Close",
+        "there are no files; CloseLibrary b and CloseDevice r close a library and a device",
+    ),
+    ("Read", NO_FILES),
+    ("Write", "there are no files; Print x shows a number"),
+    ("Seek", NO_FILES),
+    ("Input", NO_INPUT),
+    ("Output", "there are no files; Print x shows a number"),
+    (
+        "IoErr",
+        "there are no files; IOError r is the error of a request",
+    ),
+    ("DeleteFile", NO_FILES),
+    ("AllocDosObject", NO_FILES),
+    ("LoadSeg", NO_PROGRAMS),
+    ("UnLoadSeg", NO_PROGRAMS),
+    ("Execute", NO_PROGRAMS),
+    ("RunCommand", NO_PROGRAMS),
+    ("SystemTagList", NO_PROGRAMS),
+    ("system", NO_PROGRAMS),
+    ("execve", NO_PROGRAMS),
+    ("DoPkt", NO_PACKETS),
+    ("SendPkt", NO_PACKETS),
+    ("ReplyPkt", NO_PACKETS),
+    ("ReadArgs", NO_INPUT),
+    ("FGetC", NO_INPUT),
+    ("FGets", NO_INPUT),
+    ("WaitForChar", NO_INPUT),
+    ("getchar", NO_INPUT),
+    ("gets", NO_INPUT),
+    ("scanf", NO_INPUT),
+    (
+        "DateStamp",
+        "there is no date; the time is read by SetIO r 10 0 0 and then DoIO r",
+    ),
+    ("CreatePool", NO_POOLS),
+    ("DeletePool", NO_POOLS),
+    (
+        "AddMemHandler",
+        "there are no handlers of low memory; in version 2 libraries are expunged",
+    ),
+    ("Dispatch", KERNEL),
+    ("Exception", KERNEL),
+    ("ExitIntr", KERNEL),
+    ("RemTOF", "a server of a [[server]] table stays"),
+    ("fopen", NO_FILES),
+    ("fclose", NO_FILES),
+    ("fread", NO_FILES),
+    ("fwrite", NO_FILES),
+    ("mmap", "AllocMem takes memory from the regions alone"),
+    ("sbrk", "AllocMem takes memory from the regions alone"),
+    (
+        "realloc",
+        "a block keeps its size; AllocMem takes another one",
+    ),
+    ("Examine", NO_FILES),
+    ("CurrentDir", NO_FILES),
+    ("ioctl", NO_FILES),
+    ("SetIoErr", NO_FILES),
+    ("PrintFault", "there are no files; Print x shows a number"),
+    ("perror", "there are no files; Print x shows a number"),
+    ("SystemTags", NO_PROGRAMS),
+    ("execl", NO_PROGRAMS),
+    ("vTaskSuspend", NO_SUSPENDING),
+    ("vTaskResume", NO_SUSPENDING),
+    ("SuspendThread", NO_SUSPENDING),
+];
+
+/// The same of other calls of C, and of words of other languages.
+const LACKED_SIGNS: [(&str, &str); 61] = [
+    ("memcpy", NO_BYTES),
+    ("memset", NO_BYTES),
+    ("memmove", NO_BYTES),
+    ("strcpy", NO_TEXTS),
+    ("strcmp", NO_TEXTS),
+    ("strlen", NO_TEXTS),
+    ("sprintf", NO_TEXTS),
+    ("rand", NO_CHANCE),
+    ("random", NO_CHANCE),
+    ("srand", NO_CHANCE),
+    ("rnd", NO_CHANCE),
+    ("randint", NO_CHANCE),
+    ("FastRand", NO_CHANCE),
+    ("RangeRand", NO_CHANCE),
+    ("sigaction", NO_HANDLERS),
+    ("errno", "a call answers by its own result, as e = DoIO r"),
+    ("sizeof", "a word that makes an object takes no size"),
+    ("main", "the code of each task begins at its first line"),
+    (
+        "socket",
+        "there is no network; p = CreateMsgPort makes a port",
+    ),
+    ("dc", NO_DATA),
+    ("ds", NO_DATA),
+    ("data", NO_DATA),
+    ("equ", NO_DATA),
+    ("define", NO_DATA),
+    ("section", NOT_NEEDED),
+    ("xref", NOT_NEEDED),
+    ("xdef", NOT_NEEDED),
+    ("extern", NOT_NEEDED),
+    ("from", NOT_NEEDED),
+    ("using", NOT_NEEDED),
+    (
+        "global",
+        "a shared variable has @ before its name, and is not declared",
+    ),
+    ("class", NO_CLASSES),
+    ("lambda", NO_CLASSES),
+    ("try", NO_EXCEPTIONS),
+    ("except", NO_EXCEPTIONS),
+    ("catch", NO_EXCEPTIONS),
+    ("throw", NO_EXCEPTIONS),
+    ("trap", "there are no traps"),
+    ("asm", NO_ASSEMBLER),
+    ("__asm", NO_ASSEMBLER),
+    ("rte", "the end of the code of an interrupt ends it"),
+    ("REM", COMMENT),
+    ("**", COMMENT),
+    ("*", COMMENT),
+    ("'", COMMENT),
+    ("--", COMMENT),
+    ("macro", "there are no macros; each line is a command"),
+    ("include_once", NOT_NEEDED),
+    ("typedef", NOT_NEEDED),
+    ("enum", NOT_NEEDED),
+    ("fn", NO_CLASSES),
+    ("raise_error", NO_EXCEPTIONS),
+    ("OpenScreen", NO_GRAPHICS),
+    ("OpenWindow", NO_GRAPHICS),
+    ("WritePixel", NO_GRAPHICS),
+    ("ReadPixel", NO_GRAPHICS),
+    ("CloseWindow", NO_GRAPHICS),
+    ("DisplayBeep", NO_GRAPHICS),
+    ("WaitBlit", NO_GRAPHICS),
+    ("OwnBlitter", NO_GRAPHICS),
+    ("AllocRaster", NO_GRAPHICS),
+];
+
+/// The second part of the row of a name, in whatever case.
+pub(crate) fn row_of(rows: &[(&'static str, &'static str)], name: &str) -> Option<&'static str> {
+    Some(rows.iter().find(|row| name.eq_ignore_ascii_case(row.0))?.1)
+}
+
+/// The second part of the row of a name, or else what another table has.
+fn place_in(
+    rows: &[(&'static str, &'static str)],
+    name: &str,
+    other: Option<&'static str>,
+) -> Option<&'static str> {
+    match row_of(rows, name) {
+        Some(text) => Some(text),
+        None => other,
+    }
+}
+
+/// What has the place of a name in capital letters that is another one in small letters.
+pub(crate) fn place_of_capitals(name: &str) -> Option<&'static str> {
+    match name {
+        "NEXT" => Some(LOOP_END),
+        "PAUSE" => Some(SLEEP),
+        "SELECT" => Some(CHOICE),
+        "Lock" => Some("s = NewSem for a new semaphore, and ObtainSemaphore s to have it"),
+        "P" => Some("ObtainSemaphore s for a semaphore, or Print x to show a number"),
+        "V" => Some("ReleaseSemaphore s"),
+        _ => None,
+    }
+}
+
+/// What has the place of a name of another system or language, as text.
+pub(crate) fn place_elsewhere(name: &str) -> Option<&'static str> {
+    place_in(&CALLS, name, place_in(&LOCKS, name, row_of(&SIGNS, name)))
+}
+
+/// Why nothing has the place of a name of another system or language.
+pub(crate) fn lack_elsewhere(name: &str) -> Option<&'static str> {
+    place_in(&LACKED, name, row_of(&LACKED_SIGNS, name))
+}

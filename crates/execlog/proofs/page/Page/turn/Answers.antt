@@ -1,6 +1,0 @@
--- Nothing is put yet.
-use Rattle.exectrace.proofs.Pieces.{adds_none}
-use Rattle.execlog.proofs.page.Page.turn.Goals as goal
-
-pub returns-else-self : goal.returns-else-self
-returns-else-self g c = adds_none _ _

@@ -1,6 +1,0 @@
--- The proof of `Kernel::alerted`: the call of task t is refused: it changes nothing, and the machine stops for good.
-use Rattle.execsim.proofs.Endings.{follows_alerted}
-use Rattle.execsim.proofs.kernel.Kernel.alerted.Goals as goal
-
-pub returns : goal.returns
-returns g c = follows_alerted _ _ _ c.stop.ensures (rw c.name-by.ensures at c.hear.ensures)

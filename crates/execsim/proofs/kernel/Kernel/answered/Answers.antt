@@ -1,6 +1,0 @@
--- The proof of `Kernel::answered`: the call answers, into its target if it has one, and task t goes on.
-use Rattle.execsim.proofs.Endings.{follows_answered}
-use Rattle.execsim.proofs.kernel.Kernel.answered.Goals as goal
-
-pub returns : goal.returns
-returns g c = follows_answered _ _ _ c.store.ensures c.go_on.ensures c.say.ensures

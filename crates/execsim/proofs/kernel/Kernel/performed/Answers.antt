@@ -1,7 +1,0 @@
--- The proof of `Kernel::performed`: a call that puts a message, of a task or of a body: what is to be done for it is done, or the call is
--- refused by its alert.
-use Rattle.execsim.proofs.Porting.{performed_done}
-use Rattle.execsim.proofs.kernel.Kernel.performed.Goals as goal
-
-pub returns-in-Ok : goal.returns-in-Ok
-returns-in-Ok g c = rw c.in-Ok.is (performed_done _ _ _ c.perform.ensures c.done_by.ensures)

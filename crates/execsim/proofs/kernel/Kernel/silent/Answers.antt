@@ -1,6 +1,0 @@
--- The proof of `Kernel::silent`: a word that is no call of Exec answers, and prints nothing.
-use Rattle.execsim.proofs.Endings.{quietly_silent}
-use Rattle.execsim.proofs.kernel.Kernel.silent.Goals as goal
-
-pub returns : goal.returns
-returns g c = quietly_silent _ _ _ c.store.ensures c.go_on.ensures

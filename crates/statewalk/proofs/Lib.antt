@@ -1,0 +1,2 @@
+-- The lemma files of `statewalk`.
+pub mod Among
