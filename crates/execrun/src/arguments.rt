@@ -6,18 +6,17 @@ ghost use Rattle.execrun.specs.Ending.{status_of};
 use crate::command_line::not_text_error;
 use crate::ending::{Ending, Status, report};
 use crate::fault::Fault;
-use crate::paged::Paged;
-use crate::running::run;
+use crate::paged::{Page, Paged};
+use crate::running::run_by;
+use crate::texts::SystemTexts;
+use crate::tracing::ByPage;
 use std::alloc::Global;
 use std::env::Env;
-use std::io::{BufWriter, ErrorKind, Write};
+use std::io::{ErrorKind, Write};
 use std::rt::Files;
 use std::{env, io};
 
-/// How many bytes are kept before they are handed to standard output.
-const OUTPUT_BUFFER: usize = 65_536;
-
-/// Runs the program on the process's arguments, with a buffer before `out`.
+/// Runs the program on the process's arguments, with a page before `out`.
 ///
 /// # Errors
 ///
@@ -33,10 +32,10 @@ fn run_buffered<R: Env + Files + AllocGlobal, W: Write + Drop, E: Write>(
     let alloc = rt.alloc();
     let arguments: Vec<String> = env::args(rt)?.skip(1).collect(alloc)?;
     let words: Vec<&str> = arguments.iter().map(String::as_str).collect(alloc)?;
-    let mut out = Paged::new(BufWriter::with_capacity(alloc, OUTPUT_BUFFER, out)?);
-    let status = run(rt, alloc, &words, &mut out, err);
+    let mut out = Paged::new(Page::new(alloc)?, out);
+    let status = run_by::<_, _, _, ByPage>(&SystemTexts(rt), alloc, &words, &mut out, err);
     // All was flushed by now, or a write failed: what is left then is not handed over once more.
-    let _unwritten = out.into_inner().into_parts();
+    let _writer = out.into_inner();
     Ok(status)
 }
 

@@ -1,4 +1,5 @@
 //! A std writer that is lent to code which knows it as a writer alone.
+use exectrace::{PagedWrite, Text};
 use std::io;
 use std::io::Write;
 
@@ -25,5 +26,12 @@ impl<W: Write> Write for Lent<'_, W> {
 
     fn flush(&mut self) -> io::Result<()> {
         self.out.flush()
+    }
+}
+
+impl<W: PagedWrite> PagedWrite for Lent<'_, W> {
+    #[inline(always)]
+    fn take_text<T: Text>(&mut self, text: &T) -> bool {
+        self.out.take_text(text)
     }
 }

@@ -10,6 +10,7 @@ mod lent;
 mod paged;
 mod running;
 mod texts;
+mod tracing;
 mod unread;
 
 pub use arguments::run_on_arguments;

@@ -1,92 +1,80 @@
 //! A page before a writer, in which short writes are gathered.
-ghost use Rattle.std.specs.Prelude.{◌≡◌, ◌+◌, ◌≤◌, [], ◌++◌, drop, length, take, true, false, IfSome, IfNone};
+ghost use Rattle.std.specs.Prelude.{◌≡◌, ◌+◌, ◌≤◌, [], ◌++◌, drop, length, take, true, false, IfOk, IfSome, IfNone};
 ghost use Rattle.std.specs.Io.KnownBytes.{Appends, Keeps, append_known};
 
+use exectrace::{PagedWrite, ROOM, Text};
+use std::alloc::{AllocError, Global};
 use std::io;
 use std::io::{ErrorKind, Write};
 use std::marker::Model;
 
-/// How many bytes a page has. A page is less than half of what is kept before standard output, so that it is kept there whole.
-const PAGE: usize = 4_096;
+/// How many bytes a page has.
+const PAGE: usize = 65_536;
 
 /// Bytes that a writer was not yet handed.
 #[derive(Drop)]
-struct Page {
-    cells: [u8; PAGE],
+pub struct Page {
+    cells: Vec<u8>,
     len: usize,
 }
 
 impl Model for Page {
-    ghost use Rattle.std.specs.Prelude.{ℕ, List, ◌≤◌, take};
+    ghost use Rattle.std.specs.Prelude.{ℕ, List, ◌≤◌, length, take};
 
     ghost Value = { List ℕ };
 
-    ghost view = { λ p. take p.len p.cells };
+    ghost view = { λ p. take p.len p.cells.items };
 
-    ghost invariant = { λ p. p.len ≤ 4096 };
+    ghost invariant = { λ p. p.len ≤ length p.cells.items };
 }
 
 /// Writes bytes over the cells from a place on.
-#[inline(always)]
-fn write_at(cells: &mut [u8; PAGE], at: usize, bytes: &[u8])
-    requires { at + length bytes.now ≤ PAGE }
+fn write_at(cells: &mut [u8], at: usize, bytes: &[u8])
+    requires { at + length bytes.now ≤ length cells.old }
     ensures { take (at + length bytes.now) cells.new ≡ take at cells.old ++ bytes.now }
 {
     cells[at..at + bytes.len()].copy_from_slice(bytes);
 }
 
-/// Writes bytes, as many as that width, over the cells from a place on. All are read before the first is written, so that nothing
-/// asks at run time whether they overlap.
+/// Writes a text over the first of 160 cells, if it is found to fit. The answer is how long it is.
 #[inline(always)]
-fn write_block<const WIDTH: usize>(cells: &mut [u8; PAGE], at: usize, bytes: &[u8])
-    requires room { at + WIDTH ≤ PAGE }
-    requires whole { length bytes.now ≡ WIDTH }
-    ensures { take (at + length bytes.now) cells.new ≡ take at cells.old ++ bytes.now }
+fn fill<T: Text>(room: &mut [u8], text: &T) -> Option<usize>
+    requires { length room.old ≡ 160 }
+    ensures { IfSome result (λ n. (n ≤ 160) × (take n room.new ≡ T.bytes text.now)) }
 {
-    if let Ok(block) = <[u8; WIDTH]>::try_from(bytes) {
-        write_at(cells, at, &block);
+    let Some(cells) = room.as_mut_array::<ROOM>() else {
+        unreachable!()
+    };
+    text.fill(cells)
+}
+
+/// Writes a text over the cells from a place on, if 160 are left there, and it is found to fit them. The answer is where it ends.
+#[inline(always)]
+fn fill_at<T: Text>(cells: &mut [u8], at: usize, text: &T) -> Option<usize>
+    requires { at ≤ length cells.old }
+    ensures filled { IfSome result (λ end. (end ≤ length cells.old) × (take end cells.new ≡ take at cells.old ++ T.bytes text.now)) }
+    ensures before { take at cells.new ≡ take at cells.old }
+{
+    if cells.len() - at < ROOM {
+        return None;
     }
-}
-
-/// Writes bytes over the cells from a place on, by the first of them and by the last ones, of that width.
-#[inline(always)]
-fn write_ends<const WIDTH: usize>(cells: &mut [u8; PAGE], at: usize, bytes: &[u8])
-    requires room { at + length bytes.now ≤ PAGE }
-    requires wide { WIDTH ≤ length bytes.now }
-    requires narrow { length bytes.now ≤ WIDTH + WIDTH }
-    ensures { take (at + length bytes.now) cells.new ≡ take at cells.old ++ bytes.now }
-{
-    let rest = bytes.len() - WIDTH;
-    write_block::<WIDTH>(cells, at, &bytes[..WIDTH]);
-    write_block::<WIDTH>(cells, at + rest, &bytes[rest..]);
-}
-
-/// Writes a line of 8 to 64 bytes over the cells from a place on, in two moves of one width, which may overlap.
-#[inline(always)]
-fn write_line(cells: &mut [u8; PAGE], at: usize, line: &[u8])
-    requires room { at + length line.now ≤ PAGE }
-    requires long { 8 ≤ length line.now }
-    requires short { length line.now ≤ 64 }
-    ensures { take (at + length line.now) cells.new ≡ take at cells.old ++ line.now }
-{
-    if line.len() > 32 {
-        write_ends::<32>(cells, at, line);
-    } else if line.len() > 16 {
-        write_ends::<16>(cells, at, line);
-    } else {
-        write_ends::<8>(cells, at, line);
+    match fill(&mut cells[at..at + ROOM], text) {
+        Some(count) => Some(at + count),
+        None => None,
     }
 }
 
 impl Page {
-    /// An empty page.
-    fn new() -> Self
-        ensures { result ≡ [] }
+    /// An empty page, or an error if memory is refused.
+    ///
+    /// Source: project rule.
+    pub(crate) fn new(alloc: Global) -> Result<Self, AllocError>
+        ensures { IfOk result (λ page. page ≡ []) }
     {
-        Page {
-            cells: [0; PAGE],
+        Ok(Page {
+            cells: vec![in alloc; 0; PAGE]?,
             len: 0,
-        }
+        })
     }
 
     /// The bytes on the page.
@@ -102,27 +90,28 @@ impl Page {
         ensures kept { result ≡ false → self.new ≡ self.old }
     {
         let len = self.len;
-        if bytes.len() > PAGE - len {
+        if bytes.len() > self.cells.len() - len {
             return false;
         }
-        write_at(&mut self.cells, len, bytes);
+        write_at(self.cells.as_mut_slice(), len, bytes);
         self.len = len + bytes.len();
         true
     }
 
-    /// Adds a line of 8 to 64 bytes, as most have, if there is room for it, and answers whether it did.
+    /// Adds a text, if 160 cells are left, and it is found to fit them. The answer is whether it was added.
     #[inline(always)]
-    fn add_line(&mut self, line: &[u8]) -> bool
-        ensures added { result ≡ true → self.new ≡ self.old ++ line.now }
+    fn add_text<T: Text>(&mut self, text: &T) -> bool
+        ensures added { result ≡ true → self.new ≡ self.old ++ T.bytes text.now }
         ensures kept { result ≡ false → self.new ≡ self.old }
     {
         let len = self.len;
-        if line.len() > PAGE - len || line.len() < 8 || line.len() > 64 {
-            return false;
+        match fill_at(self.cells.as_mut_slice(), len, text) {
+            Some(end) => {
+                self.len = end;
+                true
+            }
+            None => false,
         }
-        write_line(&mut self.cells, len, line);
-        self.len = len + line.len();
-        true
     }
 
     /// Takes that many bytes off the front of the page, which has as many.
@@ -159,16 +148,13 @@ fn write_out<W: Write>(bytes: &[u8], out: &mut W) -> usize
 }
 
 impl<W: Write> Paged<W> {
-    /// A writer with an empty page before it. It takes no memory.
+    /// A writer with a page before it. It takes no memory.
     ///
     /// Source: project rule.
-    pub fn new(writer: W) -> Self
-        ensures { ⟦<Paged<W> as Write>⟧.contents result ≡ append_known (W.contents writer) [] }
+    pub fn new(page: Page, writer: W) -> Self
+        ensures { ⟦<Paged<W> as Write>⟧.contents result ≡ append_known (W.contents writer) page }
     {
-        Paged {
-            page: Page::new(),
-            writer,
-        }
+        Paged { page, writer }
     }
 
     /// The writer. What is still on the page is not handed to it any more.
@@ -194,9 +180,8 @@ impl<W: Write> Paged<W> {
         self.page.as_slice().is_empty()
     }
 
-    /// Adds bytes of any length to the page. If they have no room there, hands the page over, and then the bytes. Answers how many of
-    /// these were taken, or none if a write failed.
-    #[cold]
+    /// Adds bytes of any length to the page. If they have no room there, hands the page over first, and then bytes that are longer than a
+    /// page too. Answers how many of these were taken, or none if a write failed.
     #[inline(never)]
     fn write_any(&mut self, bytes: &[u8]) -> Option<usize>
         ensures within { IfSome result (λ n. n ≤ length bytes.now) }
@@ -211,6 +196,9 @@ impl<W: Write> Paged<W> {
         if !self.hand_over() {
             return None;
         }
+        if self.page.add(bytes) {
+            return Some(bytes.len());
+        }
         match self.writer.write(bytes) {
             Ok(count) => Some(count),
             Err(_) => None,
@@ -223,11 +211,7 @@ impl<W: Write> Write for Paged<W> {
 
     ghost contents = { λ p. append_known (W.contents p.writer) p.page };
 
-    #[inline(always)]
     fn write(&mut self, buf: &[u8]) -> io::Result<usize> {
-        if self.page.add_line(buf) {
-            return Ok(buf.len());
-        }
         match self.write_any(buf) {
             Some(count) => Ok(count),
             None => Err(io::Error::from(ErrorKind::Other)),
@@ -239,5 +223,12 @@ impl<W: Write> Write for Paged<W> {
             return Err(io::Error::from(ErrorKind::Other));
         }
         self.writer.flush()
+    }
+}
+
+impl<W: Write> PagedWrite for Paged<W> {
+    #[inline(always)]
+    fn take_text<T: Text>(&mut self, text: &T) -> bool {
+        self.page.add_text(text)
     }
 }

@@ -3,64 +3,23 @@ ghost use Rattle.std.specs.Prelude.{◌≡◌, ◌≢◌, ◌≤◌, ◌⊎◌};
 ghost use Rattle.std.specs.Io.KnownBytes.{Keeps};
 ghost use Rattle.clap.specs.Walk.{texts as words_of};
 ghost use Rattle.clap.specs.Words.{kind_of};
-ghost use Rattle.execrun.specs.Running.{EndsRun, Grows, IsOneOf, ReadsNothing, RunsFiles, RunsWords, WritesTrace, WritesWhole, answer_of};
+ghost use Rattle.execrun.specs.Running.{EndsRun, Grows, IsOneOf, ReadsNothing, RunsFiles, RunsWords, WritesWhole};
 ghost use Rattle.execrun.specs.{CommandLine.AreRefused, CommandLine.AreRight, CommandLine.AskForHelp, CommandLine.two_paths, Ending.status_of, Texts.nothing_told};
 
 use crate::command_line::{Paths, paths_given, write_answer};
 use crate::ending::{Ending, Status, report};
 use crate::fault::Fault;
 use crate::files::text_or_fault;
-use crate::lent::Lent;
 use crate::texts::{SystemTexts, Texts};
+use crate::tracing::{ByLine, Tracing};
 use clap::error::ErrorKind;
-use execsim::{End, SimFault, simulate};
-use exectrace::WriteSink;
+use execsim::End;
 use std::alloc::Global;
 use std::io::Write;
 use std::rt::Files;
 
-/// The program's answer, by that of the simulator, and by whether all could be flushed after it.
-fn answer<'a>(ended: Result<End, SimFault>, flushed: bool) -> Result<End, Fault<'a>>
-    ensures { result ≡ answer_of ended flushed }
-{
-    match ended {
-        Err(fault) => Err(Fault::from(fault)),
-        Ok(end) => {
-            if flushed {
-                Ok(end)
-            } else {
-                Err(Fault::WriteFailed)
-            }
-        }
-    }
-}
-
-/// Simulates the machine of one text under the events of another, and writes the trace to its last byte.
-///
-/// # Errors
-///
-/// The simulator's fault, and otherwise `WriteFailed` if what was written cannot be flushed. What was written before a fault
-/// is flushed too.
-fn write_trace<'a, W: Write>(
-    alloc: Global,
-    machine: &[u8],
-    events: &[u8],
-    out: &mut W,
-) -> Result<End, Fault<'a>>
-    ensures { WritesTrace machine.now events.now (W.contents out.old) (W.contents out.new) result }
-{
-    let mut sink = WriteSink::new(Lent { out: &mut *out });
-    let ended = simulate(alloc, machine, events, &mut sink);
-    let mut lent = sink.into_inner();
-    let flushed = lent.flush().is_ok();
-    // No effect at run time. The proof reads what `out` holds from this use of the loan.
-    let Lent { out: loan } = lent;
-    let _ = &*loan;
-    answer(ended, flushed)
-}
-
 /// Reads the machine file, and then the event text, and writes the trace of their run. Nothing is judged before both are read.
-fn simulate_files<'a, T: Texts, W: Write>(
+fn simulate_files<'a, T: Texts, W: Write, P: Tracing<W>>(
     texts: &T,
     alloc: Global,
     paths: Paths<'a>,
@@ -71,7 +30,7 @@ fn simulate_files<'a, T: Texts, W: Write>(
 {
     let machine = text_or_fault(texts, alloc, paths.machine)?;
     let events = text_or_fault(texts, alloc, paths.events)?;
-    write_trace(alloc, &machine, &events, out)
+    P::write_trace(alloc, &machine, &events, out)
 }
 
 /// The end of a run whose command line gave no paths.
@@ -99,7 +58,7 @@ fn ending_without_paths<'a, W: Write>(alloc: Global, error: clap::Error, out: &m
 }
 
 /// Does what the words ask for, and says how the program ends.
-fn ending_of<'a, T: Texts, W: Write>(
+fn ending_of<'a, T: Texts, W: Write, P: Tracing<W>>(
     texts: &T,
     alloc: Global,
     words: &'a [&'a str],
@@ -114,9 +73,35 @@ fn ending_of<'a, T: Texts, W: Write>(
     ensures untouched { status_of result ≡ Status.CommandLineRefused → out.new ≡ out.old }
 {
     match paths_given(alloc, words) {
-        Ok(paths) => Ending::from(simulate_files(texts, alloc, paths, out)),
+        Ok(paths) => Ending::from(simulate_files::<T, W, P>(texts, alloc, paths, out)),
         Err(error) => ending_without_paths(alloc, error, out),
     }
+}
+
+/// Runs the program over any texts on the words of its command line, without its own name, and answers the status with which it
+/// ends. The trace is written in that way.
+///
+/// The trace, or the help, goes to `out`, and is flushed. What went wrong goes to `err`, where a write that fails changes nothing.
+pub(crate) fn run_by<T: Texts, W: Write, E: Write, P: Tracing<W>>(
+    texts: &T,
+    alloc: Global,
+    words: &[&str],
+    out: &mut W,
+    err: &mut E,
+) -> u8
+    ensures status { result ≤ 4 }
+    ensures right { AreRight two_paths (words_of words.now) → result ≢ 2 }
+    // A command line is also refused when out of memory, with 4.
+    ensures refused { AreRefused two_paths (words_of words.now) → (result ≡ 2) ⊎ (result ≡ 4) }
+    ensures runs { AreRight two_paths (words_of words.now) → EndsRun (T.text_at texts.now) (words_of words.now) (W.contents out.old) (W.contents out.new) result }
+    ensures ran { AreRight two_paths (words_of words.now) → result ≡ 0 → WritesWhole (T.text_at texts.now) (words_of words.now) (W.contents out.old) (W.contents out.new) End.Ran }
+    ensures alerted { AreRight two_paths (words_of words.now) → result ≡ 3 → WritesWhole (T.text_at texts.now) (words_of words.now) (W.contents out.old) (W.contents out.new) End.Alerted }
+    ensures refused_text { AreRight two_paths (words_of words.now) → result ≡ 1 → Keeps (W.contents out.old) (W.contents out.new) }
+    ensures help { AskForHelp two_paths (words_of words.now) → ((result ≡ 0) × Grows (W.contents out.old) (W.contents out.new)) ⊎ (result ≡ 4) }
+    ensures silent { (result ≡ 0) ⊎ (result ≡ 3) → err.new ≡ err.old }
+    ensures untouched { result ≡ 2 → out.new ≡ out.old }
+{
+    report(&ending_of::<T, W, P>(texts, alloc, words, out), err).code()
 }
 
 /// Runs the program over any texts on the words of its command line, without its own name, and answers the status with which it
@@ -142,7 +127,7 @@ pub fn run_on_texts<T: Texts, W: Write, E: Write>(
     ensures silent { (result ≡ 0) ⊎ (result ≡ 3) → err.new ≡ err.old }
     ensures untouched { result ≡ 2 → out.new ≡ out.old }
 {
-    report(&ending_of(texts, alloc, words, out), err).code()
+    run_by::<T, W, E, ByLine>(texts, alloc, words, out, err)
 }
 
 /// Runs the program over the system's files on the words of its command line, without its own name, and answers the status with

@@ -134,3 +134,11 @@ flat_map_mapped_more f g xs i d h =
 -- the texts of one element more
 pub flat_map_mapped_next : {X Y A : Type 0} (f : Y → List A) (g : X → Y) (xs : List X) (i : ℕ) (d : X) → i < length xs → get_or xs i d ≡ d → flat_map f (map g (take (i + 1) xs)) ≡ flat_map f (map g (take i xs)) ++ f (g d)
 flat_map_mapped_next f g xs i d h e = flat_map_mapped_more f g xs i d h ∙ ap (λ z. flat_map f (map g (take i xs)) ++ f (g z)) e
+
+-- nothing was done before
+pub puts_still : {a b c : Tape} {bytes : List ℕ} → b ≡ a → Puts b c bytes → Puts a c bytes
+puts_still {a} {b} {c} {bytes} still p = subst (λ (t : Tape). Puts t c bytes) still p
+
+-- a good sink took all
+pub puts_taken : {a b : Tape} (bytes : List ℕ) → a.state ≡ Good → TakesAll a b bytes → Puts a b bytes
+puts_taken bytes good all = record { while_good = λ _. inl all; afterwards = λ bad. absurd (bad good) }

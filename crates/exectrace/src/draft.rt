@@ -2,10 +2,8 @@
 //! that no loop runs.
 ghost use Rattle.std.specs.Prelude.{◌≡◌, ◌+◌, ◌*◌, ◌≤◌, ◌↔◌, [], ◌++◌, length, take, IsOk, OnOk, OnErr};
 
+use crate::cells::ROOM;
 use std::marker::Model;
-
-/// How many bytes the longest line has of which one argument is quoted.
-pub(crate) const ROOM: usize = 160;
 
 /// A text has no room in a line that is being built.
 #[derive(Clone, Copy)]
@@ -32,7 +30,7 @@ impl<'a> Model for Draft<'a> {
 
 /// Writes a text over the cells from a place on.
 #[inline(always)]
-fn write_at(cells: &mut [u8; ROOM], at: usize, text: &[u8])
+pub(crate) fn write_at(cells: &mut [u8; ROOM], at: usize, text: &[u8])
     requires { at + length text.now ≤ ROOM }
     ensures { take (at + length text.now) cells.new ≡ take at cells.old ++ text.now }
 {
@@ -67,7 +65,7 @@ fn write_ends<const WIDTH: usize>(cells: &mut [u8; ROOM], at: usize, text: &[u8]
 
 /// Writes a text of at most 32 bytes over the cells from a place on: a name, or a word.
 #[inline(always)]
-fn write_short(cells: &mut [u8; ROOM], at: usize, text: &[u8])
+pub(crate) fn write_short(cells: &mut [u8; ROOM], at: usize, text: &[u8])
     requires room { at + length text.now ≤ ROOM }
     requires short { length text.now ≤ 32 }
     ensures { take (at + length text.now) cells.new ≡ take at cells.old ++ text.now }
@@ -123,35 +121,6 @@ impl<'a> Draft<'a> {
         ensures { self.new.items ≡ [] }
     {
         self.len = 0;
-    }
-
-    /// How many bytes are built.
-    #[inline(always)]
-    pub(crate) fn len(&self) -> usize
-        ensures { result ≡ length self.now.items }
-    {
-        self.len
-    }
-
-    /// Adds a part whose length is fixed, and which has room.
-    #[inline(always)]
-    pub(crate) fn part(&mut self, part: &[u8])
-        requires { length self.old.items + length part.now ≤ 160 }
-        ensures { self.new.items ≡ self.old.items ++ part.now }
-    {
-        write_at(&mut *self.cells, self.len, part);
-        self.len += part.len();
-    }
-
-    /// Adds a text of at most 32 bytes, which has room.
-    #[inline(always)]
-    pub(crate) fn text(&mut self, text: &[u8])
-        requires room { length self.old.items + length text.now ≤ 160 }
-        requires short { length text.now ≤ 32 }
-        ensures { self.new.items ≡ self.old.items ++ text.now }
-    {
-        write_short(&mut *self.cells, self.len, text);
-        self.len += text.len();
     }
 
     /// Adds a part whose length is fixed, or nothing if it has no room.

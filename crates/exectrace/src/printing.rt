@@ -2,64 +2,16 @@
 //!
 //! Each `put` writes to a good sink, and does nothing on one that is not good: the sink's own state remembers that a
 //! write failed, so one call can follow another with no test between, and `written` reports at the end.
-ghost use Rattle.std.specs.Prelude.{◌≡◌, ◌<◌, ◌≤◌, ◌/◌, ◌%◌, [], IsTrue, length, map, codes, ◌++◌, flat_map};
-ghost use Rattle.exectrace.specs.Trace.{printed_line, value_text, hex_digit, quoted_count, Switch, Idle, Call, Serve, Timer, Server, Softint, Alert, Value, Quoted, argument_text, outcome_text};
+ghost use Rattle.std.specs.Prelude.{◌≡◌, ◌≤◌, true, false, length, map, codes, ◌++◌, flat_map};
+ghost use Rattle.exectrace.specs.Trace.{printed_line, value_text, quoted_count, Switch, Idle, Call, Serve, Timer, Server, Softint, Alert, Value, Quoted, argument_text, outcome_text};
 ghost use Rattle.exectrace.specs.{Sink.Adds, Sink.Puts, Sink.Writes, Shown.shown, Shown.shown_argument, Shown.shown_outcome, Shown.shown_call, Short.short_argument, declared.sinks.SinkState.SinkState};
 
-use crate::draft::{Draft, ROOM};
+use crate::cells::{ROOM, Text};
+use crate::draft::Draft;
 use crate::lines::{Arg, CallLine, CallOutcome, Line, Name, ShortArg};
 use crate::sinks::{Sink, WriteFault, put, put_here, written};
-
-/// The two digits of each number below 256.
-const PAIRS: &[u8; 512] =
-    b"000102030405060708090A0B0C0D0E0F101112131415161718191A1B1C1D1E1F202122232425262728292A2B2C2D2E2F303132333435363738393A3B3C3D3E3F404142434445464748494A4B4C4D4E4F505152535455565758595A5B5C5D5E5F606162636465666768696A6B6C6D6E6F707172737475767778797A7B7C7D7E7F808182838485868788898A8B8C8D8E8F909192939495969798999A9B9C9D9E9FA0A1A2A3A4A5A6A7A8A9AAABACADAEAFB0B1B2B3B4B5B6B7B8B9BABBBCBDBEBFC0C1C2C3C4C5C6C7C8C9CACBCCCDCECFD0D1D2D3D4D5D6D7D8D9DADBDCDDDEDFE0E1E2E3E4E5E6E7E8E9EAEBECEDEEEFF0F1F2F3F4F5F6F7F8F9FAFBFCFDFEFF";
-
-/// The digit of the high half of a number below 256.
-fn high_digit(n: u32) -> u8
-    requires { n < 256 }
-    ensures { result ≡ hex_digit (n / 16) }
-{
-    PAIRS[2 * n as usize]
-}
-
-/// The digit of the low half of a number below 256.
-fn low_digit(n: u32) -> u8
-    requires { n < 256 }
-    ensures { result ≡ hex_digit (n % 16) }
-{
-    PAIRS[2 * n as usize + 1]
-}
-
-/// `$` and eight digits.
-fn value_digits(n: u32) -> [u8; 9]
-    ensures { result ≡ value_text n }
-{
-    let [first, second, third, fourth] = [
-        n / 0x100_0000,
-        n / 0x1_0000 % 256,
-        n / 0x100 % 256,
-        n % 256,
-    ];
-    [
-        b'$',
-        high_digit(first),
-        low_digit(first),
-        high_digit(second),
-        low_digit(second),
-        high_digit(third),
-        low_digit(third),
-        high_digit(fourth),
-        low_digit(fourth),
-    ]
-}
-
-/// A space, `$` and eight digits.
-fn spaced_digits(n: u32) -> [u8; 10]
-    ensures { result ≡ codes " " ++ value_text n }
-{
-    let [dollar, a, b, c, d, e, f, g, h] = value_digits(n);
-    [b' ', dollar, a, b, c, d, e, f, g, h]
-}
+use crate::values::{answer_end, spaced_digits, value_digits};
+use crate::whole::{Between, ShortCall};
 
 /// Adds a part of fixed length to the line. What does not fit its room is handed over at once.
 #[inline(always)]
@@ -115,12 +67,33 @@ fn hand_over<W: Sink>(line: &Draft, out: &mut W)
     put(line.as_slice(), out);
 }
 
-/// Does what `hand_over` does, where it is called.
-#[inline(always)]
-fn hand_over_here<W: Sink>(line: &Draft, out: &mut W)
-    ensures { Puts (W.tape out.old) (W.tape out.new) line.now.items }
+/// Puts a text that is not taken at once: into cells of the stack, and from there in one piece, if it is found to fit them. The answer is
+/// whether it is.
+#[inline(never)]
+fn put_copied<T: Text, W: Sink>(text: &T, out: &mut W) -> bool
+    ensures put { result ≡ true → Puts (W.tape out.old) (W.tape out.new) (T.bytes text.now) }
+    ensures left { result ≡ false → W.tape out.new ≡ W.tape out.old }
 {
-    put_here(line.as_slice(), out);
+    let mut cells = [0; ROOM];
+    match text.fill(&mut cells) {
+        Some(count) => {
+            put_here(&cells[..count], out);
+            true
+        }
+        None => false,
+    }
+}
+
+/// Puts a text into cells that the sink lends, or else from cells of the stack, if it is found to fit them. The answer is whether it is.
+#[inline(always)]
+fn put_whole<T: Text, W: Sink>(text: &T, out: &mut W) -> bool
+    ensures put { result ≡ true → Puts (W.tape out.old) (W.tape out.new) (T.bytes text.now) }
+    ensures left { result ≡ false → W.tape out.new ≡ W.tape out.old }
+{
+    if out.take_text(text) {
+        return true;
+    }
+    put_copied(text, out)
 }
 
 /// Puts a text between two others, all of which may have no room in one piece.
@@ -137,31 +110,17 @@ fn put_long_between<W: Sink>(before: &[u8], text: &[u8], after: &[u8], out: &mut
     hand_over(&line, out);
 }
 
-/// Builds a line of three texts, if they are short. The answer is whether they are.
-#[inline(always)]
-fn try_between(line: &mut Draft, before: &[u8], text: &[u8], after: &[u8]) -> bool
-    requires { line.old.items ≡ [] }
-    ensures { IsTrue result → line.new.items ≡ before.now ++ text.now ++ after.now }
-{
-    if before.len() > 32 || text.len() > 32 || after.len() > 32 {
-        return false;
-    }
-    line.part(before);
-    line.text(text);
-    line.part(after);
-    true
-}
-
 /// Puts a text between two others, of fixed length.
 #[inline(always)]
 fn put_between<W: Sink>(before: &[u8], text: &[u8], after: &[u8], out: &mut W)
     ensures { Puts (W.tape out.old) (W.tape out.new) (before.now ++ text.now ++ after.now) }
 {
-    let mut cells = [0; ROOM];
-    let mut line = Draft::new(&mut cells);
-    if try_between(&mut line, before, text, after) {
-        hand_over_here(&line, out);
-    } else {
+    let between = Between {
+        before,
+        text,
+        after,
+    };
+    if !put_whole(&between, out) {
         put_long_between(before, text, after, out);
     }
 }
@@ -238,16 +197,6 @@ fn add_short_arguments<W: Sink>(
     }
 }
 
-/// How the line of a call that answers ends.
-fn answer_end(n: u32) -> [u8; 14]
-    ensures { result ≡ codes " -> " ++ value_text n ++ codes "\n" }
-{
-    let [dollar, a, b, c, d, e, f, g, h] = value_digits(n);
-    [
-        b' ', b'-', b'>', b' ', dollar, a, b, c, d, e, f, g, h, b'\n',
-    ]
-}
-
 /// Adds the answer and the line feed.
 #[inline(always)]
 fn add_answer<W: Sink>(line: &mut Draft, n: u32, out: &mut W)
@@ -278,123 +227,6 @@ fn add_end<W: Sink>(line: &mut Draft, outcome: CallOutcome, out: &mut W)
         CallOutcome::Answers(n) => add_answer(line, n, out),
         CallOutcome::Waits => add(line, b" waits\n", out),
     }
-}
-
-// ---- a line that has room, as mostly
-
-/// Begins a line by a name, a space and a word, if it has room. The answer is whether it has; then there is room for an
-/// end too.
-#[inline(always)]
-fn try_head(line: &mut Draft, name: &Name, word: &str) -> bool
-    requires empty { line.old.items ≡ [] }
-    ensures added { IsTrue result → line.new.items ≡ name.now.bytes ++ codes " " ++ word.now }
-    ensures room { IsTrue result → length line.new.items ≤ 146 }
-{
-    if word.len() > 32 {
-        return false;
-    }
-    line.text(name.as_str().as_bytes());
-    line.part(b" ");
-    line.text(word.as_bytes());
-    true
-}
-
-/// Adds a space and the name between double quotes, if there is room for it and for an end. The answer is whether there
-/// is.
-#[inline(always)]
-fn try_quoted(line: &mut Draft, name: &Name) -> bool
-    requires { length line.old.items ≤ 146 }
-    ensures added { IsTrue result → line.new.items ≡ line.old.items ++ argument_text (Quoted name.now.bytes) }
-    ensures room { IsTrue result → length line.new.items ≤ 146 }
-{
-    if line.len() > 112 {
-        return false;
-    }
-    line.part(b" \"");
-    line.text(name.as_str().as_bytes());
-    line.part(b"\"");
-    true
-}
-
-/// Adds a space and the word, if there is room for it and for an end. The answer is whether there is.
-#[inline(always)]
-fn try_value(line: &mut Draft, n: u32) -> bool
-    requires { length line.old.items ≤ 146 }
-    ensures added { IsTrue result → line.new.items ≡ line.old.items ++ argument_text (Value n) }
-    ensures room { IsTrue result → length line.new.items ≤ 146 }
-{
-    if line.len() > 136 {
-        return false;
-    }
-    line.part(&spaced_digits(n));
-    true
-}
-
-/// Adds a space and the argument, which is that name if it is quoted, if there is room for it and for an end. The
-/// answer is whether there is.
-#[inline(always)]
-fn try_short(line: &mut Draft, argument: &ShortArg, quoted: &Name) -> bool
-    requires { length line.old.items ≤ 146 }
-    ensures added { IsTrue result → line.new.items ≡ line.old.items ++ argument_text (short_argument quoted.now.bytes argument.now) }
-    ensures room { IsTrue result → length line.new.items ≤ 146 }
-{
-    match argument {
-        ShortArg::Value(n) => try_value(line, *n),
-        ShortArg::Quoted => try_quoted(line, quoted),
-    }
-}
-
-/// Adds the arguments, if there is room for them and for an end. The answer is whether there is.
-#[inline(always)]
-fn try_arguments(line: &mut Draft, arguments: &[ShortArg], quoted: &Name) -> bool
-    requires { length line.old.items ≤ 146 }
-    ensures added { IsTrue result → line.new.items ≡ line.old.items
-        ++ flat_map argument_text (map (short_argument quoted.now.bytes) arguments.now) }
-    ensures room { IsTrue result → length line.new.items ≤ 146 }
-{
-    for argument in arguments {
-        if !try_short(line, argument, quoted) {
-            return false;
-        }
-    }
-    true
-}
-
-/// Adds how a call ended, and the line feed, which have room.
-#[inline(always)]
-fn end_line(line: &mut Draft, outcome: CallOutcome)
-    requires { length line.old.items ≤ 146 }
-    ensures { line.new.items ≡ line.old.items ++ outcome_text (shown_outcome outcome) ++ codes "\n" }
-{
-    match outcome {
-        CallOutcome::Done => line.part(b"\n"),
-        CallOutcome::Answers(n) => line.part(&answer_end(n)),
-        CallOutcome::Waits => line.part(b" waits\n"),
-    }
-}
-
-/// Builds the line of a call, if it has room. The answer is whether it has.
-#[inline(always)]
-fn try_call(
-    line: &mut Draft,
-    name: &Name,
-    word: &str,
-    arguments: &[ShortArg],
-    quoted: &Name,
-    outcome: CallOutcome,
-) -> bool
-    requires { line.old.items ≡ [] }
-    ensures { IsTrue result → line.new.items
-        ≡ printed_line (Call name.now.bytes word.now (map (short_argument quoted.now.bytes) arguments.now) (shown_outcome outcome)) }
-{
-    if !try_head(line, name, word) {
-        return false;
-    }
-    if !try_arguments(line, arguments, quoted) {
-        return false;
-    }
-    end_line(line, outcome);
-    true
 }
 
 // ---- the lines
@@ -476,11 +308,14 @@ pub fn put_short_call<W: Sink>(
     ensures { Puts (W.tape out.old) (W.tape out.new)
         (printed_line (Call name.now.bytes word.now (map (short_argument quoted.now.bytes) arguments.now) (shown_outcome outcome))) }
 {
-    let mut cells = [0; ROOM];
-    let mut line = Draft::new(&mut cells);
-    if try_call(&mut line, name, word, arguments, quoted, outcome) {
-        hand_over_here(&line, out);
-    } else {
+    let call = ShortCall {
+        by: name,
+        word,
+        arguments,
+        quoted,
+        ends: outcome,
+    };
+    if !put_whole(&call, out) {
         put_long_call(name, word, arguments, quoted, outcome, out);
     }
 }

@@ -1,8 +1,9 @@
 //! What takes bytes, and how all bytes of a text are handed over.
 //! Nothing here allocates; what a std writer takes for itself is its own.
-ghost use Rattle.std.specs.Prelude.{◌≡◌, ◌≢◌, ℕ, ◌↔◌, IsTrue, IsOk, ◌<◌, ◌≤◌, List, length, Option};
+ghost use Rattle.std.specs.Prelude.{◌≡◌, ◌≢◌, ℕ, ◌↔◌, true, false, IsTrue, IsOk, ◌<◌, ◌≤◌, List, length, Option};
 ghost use Rattle.exectrace.specs.{Sink.empties, Sink.Tape, Sink.Takes, Sink.Puts, Sink.Writes, declared.sinks.SinkState.SinkState};
 
+use crate::cells::Text;
 use std::io::Write;
 use thiserror::Error;
 
@@ -54,6 +55,16 @@ pub trait Sink {
     /// How the last writes went.
     fn state(&self) -> SinkState
         ensures { result ≡ (tape self.now).state };
+
+    /// Takes a text into cells of its own: if it is good, has 160 of them left, and the text is found to fit. The answer is whether it did;
+    /// if not, nothing was taken. A sink that has no such cells does not write this call.
+    #[inline(always)]
+    fn take_text<T: Text>(&mut self, _text: &T) -> bool
+        ensures taken { result ≡ true → Puts (tape self.old) (tape self.new) (T.bytes _text.now) }
+        ensures left { result ≡ false → tape self.new ≡ tape self.old }
+    {
+        false
+    }
 }
 
 /// A sink over a std writer.

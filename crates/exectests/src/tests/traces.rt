@@ -1,10 +1,10 @@
 //! Each kind of line in its text, and writers that take little, take nothing or fail.
 use super::comparing::same;
-use exectrace::printing::{put_idle, put_line, put_short_call};
+use exectrace::printing::{put_idle, put_line, put_serve, put_short_call, put_switch, put_timer};
 use exectrace::sinks::written;
 use exectrace::{
-    Arg, Arguments, CallLine, CallOutcome, Line, Name, ShortArg, Sink, SinkState, WriteFault,
-    WriteSink, emit,
+    Arg, Arguments, CallLine, CallOutcome, Line, Name, PageSink, PagedWrite, ROOM, ShortArg, Sink,
+    SinkState, Text, WriteFault, WriteSink, emit,
 };
 use std::alloc::Global;
 use std::io;
@@ -190,6 +190,40 @@ impl Write for Fickle {
     }
 }
 
+/// A writer that lends cells that many times, and counts the calls that hand it bytes.
+#[derive(Drop)]
+struct Lending {
+    held: Vec<u8>,
+    loans: usize,
+    calls: usize,
+}
+
+impl Write for Lending {
+    fn write(&mut self, buf: &[u8]) -> io::Result<usize> {
+        self.calls = self.calls.saturating_add(1);
+        self.held.extend_from_slice(buf)?;
+        Ok(buf.len())
+    }
+
+    fn flush(&mut self) -> io::Result<()> {
+        Ok(())
+    }
+}
+
+impl PagedWrite for Lending {
+    fn take_text<T: Text>(&mut self, text: &T) -> bool {
+        if self.loans == 0 {
+            return false;
+        }
+        self.loans -= 1;
+        let mut cells = [0; ROOM];
+        match text.fill(&mut cells) {
+            Some(count) => self.held.extend_from_slice(&cells[..count]).is_ok(),
+            None => false,
+        }
+    }
+}
+
 /// Emits a line to a good sink over a writer. What is answered, how the sink then is, and the writer.
 fn emitted<W: Write>(
     rt: &impl Abort,
@@ -345,4 +379,23 @@ fn a_call_whose_name_stands_beside_its_arguments_has_the_same_text(rt: HostRunti
     same(&rt, "short", 0, written(&out), Ok(()));
     let held = out.into_inner();
     same(&rt, "short", 1, held.as_slice(), OPENING_TEXT.as_bytes());
+}
+
+#[test]
+fn lines_go_into_cells_that_are_lent_and_else_by_calls(rt: HostRuntime) {
+    for loans in 0..4 {
+        let mut out = PageSink::new(Lending {
+            held: Vec::new(rt.alloc()),
+            loans,
+            calls: 0,
+        });
+        put_switch(&name("a"), &mut out);
+        put_serve("VERTB", &mut out);
+        put_timer(0x1028, &mut out);
+        same(&rt, "written", loans, written(&out), Ok(()));
+        let writer = out.into_inner();
+        let text = b"switch a\nserve VERTB\ntimer $00001028\n";
+        same(&rt, "text", loans, writer.held.as_slice(), text.as_slice());
+        same(&rt, "calls", loans, writer.calls, 3 - loans);
+    }
 }

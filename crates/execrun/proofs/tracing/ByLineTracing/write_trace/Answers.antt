@@ -1,7 +1,7 @@
--- The proof of `write_trace`: simulates the machine of one text under the events of another, and writes the trace to its last byte.
+-- The proof of `ByLine::write_trace`: writes each line of the trace by a call of the writer.
 use Rattle.std.proofs.Common.{rules}
 use Rattle.execrun.proofs.LentLemmas.{writes_trace}
-use Rattle.execrun.proofs.running.write_trace.Goals as goal
+use Rattle.execrun.proofs.tracing.ByLineTracing.write_trace.Goals as goal
 
 -- the loan that comes back is the one that was made, so what the sink took is in `out`
 pub returns : goal.returns

@@ -1,10 +1,10 @@
--- The proof of `run_on_texts`: runs the program over any texts on the words of its command line, without its own name, and answers the
+-- The proof of `run_by`: runs the program over any texts on the words of its command line, without its own name, and answers the
 -- status with which it ends.
 use Rattle.std.proofs.Common.{◌∙◌, ap}
 use Rattle.clap.specs.Walk.{texts}
 use Rattle.execrun.specs.Ending.{code_of}
 use Rattle.execrun.proofs.RunLemmas.{ends_run, kept_at_refused, whole_at_alerted, whole_at_done}
-use Rattle.execrun.proofs.running.run_on_texts.Goals as goal
+use Rattle.execrun.proofs.running.run_by.Goals as goal
 
 pub returns-clause-ran : goal.returns-clause-ran
 returns-clause-ran g c right =
