@@ -1,5 +1,5 @@
 //! A page before a writer, in which short writes are gathered.
-ghost use Rattle.std.specs.Prelude.{◌≡◌, ◌+◌, ◌≤◌, [], ◌++◌, drop, length, take, true, false, IfOk, IfSome, IfNone};
+ghost use Rattle.std.specs.Prelude.{◌≡◌, ◌+◌, ◌-◌, ◌≤◌, [], ◌++◌, drop, length, take, true, false, IfOk, IfSome, IfNone};
 ghost use Rattle.std.specs.Io.KnownBytes.{Appends, Keeps, append_known};
 
 use exectrace::{PagedWrite, ROOM, Text};
@@ -34,6 +34,16 @@ fn write_at(cells: &mut [u8], at: usize, bytes: &[u8])
     ensures { take (at + length bytes.now) cells.new ≡ take at cells.old ++ bytes.now }
 {
     cells[at..at + bytes.len()].copy_from_slice(bytes);
+}
+
+/// Moves the bytes from a place on to the front, in the first cells.
+fn move_front(cells: &mut [u8], len: usize, count: usize)
+    requires within { len ≤ length cells.old }
+    requires few { count ≤ len }
+    ensures moved { take (len - count) cells.new ≡ drop count (take len cells.old) }
+    ensures length { length cells.new ≡ length cells.old }
+{
+    cells[..len].copy_within(count..len, 0);
 }
 
 /// Writes a text over the first of 160 cells, if it is found to fit. The answer is how long it is.
@@ -120,7 +130,7 @@ impl Page {
         ensures { self.new ≡ drop count self.old }
     {
         let len = self.len;
-        self.cells[..len].copy_within(count..len, 0);
+        move_front(self.cells.as_mut_slice(), len, count);
         self.len = len - count;
     }
 }
