@@ -6,10 +6,10 @@
  * to 16 that divides its size. What a program keeps is all in its machines, so calls in several threads need not wait for one another if each has a
  * machine of its own; a machine stays in the thread that opened it. No call is to be made from a signal handler.
  *
- * Proved is what execsim_run, execsim_open, execsim_events and execsim_take hand out, what execsim_view, execsim_task and execsim_at_end show, what
- * execsim_feed makes of a machine, and that execsim_check refuses exactly what is refused and does not pass over an alert. Tested is what execsim_log,
- * execsim_state, execsim_picture, execsim_chrome, execsim_explore and execsim_way put into the buffer: it is compared with what the commands write;
- * and names, blocks and other findings. */
+ * Proved is what execsim_run, execsim_open, execsim_events and execsim_take hand out, what execsim_view, execsim_task, execsim_request,
+ * execsim_message and execsim_at_end show, what execsim_feed and execsim_add_task make of a machine, and that execsim_check refuses exactly what is
+ * refused and does not pass over an alert. Tested is what execsim_log, execsim_state, execsim_picture, execsim_chrome, execsim_explore and
+ * execsim_way put into the buffer: it is compared with what the commands write; and names, blocks and other findings. */
 #ifndef EXECSIM_H
 #define EXECSIM_H
 
@@ -207,6 +207,28 @@ uint32_t execsim_view(execsim_machine *machine, execsim_machine_view *view);
 uint32_t execsim_task(execsim_machine *machine, size_t task, execsim_task_view *view);
 uint32_t execsim_block(execsim_machine *machine, uint32_t address, execsim_block_view *view);
 
+/* What is seen of a timer request. */
+typedef struct {
+    uint32_t reply_port; /* the address of its reply port */
+    uint32_t state;      /* 0 never begun, 1 in progress, 2 finished at once, 3 replied */
+    uint32_t unit;       /* the unit that it is open for, or EXECSIM_NO_UNIT */
+    uint32_t command;
+    uint32_t seconds;    /* its time */
+    uint32_t micros;
+    int32_t error;       /* 0, or why it failed */
+    uint32_t quick;      /* 1 if IOF_QUICK is set in its flags */
+} execsim_request_view;
+
+#define EXECSIM_NO_UNIT UINT32_MAX
+
+/* Puts what is seen of the timer request that begins at an address into *view. EXECSIM_RAN: it is there. EXECSIM_NOT_THERE: no request begins there;
+ * EXECSIM_NO_MACHINE: there is none; *view is as it was then. */
+uint32_t execsim_request(execsim_machine *machine, uint32_t address, execsim_request_view *view);
+
+/* Puts the address of the message, or request, after another one in a port into *message, or of the first one if after is 0, in order of arrival; 0 at the
+ * end, and if no port begins at the address or it does not have that message. EXECSIM_RAN: it is there. EXECSIM_NO_MACHINE: there is no machine. */
+uint32_t execsim_message(execsim_machine *machine, uint32_t port, uint32_t after, uint32_t *message);
+
 /* Puts the name of a task into a buffer: *length bytes, without a 0. EXECSIM_TOO_LONG if it has more than the buffer, which is as it was; at most 31. */
 uint32_t execsim_task_name(execsim_machine *machine, size_t task, uint8_t *out, size_t out_length, uint64_t *length);
 
@@ -221,6 +243,19 @@ uint32_t execsim_task_name(execsim_machine *machine, size_t task, uint8_t *out, 
  * EXECSIM_RAN: it is fed. Otherwise the machine is as it was. EXECSIM_MACHINE_REFUSED: it is no such line. EXECSIM_NOT_THERE: there is no such task.
  * EXECSIM_NO_MEMORY: memory was refused. EXECSIM_NO_MACHINE: there is no machine. */
 uint32_t execsim_feed(execsim_machine *machine, size_t task, const uint8_t *line, size_t line_length);
+
+/* Adds a task after the others, and puts its number in *task. It is one that a machine file has as its last, with `start = false` and no lines: it was
+ * never added, until the word AddTask adds it, by its number there, one more than *task; its lines are fed to it. Nothing else changes. The run is that of
+ * the machine file that has it from the start: that is proved. No event takes memory; this does.
+ *
+ * name, name_length   the bytes of its name, which need not end with a 0, and how many they are. A machine file refuses two tasks, servers or software
+ *                     interrupts of one name; this call does not
+ * priority            from -128 to 127
+ *
+ * EXECSIM_RAN: it is there. Otherwise the machine is as it was. EXECSIM_MACHINE_REFUSED: a machine file has no such name or priority.
+ * EXECSIM_ALERTED: an alert has stopped the machine. EXECSIM_TOO_MANY: it has 4,096 tasks; a machine file has at most 64.
+ * EXECSIM_NO_MEMORY: memory was refused. EXECSIM_NO_MACHINE: there is no machine. */
+uint32_t execsim_add_task(execsim_machine *machine, const uint8_t *name, size_t name_length, int32_t priority, uint64_t *task);
 
 /* Puts the task that the next step finds at the end of its body in *task, or EXECSIM_NO_TASK for none: it runs, no software interrupt runs first, it waits
  * in no call, and none of its lines is left. That step ends the task, unless it is fed before; so who has more lines for it feeds them now.

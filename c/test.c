@@ -312,6 +312,64 @@ static void feed(void) {
     execsim_close(&machine);
 }
 
+/* A task that is added to a machine, and fed its lines, runs as one that the file has. */
+static void add(void) {
+    static const char *file = "[[task]]\nname = \"a\"\ncode = [\"Print 1\", \"AddTask 2\", \"Wait $1000\"]\n";
+    static const char *lines[] = {"Print 2", "Signal 1 $1000"};
+    execsim_machine machine = EXECSIM_NO_MACHINE_YET;
+    execsim_task_view view;
+    uint64_t task = 7;
+    uint8_t name[31];
+    uint64_t length = 0;
+    count("no machine to add to", execsim_add_task(&machine, (const uint8_t *)"b", 1, 1, &task) == EXECSIM_NO_MACHINE && task == 7);
+    count("a machine to add to", open_text(&machine, file) == EXECSIM_RAN && do_text(&machine, "run 1") == EXECSIM_RAN);
+    count("names and priorities that are refused",
+          execsim_add_task(&machine, (const uint8_t *)"", 0, 1, &task) == EXECSIM_MACHINE_REFUSED &&
+              execsim_add_task(&machine, (const uint8_t *)"a b", 3, 1, &task) == EXECSIM_MACHINE_REFUSED &&
+              execsim_add_task(&machine, (const uint8_t *)"abcdefghijklmnopqrstuvwxyz012345", 32, 1, &task) == EXECSIM_MACHINE_REFUSED &&
+              execsim_add_task(&machine, (const uint8_t *)"b", 1, 128, &task) == EXECSIM_MACHINE_REFUSED &&
+              execsim_add_task(&machine, (const uint8_t *)"b", 1, -129, &task) == EXECSIM_MACHINE_REFUSED && task == 7);
+    count("a task is added", execsim_add_task(&machine, (const uint8_t *)"b", 1, 1, &task) == EXECSIM_RAN && task == 1);
+    count("it is absent", execsim_task(&machine, 1, &view) == EXECSIM_RAN && view.state == EXECSIM_TASK_ABSENT && view.priority == 1 && view.place == 0);
+    count("its name", execsim_task_name(&machine, 1, name, sizeof name, &length) == EXECSIM_RAN && length == 1 && *name == 'b');
+    for (size_t i = 0; i < 2; i++)
+        count("a line of it", execsim_feed(&machine, 1, (const uint8_t *)lines[i], strlen(lines[i])) == EXECSIM_RAN);
+    count("the lines of the whole",
+          do_text(&machine, "run 9") == EXECSIM_RAN &&
+              has_lines(&machine, "switch a\na Print $00000001\na AddTask $00000002\nswitch b\nb Print $00000002\nb Signal $00000001 $00001000\n"
+                                  "b RemTask $00000000\nswitch a\na Wait $00001000 -> $00001000\na RemTask $00000000\nidle\n"));
+    execsim_close(&machine);
+    count("an alert", open_text(&machine, "[[task]]\nname = \"a\"\ncode = [\"Signal 7 1\"]\n") == EXECSIM_RAN && do_text(&machine, "run 1") == EXECSIM_ALERTED &&
+                          execsim_add_task(&machine, (const uint8_t *)"b", 1, 1, &task) == EXECSIM_ALERTED);
+    execsim_close(&machine);
+}
+
+/* Requests, and the messages of a port in order. */
+static void objects(void) {
+    static const char *file = "[[region]]\nbase = 4096\nsize = 4096\n[[task]]\nname = \"a\"\ncode = [\"p = CreateMsgPort\", \"m = NewMsg p 1\", \"n = NewMsg p 2\", \"PutMsg p m\", \"PutMsg p n\", "
+                              "\"r = CreateIORequest p\", \"Wait $1000\"]\n";
+    execsim_machine machine = EXECSIM_NO_MACHINE_YET;
+    execsim_request_view request;
+    execsim_block_view block;
+    uint32_t message = 7, ports = 0, port = 0, first = 0, second = 0, at = 0;
+    count("no machine of objects", execsim_request(&machine, 8, &request) == EXECSIM_NO_MACHINE &&
+                                       execsim_message(&machine, 8, 0, &message) == EXECSIM_NO_MACHINE && message == 7);
+    count("a machine of objects", open_text(&machine, file) == EXECSIM_RAN && do_text(&machine, "run 9") == EXECSIM_RAN);
+    for (uint32_t address = 0x1000; address < 0x2000; address += 8)
+        if (execsim_block(&machine, address, &block) == EXECSIM_RAN) {
+            if (block.kind == EXECSIM_PORT) ports++, port = address;
+            if (block.kind == EXECSIM_REQUEST) at = address;
+        }
+    count("its port", ports == 1 && execsim_message(&machine, port, 0, &first) == EXECSIM_RAN && execsim_block(&machine, first, &block) == EXECSIM_RAN &&
+                          block.kind == EXECSIM_MESSAGE && block.word == 1);
+    count("its second message", execsim_message(&machine, port, first, &second) == EXECSIM_RAN && execsim_block(&machine, second, &block) == EXECSIM_RAN &&
+                                    block.word == 2 && execsim_message(&machine, port, second, &message) == EXECSIM_RAN && message == 0);
+    count("its request", execsim_request(&machine, at, &request) == EXECSIM_RAN && request.reply_port == port && request.state == 0 &&
+                             request.unit == EXECSIM_NO_UNIT && request.command == 0 && request.error == 0 && request.quick == 0);
+    count("no request", execsim_request(&machine, port, &request) == EXECSIM_NOT_THERE);
+    execsim_close(&machine);
+}
+
 /* Calls on no machine, texts that are refused, a machine that an alert stops, and too many ticks. */
 static void misuse(void) {
     static const char *file = "[[task]]\nname = \"a\"\ncode = [\"Signal 7 1\"]\n";
@@ -489,12 +547,34 @@ static void starve_feed(void) {
     execsim_close(&machine);
 }
 
+/* A task that is refused memory at each allocation in turn: the machine is as it was. Then it is added. */
+static void starve_add(void) {
+    execsim_machine machine = EXECSIM_NO_MACHINE_YET;
+    execsim_machine_view view;
+    uint64_t task = 0;
+    uint32_t status = EXECSIM_NO_MEMORY;
+    int is_well = open_text(&machine, "[[task]]\nname = \"a\"\ncode = [\"Print 1\"]\n") == EXECSIM_RAN;
+    refused_from = 0;
+    while (is_well && status == EXECSIM_NO_MEMORY) {
+        asked = 0;
+        refused_from++;
+        status = execsim_add_task(&machine, (const uint8_t *)"b", 1, 0, &task);
+        is_well &= execsim_view(&machine, &view) == EXECSIM_RAN && view.tasks == (status == EXECSIM_NO_MEMORY ? 1u : 2u);
+    }
+    is_well &= refused_from > 5;
+    refused_from = 0;
+    count("a task that is refused memory", is_well && status == EXECSIM_RAN && task == 1 && do_text(&machine, "run 1") == EXECSIM_RAN &&
+                                               has_lines(&machine, "switch a\na Print $00000001\n"));
+    execsim_close(&machine);
+}
+
 static void starve_calls(void) {
     starve(run_of, "run");
     for (unsigned at = 0; at < CALLS_MADE; at++) {
         starve(CALLS[at].call, CALLS[at].name);
     }
     starve_feed();
+    starve_add();
 }
 #else
 static void starve_calls(void) {}
@@ -519,6 +599,8 @@ int main(int argc, char **names) {
     read_tasks();
     read_blocks();
     feed();
+    add();
+    objects();
     misuse();
     refuse_calls();
     starve_calls();

@@ -92,7 +92,8 @@ extern struct {
 /* machine.c: the only file that calls the library */
 void machine_open(void);
 void machine_act(int kind);
-void machine_changed(void);  /* there is a new task or interrupt, or a new line of an interrupt */
+void machine_changed(void);  /* there is a task that starts, a new interrupt, or a new line of an interrupt */
+void machine_add(int task);  /* there is a new task that does not start */
 void machine_feed(int task); /* there is a new line of a task */
 int machine_at_end(void);
 int machine_running(void);

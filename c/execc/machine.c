@@ -195,7 +195,7 @@ static void do_action(int kind) {
 }
 
 /* Opens the machine with all that the program has called, and does all actions again: it prints again what was read
- * before. That is done for a new task or interrupt and for a new line of an interrupt, which cannot be fed. */
+ * before. That is done for a new interrupt and for a new line of an interrupt, which cannot be fed. */
 static void open_anew(void) {
     size_t size;
     uint64_t length = 0;
@@ -216,6 +216,18 @@ void machine_feed(int task) {
     uint32_t status = is_changed ? EXECSIM_RAN : execsim_feed(&machine, task, (const uint8_t *)line, strlen(line));
     if (status == EXECSIM_NO_MEMORY) stop(FAILED, "out of memory");
     if (status != EXECSIM_RAN) stop(FAILED, "the machine refuses the line '%s'; please report this", line);
+}
+
+/* Adds the newest task, which does not start with the machine, unless the machine is to be opened anew. */
+void machine_add(int task) {
+    uint64_t number = task;
+    uint32_t status = is_changed || !machine.machine
+                          ? EXECSIM_RAN
+                          : execsim_add_task(&machine, (const uint8_t *)tasks[task].name, strlen(tasks[task].name),
+                                             tasks[task].pri, &number);
+    if (status == EXECSIM_NO_MEMORY) stop(FAILED, "out of memory");
+    if (status != EXECSIM_RAN || number != (uint64_t)task)
+        stop(FAILED, "the machine refuses the task '%s'; please report this", tasks[task].name);
 }
 
 /* The task that the next step finds at the end of its lines, or -1. */

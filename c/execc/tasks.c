@@ -91,7 +91,8 @@ Task *task_add(struct Task *host, const char *name, LONG pri, void (*code)(void)
     free_name(task->name, name_of(name, "task"));
     task_count++;
     host->tc_Node.ln_Type = NT_TASK;
-    machine_changed();
+    if (starts) machine_changed();
+    else machine_add(task_count - 1);
     return task;
 }
 

@@ -62,3 +62,4 @@ pub mod Waits
 pub mod Passed
 pub mod BlockViews
 pub mod Queues
+pub mod NewTask

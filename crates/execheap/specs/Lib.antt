@@ -8,3 +8,4 @@ pub mod Requesting
 pub mod BlockViews
 pub mod Queues
 pub mod Resetting
+pub mod NewTask

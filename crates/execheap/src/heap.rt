@@ -20,8 +20,8 @@ use std::marker::Model;
 /// The memory of a machine and the objects that live in it: lists and nodes, ports and messages, semaphores, the
 /// libraries that are loaded, and requests with the timer that finishes them, over list spaces of the type S.
 ///
-/// An object is named by the address of its block. No method takes memory of the host: `new` makes room for all that
-/// can ever live.
+/// An object is named by the address of its block. No method but `add_task` takes memory of the host: `new` makes
+/// room for all that can ever live.
 #[derive(Drop)]
 pub struct Heap<S: ListSpace> {
     pub(crate) objects: Objects<S>,

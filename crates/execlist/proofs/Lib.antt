@@ -4,6 +4,7 @@ pub mod Places
 pub mod Pools
 pub mod PlainLemmas
 pub mod Walks
+pub mod CopyLemmas
 mod Computed
 pub mod Values
 pub mod Cells

@@ -10,7 +10,8 @@ use Rattle.execmodel.specs.{Bodies.body_step, Bodies.runs_body, Step.settle, Ste
 use Rattle.execmodel.proofs.{FedScripts.fed_last, FedScripts.altered_count, FedWords.Commutes, FedWords.fed_andthen, FedActions.fed_step, FedActions.fed_request, FedActions.fed_tick, FedActions.fed_start, FedActions.fed_at_end, Moments.joined, Moments.next_same}
 use Rattle.std.proofs.Common.{length, if◌then◌else◌, None}
 use Rattle.std.proofs.lemmas.List.{length-replicate}
-use Rattle.execmodel.specs.Feeding.{joined_by, with_new, and_new, if_no_call, without_call, without_call_or_softint, Adds, EventsCommuteWithNewTasks}
+use Rattle.scheduler.specs.Joining.{joined_by}
+use Rattle.execmodel.specs.Feeding.{with_new, and_new, if_no_call, without_call, without_call_or_softint, Adds, EventsCommuteWithNewTasks}
 use Rattle.std.proofs.lemmas.Bool.{cases_lt}
 use Rattle.execlist.specs.Disciplines.{by_arrival}
 use Rattle.taskq.specs.declared.TaskState.TheVariants.{Absent}
@@ -128,20 +129,24 @@ one_longer : {A : Type 0} (x : A) (xs : List A) → length (xs ++ x ∷ []) ≡ 
 one_longer x [] = refl
 one_longer x (y ∷ xs) = ap suc (one_longer x xs)
 
+pub new_sound : (task : TaskData) (s : State) → IsSoundState s → IsSoundState (with_new task s)
+new_sound task s sound =
+    let more = one_longer Absent s.schedule.queue.states in
+    let states = joined_by task.pri task.name s.schedule in record {
+      tidy = record { formed = sound.tidy.formed; order = sound.tidy.order };
+      idle = sound.idle;
+      counted = one_longer (new_program task) s.scripts.programs ∙ ap suc sound.counted ∙ sym more;
+      roomy = ap suc sound.roomy ∙ sym more;
+      agrees = λ t. untouched t s.schedule states (λ a. waiters_of a s.memory.heap) (λ a. waiters_of a s.memory.heap)
+          (status_same (count_of_tasks s) task.pri task.name t s.schedule) refl refl (λ a. refl) (sound.agrees t);
+    }
+
 new_ready : (task : TaskData) (s : State) → s.stopped ≡ false → IsReady s → IsReady (with_new task s)
 new_ready task s going ready =
     let sized = ready.sized going in
     let n = count_of_tasks s in
-    let more = one_longer Absent s.schedule.queue.states in
-    let states = joined_by task.pri task.name s.schedule in record {
-      sound = record {
-        tidy = record { formed = ready.sound.tidy.formed; order = ready.sound.tidy.order };
-        idle = ready.sound.idle;
-        counted = one_longer (new_program task) s.scripts.programs ∙ ap suc ready.sound.counted ∙ sym more;
-        roomy = ap suc ready.sound.roomy ∙ sym more;
-        agrees = λ t. untouched t s.schedule states (λ a. waiters_of a s.memory.heap) (λ a. waiters_of a s.memory.heap)
-            (status_same n task.pri task.name t s.schedule) refl refl (λ a. refl) (ready.sound.agrees t);
-      };
+    let more = one_longer Absent s.schedule.queue.states in record {
+      sound = new_sound task s ready.sound;
       sized = λ still. resized (suc n) (with_new task s) (
         record {
           states = more;

@@ -19,7 +19,7 @@ use Rattle.taskq.specs.Tasks.{is_ready}
 use Rattle.timerdev.specs.Timing.{clock_ticked}
 use Rattle.memlist.proofs.Answered.{nat_eq-same}
 use Rattle.execmodel.specs.State.{Call, Scripts, Program, State, Outcome, quiet, prints_line, andthen, unless_stopped, program_of, on_schedule, on_memory, on_pending, on_timer}
-use Rattle.execmodel.specs.Feeding.{joined_by}
+use Rattle.scheduler.specs.Joining.{joined_by}
 use Rattle.execmodel.specs.Calls.{content, evaluated, evaluated_in_body, call_of, call_at, call_after, next_call, call_in_body}
 use Rattle.execmodel.specs.Interrupts.{softint_at, runs_softint, server_at, chain_of, runs_server, runs_chain, serving_counted, finishes_for, serves, servings, interrupts}
 use Rattle.execmodel.specs.Step.{started, all_added, announced, switches, settle, ends, task_step, call_step, softint_or_task_step, step_action, acts, step, steps, request, tick, ticks, event}

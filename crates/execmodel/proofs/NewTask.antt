@@ -11,7 +11,7 @@ use Rattle.taskq.specs.{Tasks.state_at, Tasks.is_ready, Tasks.is_live, Tasks.is_
 use Rattle.scheduler.specs.Schedule.{Schedule, task_name, priority_of, status_of, signals_of, nesting_of, with_status, with_signals, with_priority, is_switching_allowed, is_quantum_over, takes_over, switch_for, renewed, begins, quantum_ticked, ticked_for, is_absent, leaves, departs, task_removed, found, awaits, waits_for, takes_signals, after_wait, clears_and_waits, allocates_signal, sets_signals, frees_signal, waits_at_semaphore, nested}
 use Rattle.scheduler.specs.{declared.Switch.Switch as Choice, Dispatch.arrives, Dispatch.switch_of, Dispatch.displaced, Dispatch.after_switch, Dispatch.rescheduled, Dispatch.added, Dispatch.reprioritized, Dispatch.signalled}
 use Rattle.scheduler.specs.declared.Switch.TheVariants as switch
-use Rattle.execmodel.specs.Feeding.{joined_by}
+use Rattle.scheduler.specs.Joining.{joined_by}
 use Rattle.std.specs.Cmp.Lexicographic.{pointwise}
 use Rattle.std.proofs.lemmas.List.Folds.{find-append}
 use Rattle.execlist.proofs.PlainLemmas.{range_more}

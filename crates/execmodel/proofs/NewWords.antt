@@ -31,7 +31,7 @@ use Rattle.script.specs.declared.word.libraries.LibraryWord.TheVariants as libra
 use Rattle.script.specs.declared.word.requests.RequestWord.TheVariants as requests
 use Rattle.script.specs.declared.word.interrupts.InterruptWord.TheVariants as interrupts
 use Rattle.script.specs.declared.alert.Alert.{Alert}
-use Rattle.execmodel.specs.Feeding.{joined_by}
+use Rattle.scheduler.specs.Joining.{joined_by}
 use Rattle.execmodel.specs.State.{Call, Scripts, Program, Memory, Mark, State, Outcome, new_program, no_program, program_of, leaving, quiet, andthen, on_schedule, on_memory}
 use Rattle.execmodel.specs.Calls.{Caller, ByTask, ByBody, argument, name_argument, done, answered, waiting, silent, alerted, done_by, answered_by, silent_by, unless_by}
 use Rattle.execmodel.proofs.NewTask.{Fits, Moves, name_same, pri_same, status_same, signals_same, nesting_same, allocates_moves, sets_moves, frees_moves, leaves_moves, removed_moves, waits_at_semaphore_moves, after_wait_moves, clears_moves, nested_moves, arrives_moves, added_moves, signalled_moves, reprioritized_moves, found_same, set_last, get_last}

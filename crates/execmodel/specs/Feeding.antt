@@ -1,12 +1,9 @@
 -- Machines whose bodies grow while they run: a command is fed to a task at the end of its body, after it has begun. What comes of it is what
 -- comes of the machine whose bodies are whole from the start.
-use Rattle.std.specs.Prelude.{◌≡◌, ◌≢◌, ℕ, zero, suc, ◌+◌, ◌<◌, ℤ, Bool, true, false, ◌||◌, if◌then◌else◌, nat_eq, List, [], ◌∷◌, ◌++◌, length, Option, None, Some}
+use Rattle.std.specs.Prelude.{◌≡◌, ◌≢◌, ℕ, zero, suc, ◌+◌, ◌<◌, Bool, true, false, ◌||◌, if◌then◌else◌, nat_eq, List, [], ◌∷◌, ◌++◌, length, Option, None, Some}
 use Rattle.script.specs.declared.event.Event.TheVariants.{Run}
 use Rattle.script.specs.{declared.event.Event.Event, Commands.CommandData, File.MachineData, File.TaskData, Machines.IsMachine}
-use Rattle.taskq.specs.declared.TaskState.TheVariants.{Absent}
-use Rattle.signals.specs.Signals.{initial_sets}
-use Rattle.forbid.specs.Nesting.{initial_nesting}
-use Rattle.scheduler.specs.Schedule.{Schedule}
+use Rattle.scheduler.specs.Joining.{joined_by}
 use Rattle.softint.specs.declared.source.Source.{Source}
 use Rattle.execmodel.specs.State.{Call, Program, Scripts, State, Outcome, quiet, andthen, program_of, on_scripts, new_program, booted}
 use Rattle.execmodel.specs.{Pending.next_softint, Calls.next_call, Calls.call_of, Bodies.runs_body, Step.step, Step.steps, Step.tick, Step.request, Step.starts, Step.event, Step.run}
@@ -36,18 +33,6 @@ abbrev pub and_fed : ℕ → CommandData → Outcome → Outcome
 and_fed t command o = record o { state = fed t command o.state }
 
 -- ---- a task is added to the machine
-
--- a schedule with one more task after the others, which was never added
-abbrev pub joined_by : ℤ → List ℕ → Schedule → Schedule
-joined_by pri name s = record s {
-  queue = record s.queue {
-    states = s.queue.states ++ Absent ∷ [];
-    pris = s.queue.pris ++ pri ∷ [];
-    names = s.queue.names ++ name ∷ [];
-  };
-  signals = s.signals ++ initial_sets ∷ [];
-  nestings = s.nestings ++ initial_nesting ∷ [];
-}
 
 -- a machine with one more task after the others, which was never added
 abbrev pub with_new : TaskData → State → State

@@ -1,6 +1,7 @@
 -- The lemma files of `execsim`.
 pub mod Accepted
 pub mod Acting
+pub mod Added
 pub mod Advancing
 pub mod Allocating
 pub mod Awaiting

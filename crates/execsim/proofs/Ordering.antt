@@ -115,7 +115,7 @@ unfolding order
 times_in_order key n xs = let all = times_all_put key n [] xs in omega (arith, all)
 
 -- what the order leaves out was not there
-none_in_order : (key : ℕ → ℤ) (n : ℕ) (xs : List ℕ) → times n (order key xs) ≡ 0 → times n xs ≡ 0
+pub none_in_order : (key : ℕ → ℤ) (n : ℕ) (xs : List ℕ) → times n (order key xs) ≡ 0 → times n xs ≡ 0
 none_in_order key n xs none = sym (times_in_order key n xs) ∙ none
 
 stands : (xs : List ℕ) (k d : ℕ) → k < length xs → 0 < times (get_or xs k d) xs
@@ -126,7 +126,7 @@ stands (x ∷ xs) (suc k) d within = by_case (x == get_or xs k d) (stands xs k d
   by_case true ih = omega arith
   by_case false ih = ih
 
-not_there : (n : ℕ) (xs : List ℕ) → times n xs ≡ 0 → (k d : ℕ) → k < length xs → get_or xs k d ≢ n
+pub not_there : (n : ℕ) (xs : List ℕ) → times n xs ≡ 0 → (k d : ℕ) → k < length xs → get_or xs k d ≢ n
 not_there n xs none k d within e =
     let one : 0 < times n xs = subst (λ x. 0 < times x xs) e (stands xs k d within) in
     absurd (omega (arith, one, none))

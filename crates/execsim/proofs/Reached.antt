@@ -8,9 +8,9 @@ use Rattle.taskq.specs.{declared.TaskState.TheVariants.Running, declared.TaskSta
 use Rattle.scheduler.specs.Schedule.{Schedule, is_at_semaphore, status_of}
 use Rattle.execmodel.specs.{State.Memory, State.Scripts, State.State, State.andthen, Step.steps, Step.ticks, Step.starts, Step.event, Step.events, Agreement.WaitsForNone, Semaphores.heir, Semaphores.sem_of, Semaphores.waiters_of}
 use Rattle.sigsem.specs.Semaphores.{is_last}
-use Rattle.execmodel.proofs.{FedRuns.fed_sound, Stretches.of_event, Stretches.of_starts, WaitingLaw.IsSoundState, WaitingLaw.Waits, WaitingLaw.waits, WaitingLaw.clocked, WaitingLaw.booted_sound, Agreement.untouched, Agreement.at_semaphore_is, Agreement.first_stands, Agreement.running_state, Agreement.waits_at as stands_where, Agreement.waits_there}
+use Rattle.execmodel.proofs.{FedRuns.fed_sound, FedRuns.new_sound, Stretches.of_event, Stretches.of_starts, WaitingLaw.IsSoundState, WaitingLaw.Waits, WaitingLaw.waits, WaitingLaw.clocked, WaitingLaw.booted_sound, Agreement.untouched, Agreement.at_semaphore_is, Agreement.first_stands, Agreement.running_state, Agreement.waits_at as stands_where, Agreement.waits_there}
 use Rattle.execheap.specs.declared.refusal.Refusal.{Refusal}
-use Rattle.execsim.specs.{Agreement.Seen, Agreement.Agrees, Agreement.FollowsWhileGood, Reached.IsReached, Reached.at_boot, Reached.after_start, Reached.after_event, Reached.after_feeding, Reached.QueuesAgree, Reached.IsInOrder, Time.IsKnown}
+use Rattle.execsim.specs.{Agreement.Seen, Agreement.Agrees, Agreement.FollowsWhileGood, Reached.IsReached, Reached.at_boot, Reached.after_start, Reached.after_event, Reached.after_feeding, Reached.after_adding, Reached.QueuesAgree, Reached.IsInOrder, Time.IsKnown}
 use Rattle.execsim.proofs.{Following.good_before, Ordering.times_in_order}
 use Rattle.exectrace.specs.Hearing.{Hearing}
 
@@ -40,6 +40,7 @@ sound_there s (at_boot machine is) = booted_sound machine is
 sound_there s (after_start before reached) = (of_starts Waits waits before (sound_there before reached)).0
 sound_there s (after_event e before reached) = (of_event Waits waits clocked e before (sound_there before reached)).0
 sound_there s (after_feeding t command before reached) = fed_sound t command before (sound_there before reached)
+sound_there s (after_adding task before reached) = new_sound task before (sound_there before reached)
 
 -- the queues of what the machine shows agree, since those of the state do
 shown_agree : (m : Seen) (s : State) → Agrees m s → IsSoundState s → QueuesAgree m

@@ -14,3 +14,4 @@ pub mod Resting
 pub mod WaitingLines
 pub mod Time
 pub mod Views
+pub mod Adding

@@ -28,7 +28,7 @@ const SHARED_VARIABLES: usize = 64;
 pub struct Kernel<S: ListSpace> {
     pub(crate) sched: Sched<S>,
     // Room for the names and priorities of the tasks, for `reset`.
-    inits: Vec<TaskInit>,
+    pub(crate) inits: Vec<TaskInit>,
     pub(crate) programs: Vec<Program>,
     pub(crate) shared: [u32; SHARED_VARIABLES],
     pub(crate) memory: Heap<S>,

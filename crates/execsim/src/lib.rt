@@ -37,6 +37,6 @@ pub use execheap::{BlockView, DueTime, Gap, LibraryView, ObjectView, PortView};
 /// Laws of every run of the abstract machine, which the machine follows.
 pub use call::Call;
 pub use execmodel::laws;
-pub use machine::{Flow, Machine, MachineView, TaskView};
+pub use machine::{AddFault, Flow, Machine, MachineView, TaskView};
 pub use reading::{FILE_LIMIT, ReadFault, read_limited};
 pub use simulation::{End, SimFault, simulate, simulate_on};

@@ -5,6 +5,7 @@ ghost use Rattle.script.specs.Events.{event_ticks};
 ghost use Rattle.execmodel.specs.{State.State, State.booted, State.andthen, Step.starts, Step.event, Step.events};
 ghost use Rattle.execsim.specs.{Advancing.Advances, Advancing.Ends, Agreement.Agrees, Headline.Acts, Headline.StaysFailed, Headline.Finishes, Headline.flow_of, Playing.Plays, Reached.QueuesAgree, Resetting.HasRoomFor, Time.HasTimeFor};
 
+mod adding;
 mod feeding;
 mod queues;
 mod readers;
@@ -12,6 +13,7 @@ mod waiting_lines;
 
 use crate::boot::kernel_of;
 use crate::kernel::Kernel;
+pub use adding::AddFault;
 use execlist::space::ListSpace;
 use exectrace::sinks::written;
 use exectrace::{Sink, Witness, WriteFault};

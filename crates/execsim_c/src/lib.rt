@@ -1,17 +1,20 @@
 //! What a C program calls, by the header `execsim.h`: two texts in, the trace of their run out, or its log and its
 //! states (`logging`), its picture (`drawing`), what is found in them (`checking`), or a search (`exploring`); and a
-//! machine that is kept between calls (`stepping`), whose tasks and blocks are read between any two events (`reading`),
-//! and whose bodies grow between them (`feeding`).
+//! machine that is kept between calls (`stepping`), whose tasks and blocks are read between any two events (`reading`,
+//! `objects`), whose bodies grow between them (`feeding`), and to which tasks are added (`adding`).
 #![tactic(auto)]
 
 mod absent;
+mod adding;
 mod checking;
 mod drawing;
 mod exploring;
 mod feeding;
 mod handle;
+mod laws;
 mod logging;
 mod names;
+mod objects;
 mod put;
 mod raw_box;
 mod reading;

@@ -1,15 +1,15 @@
 //! A machine that is kept between calls: it has started, and it keeps the lines that no caller has taken.
-ghost use Rattle.std.specs.Prelude.{◌≡◌, ◌+◌, ℕ, false, IfOk, IfSome, OnErr, OnOk, Some, sum_by};
+ghost use Rattle.std.specs.Prelude.{◌≡◌, ◌≤◌, ◌+◌, ℕ, false, length, IfOk, IfSome, MatchResult, OnErr, OnOk, Some, sum_by};
 ghost use Rattle.exectrace.specs.declared.sinks.SinkState.{SinkState};
 ghost use Rattle.script.specs.{Commands.command_view, Events.event_ticks};
-ghost use Rattle.execmodel.specs.{Feeding.fed_to, Step.events};
-ghost use Rattle.execsim.specs.Time.{HasTimeFor};
+ghost use Rattle.execmodel.specs.{Feeding.fed_to, Feeding.with_new, Step.events};
+ghost use Rattle.execsim.specs.{Adding.new_task, Adding.seen_with_new, Agreement.Moves, Time.HasTimeFor, declared.machine.adding.AddFault.AddFault};
 ghost use Rattle.execsim_c.specs.Stepping.{Does, Starts};
 
 use execlist::link::LinkSpace;
-use execsim::Machine;
+use execsim::{AddFault, Machine};
 use exectrace::{Sink, WriteFault, WriteSink};
-use script::{Command, Event, MachineFile};
+use script::{Command, Event, MachineFile, Name};
 use std::alloc::{AllocError, Global};
 use taskq::TaskId;
 
@@ -135,6 +135,26 @@ impl Session {
         ensures kept { OnErr result (self.new ≡ self.old) }
     {
         self.machine.feed(task, command)
+    }
+
+    /// Adds a task after the others, which was never added, with an empty body, and answers its number.
+    ///
+    /// # Errors
+    ///
+    /// There are 4,096 tasks, or memory was refused. The machine is as it was.
+    pub(crate) fn add_task(
+        &mut self,
+        alloc: Global,
+        name: Name,
+        pri: i8,
+    ) -> Result<TaskId, AddFault>
+        ensures number { IfOk result (λ t. t ≡ length self.old.machine.seen.scripts.programs) }
+        ensures added { OnOk result (self.new ≡ record self.old { machine = record self.old.machine { seen = seen_with_new (new_task name.bytes pri) self.old.machine.seen } }) }
+        ensures moves { OnOk result (Moves (with_new (new_task name.bytes pri)) self.old.machine.seen self.new.machine.seen) }
+        ensures full { MatchResult result (λ t. Unit {0}) (λ fault. fault ≡ AddFault.Full → 4096 ≤ length self.old.machine.seen.scripts.programs) }
+        ensures kept { OnErr result (self.new ≡ self.old) }
+    {
+        self.machine.add_task(alloc, name, pri)
     }
 
     /// Whether an alert has stopped the machine.

@@ -1,4 +1,5 @@
-//! Texts that are read up to a limit, machines that are advanced, and machines that are reset.
+//! Texts that are read up to a limit, machines that are advanced, that grow, and that are reset.
+mod adding;
 mod advancing;
 mod feeding;
 mod reading;

@@ -4,3 +4,4 @@ pub mod Sound
 pub mod Lending
 pub mod Settled
 pub mod Status
+pub mod Joining

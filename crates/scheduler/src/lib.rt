@@ -3,11 +3,11 @@
 //! Disable in `nesting`.
 #![tactic(auto)]
 
-ghost use Rattle.std.specs.Prelude.{◌≡◌, ◌≢◌, ℕ, ◌<◌, ◌≤◌, length, slice_set, map, if◌then◌else◌, Some, None, IsTrue, IsSome, IfSome, IfOk};
+ghost use Rattle.std.specs.Prelude.{◌≡◌, ◌≢◌, ℕ, ◌<◌, ◌≤◌, ◌+◌, length, slice_set, map, if◌then◌else◌, Some, None, IsTrue, IsSome, IfSome, IfOk};
 ghost use Rattle.execlist.specs.{Lists.times, Order.enqueue, Disciplines.by_priority, Disciplines.pri_at};
 ghost use Rattle.taskq.specs.Tasks.{state_at, is_live, is_ready};
 ghost use Rattle.scheduler.specs.Schedule.{task_count, task_name, priority_of, status_of, unstarted, is_absent, leaves, task_removed, found, switch_for, IsToOneOf, takes_over, begins, renewed, quantum_ticked, waits_at_semaphore, is_at_semaphore};
-ghost use Rattle.scheduler.specs.{Dispatch.arrives, Dispatch.displaced, Dispatch.switch_of, Dispatch.after_switch, Dispatch.rescheduled, Dispatch.added, Dispatch.reprioritized, Sound.is_stopped, Sound.IsToReady, Settled.begins_anew, Settled.stays};
+ghost use Rattle.scheduler.specs.{Dispatch.arrives, Dispatch.displaced, Dispatch.switch_of, Dispatch.after_switch, Dispatch.rescheduled, Dispatch.added, Dispatch.reprioritized, Sound.is_stopped, Sound.IsToReady, Settled.begins_anew, Settled.stays, Joining.joined_by};
 
 mod nesting;
 mod status;
@@ -33,7 +33,7 @@ pub enum Switch {
 
 /// The tasks of a machine, the running one of them, and each one's signals and nesting.
 ///
-/// All room is made by `new`; no other call takes memory. Source: RKM Libraries, Exec Tasks.
+/// All room is made by `new` and `with_new_task`; no other call takes memory. Source: RKM Libraries, Exec Tasks.
 #[derive(Drop)]
 pub struct Sched<S: ListSpace> {
     queue: TaskQ<S>,
@@ -103,6 +103,31 @@ impl<S: ListSpace> Sched<S> {
         })
     }
 
+    /// Makes the same schedule with one more task after the others, which was never added; this one stays. At most
+    /// 4,096 tasks will be there. An error means that memory is refused.
+    ///
+    /// Source: project rule.
+    pub fn with_new_task(&self, alloc: Global, task: TaskInit) -> Result<Self, AllocError>
+        requires { task_count self.now + 1 ≤ 4096 }
+        ensures { IfOk result (λ s. s ≡ joined_by task.pri task.name.bytes self.now) }
+    {
+        let queue = self.queue.with_new_task(alloc, task)?;
+        let mut signals = Vec::from_slice(alloc, &self.signals)?;
+        signals.push(SigState::new())?;
+        let mut nests = Vec::from_slice(alloc, &self.nests)?;
+        nests.push(Nest::new())?;
+        Ok(Sched {
+            queue,
+            running: self.running,
+            signals,
+            nests,
+            quantum: self.quantum,
+            left: self.left,
+            idle: self.idle,
+            settled: false,
+        })
+    }
+
     /// Makes the schedule as `new` made it, with these names, first priorities and full quantum: of as many tasks as
     /// there are.
     ///
@@ -167,10 +192,11 @@ impl<S: ListSpace> Sched<S> {
         self.queue.state(t)
     }
 
-    /// Does nothing: its clause is what always holds of the ready sequence. A ready task is once in it, and
-    /// any other not at all.
+    /// Does nothing: its clauses are what always holds of the ready sequence, in which a ready task is once, and
+    /// any other not at all, and of the priorities, of which each task has one.
     pub fn facts(&self)
-        ensures { (t : ℕ) → times t self.now.queue.ready ≡ (if is_ready (status_of self.now t) then 1 else 0) }
+        ensures ready { (t : ℕ) → times t self.now.queue.ready ≡ (if is_ready (status_of self.now t) then 1 else 0) }
+        ensures pris { length self.now.queue.pris ≡ task_count self.now }
     {
         self.queue.facts();
     }

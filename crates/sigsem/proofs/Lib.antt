@@ -1,2 +1,3 @@
 -- The lemma files of `sigsem`.
 pub mod Waiting
+pub mod NewTask

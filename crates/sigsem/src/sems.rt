@@ -1,12 +1,14 @@
 //! The semaphores of a machine, by number.
-ghost use Rattle.std.specs.Prelude.{◌≡◌, ◌<◌, ◌≤◌, length, not, is_some, Some, None, IfOk, IfSome, IsTrue, ok_or};
+ghost use Rattle.std.specs.Prelude.{◌≡◌, ◌<◌, ◌≤◌, ◌+◌, length, not, is_some, Some, None, IfOk, IfSome, IsTrue, OnErr, OnOk, ok_or};
 ghost use Rattle.execlist.specs.{Order.first, Pool.IsStocked, Pool.next_number, Answers.fault_or, Answers.kept_or};
+ghost use Rattle.sigsem.specs.NewTask.{with_new_task};
 ghost use Rattle.sigsem.specs.Semaphores.{IsSoundSemaphores, is_sem, is_owned, is_free_for, sem_at, waiters_of, waits_at, free_fault, deep_fault, release_fault, outcome_for, heir, no_sems, sem_made, sem_freed, with_sem, queued, obtained, attempted, handed_on, let_go, dropped};
 
 mod readers;
 
 use crate::fault::SemFault;
 use crate::semaphore::{Obtained, Sem, TaskId};
+use execlist::copying::copy_sequences;
 use execlist::pool::Pool;
 use execlist::space::ListSpace;
 use std::alloc::{AllocError, Global};
@@ -26,8 +28,8 @@ const FREE: Sem = Sem {
 
 /// Signal semaphores, and the tasks that wait at them.
 ///
-/// All room is made by `new`; no other call takes memory, and none but `reset` looks at all semaphores or all tasks.
-/// RKM Libraries, Exec Semaphores.
+/// All room is made by `new` and `add_task`; no other call takes memory, and none but these and `reset` looks at all
+/// semaphores or all tasks. RKM Libraries, Exec Semaphores.
 #[derive(Drop)]
 pub struct Sems<S: ListSpace> {
     sems: Pool<Sem>,
@@ -70,6 +72,24 @@ impl<S: ListSpace> Sems<S> {
     {
         self.sems.reset();
         self.waiters.reset();
+    }
+
+    /// Makes room for one more task, which waits nowhere; nothing else changes. `sems` and `tasks` are of how many
+    /// there is room for; at most 4,096 tasks will be.
+    ///
+    /// An error means that memory is refused: nothing changes then. Project rule.
+    pub fn add_task(&mut self, alloc: Global, sems: usize, tasks: usize) -> Result<(), AllocError>
+        requires sems { sems ≡ length self.old.queues }
+        requires tasks { tasks ≡ length self.old.places }
+        requires few_sems { sems ≤ 4096 }
+        requires few_tasks { tasks + 1 ≤ 4096 }
+        ensures added { OnOk result (self.new ≡ with_new_task self.old) }
+        ensures kept { OnErr result (self.new ≡ self.old) }
+    {
+        let mut waiters = S::new(alloc, sems, tasks + 1)?;
+        copy_sequences(&self.waiters, &mut waiters, sems);
+        self.waiters = waiters;
+        Ok(())
     }
 
     // ---- making and freeing

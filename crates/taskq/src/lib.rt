@@ -2,7 +2,7 @@
 //! A `TaskQ` knows the state, the priority and the name of each task, and which ready task is to run next.
 #![tactic(auto)]
 
-ghost use Rattle.std.specs.Prelude.{◌≡◌, ◌≢◌, ℕ, ◌<◌, ◌≤◌, List, [], ◌∷◌, Option, Some, None, length, replicate, slice_set, map, find, true, IfOk, IfSome, IsTrue, if◌then◌else◌};
+ghost use Rattle.std.specs.Prelude.{◌≡◌, ◌≢◌, ℕ, ◌<◌, ◌≤◌, ◌+◌, List, [], ◌∷◌, ◌++◌, Option, Some, None, length, replicate, slice_set, map, find, true, IfOk, IfSome, IsTrue, if◌then◌else◌};
 ghost use Rattle.std.specs.List.{range_with_len};
 ghost use Rattle.execlist.specs.{Order.enqueue, Order.first, Order.without_item, Lists.part_after, Lists.part_from, Lists.times, Disciplines.pri_at};
 ghost use Rattle.taskq.specs.Tasks.{state_at, name_at, is_ready, is_live, is_live_named, pris_of};
@@ -10,6 +10,7 @@ ghost use Rattle.taskq.specs.Tasks.{state_at, name_at, is_ready, is_live, is_liv
 mod names;
 
 use crate::names::Names;
+use execlist::copying::copy_sequences;
 use execlist::key::Name;
 use execlist::space::ListSpace;
 use execlist::walk::next_node;
@@ -52,7 +53,7 @@ pub enum TaskState {
 
 /// The tasks of a machine, and the ready ones in the order in which they are to run.
 ///
-/// All room is made by `new`; no other call takes memory.
+/// All room is made by `new` and `with_new_task`; no other call takes memory.
 #[derive(Drop)]
 pub struct TaskQ<S: ListSpace> {
     space: S,
@@ -98,6 +99,57 @@ impl<S: ListSpace> TaskQ<S> {
             states,
             names,
         })
+    }
+
+    /// Makes the same tasks, as they are, and one more after them, which is absent; these stay. At most 4,096 tasks
+    /// will be there. An error means that memory is refused.
+    ///
+    /// Source: project rule.
+    pub fn with_new_task(&self, alloc: Global, task: TaskInit) -> Result<Self, AllocError>
+        requires { length self.now.states + 1 ≤ 4096 }
+        ensures ready { IfOk result (λ q. q.ready ≡ self.now.ready) }
+        ensures states { IfOk result (λ q. q.states ≡ self.now.states ++ TaskState.Absent ∷ []) }
+        ensures pris { IfOk result (λ q. q.pris ≡ self.now.pris ++ task.pri ∷ []) }
+        ensures names { IfOk result (λ q. q.names ≡ self.now.names ++ task.name.bytes ∷ []) }
+    {
+        let inits = self.inits_with(alloc, task)?;
+        let mut space = S::new(alloc, 1, inits.len())?;
+        let states = self.states_with_absent(alloc)?;
+        let names = Names::new(alloc, &inits)?;
+        set_pris(&mut space, &inits);
+        copy_sequences(&self.space, &mut space, 1);
+        Ok(TaskQ {
+            space,
+            states,
+            names,
+        })
+    }
+
+    // The names and the priorities of the tasks, and of one more.
+    fn inits_with(&self, alloc: Global, task: TaskInit) -> Result<Vec<TaskInit>, AllocError>
+        ensures count { IfOk result (λ v. length v.items ≡ length self.now.states + 1) }
+        ensures pris { IfOk result (λ v. map (λ t. t.pri) v.items ≡ self.now.pris ++ task.pri ∷ []) }
+        ensures names { IfOk result (λ v. map (λ t. t.name.bytes) v.items ≡ self.now.names ++ task.name.bytes ∷ []) }
+    {
+        self.facts();
+        let mut inits = Vec::with_capacity(alloc, self.states.len() + 1)?;
+        for t in 0..self.states.len() {
+            inits.push(TaskInit {
+                name: *self.name(t),
+                pri: self.pri(t),
+            })?;
+        }
+        inits.push(task)?;
+        Ok(inits)
+    }
+
+    // The states of the tasks, and of one more, which is absent.
+    fn states_with_absent(&self, alloc: Global) -> Result<Vec<TaskState>, AllocError>
+        ensures { IfOk result (λ v. v.items ≡ self.now.states ++ TaskState.Absent ∷ []) }
+    {
+        let mut states = Vec::from_slice(alloc, &self.states)?;
+        states.push(TaskState::Absent)?;
+        Ok(states)
     }
 
     /// Makes the tasks absent, with these names and priorities, as `new` made them: as many as there are, in the order

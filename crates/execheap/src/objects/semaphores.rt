@@ -1,9 +1,9 @@
 //! Semaphores: by number, with the blocks in which they live; how they are found by address; and the calls by address.
-ghost use Rattle.std.specs.Prelude.{◌≡◌, ◌<◌, not, [], None, Some, IsTrue, IfOk, OnErr, OnOk};
+ghost use Rattle.std.specs.Prelude.{◌≡◌, ◌<◌, suc, not, [], None, Some, IsTrue, IfOk, OnErr, OnOk};
 ghost use Rattle.execlist.specs.{Pool.slot, Answers.fault_or, Answers.kept_or};
 ghost use Rattle.sigsem.specs.Semaphores.{attempted, deep_fault, dropped, free_sem, heir, is_free_for, is_owned, is_sem, let_go, obtained, outcome_for, release_fault, sem_at, waits_at};
 ghost use Rattle.execmodel.specs.{State.Semaphore, State.on_heap, Memory.freed, Memory.placed, LowMemory.after_asking_for_object, Objects.place_for_object, Agreement.WaitsForNone};
-ghost use Rattle.execheap.specs.{Numbered.places, Numbered.shown_memory, Numbered.IsKnown, Numbered.shown_heap, Changes.on_semaphores, Refusals.alert_of};
+ghost use Rattle.execheap.specs.{Numbered.places, Numbered.shown_memory, Numbered.IsKnown, Numbered.shown_heap, Changes.on_semaphores, NewTask.with_one_more_task, Refusals.alert_of};
 ghost use Rattle.execheap.specs.declared.tag.Kind.TheVariants as variant;
 ghost use Rattle.execmodel.specs.Semaphores as model;
 
@@ -15,6 +15,10 @@ use execlist::space::ListSpace;
 use sigsem::fault::SemFault;
 use sigsem::semaphore::{Obtained, TaskId};
 use sigsem::sems::{SemId, Sems};
+use std::alloc::{AllocError, Global};
+
+/// How many tasks there is room for at most.
+const MOST_TASKS: usize = 4096;
 
 impl<S: ListSpace> Objects<S> {
     /// The semaphores.
@@ -93,6 +97,24 @@ impl<S: ListSpace> Objects<S> {
         ensures { self.new ≡ on_semaphores (dropped t) self.old }
     {
         self.sems.drop_waiter(t);
+    }
+
+    /// Makes room for one more task to wait at semaphores. An error means that memory is refused, or that there is room
+    /// for 4,096 tasks already.
+    ///
+    /// Source: project rule.
+    pub fn add_task(&mut self, alloc: Global) -> Result<(), AllocError>
+        ensures added { OnOk result (self.new ≡ with_one_more_task self.old) }
+        ensures kept { OnErr result (self.new ≡ self.old) }
+    {
+        if self.tasks >= MOST_TASKS {
+            return Err(AllocError);
+        }
+        self.facts();
+        let pool = self.table.pool();
+        self.sems.add_task(alloc, pool, self.tasks)?;
+        self.tasks += 1;
+        Ok(())
     }
 
     // ---- found by address; or why the call is refused
@@ -206,5 +228,16 @@ impl<S: ListSpace> Heap<S> {
     {
         self.objects.facts();
         self.objects.drop_waiter(task);
+    }
+
+    /// Makes room for one more task, numbered after the others, to wait for semaphores. Nothing else changes.
+    ///
+    /// An error means that memory of the host is refused, or that there is room for 4,096 tasks already; nothing
+    /// changes. Project rule.
+    pub fn add_task(&mut self, alloc: Global) -> Result<(), AllocError>
+        ensures added { OnOk result (self.new ≡ record self.old { tasks = suc self.old.tasks }) }
+        ensures kept { OnErr result (self.new ≡ self.old) }
+    {
+        self.objects.add_task(alloc)
     }
 }
