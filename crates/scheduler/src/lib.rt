@@ -3,9 +3,11 @@
 //! Disable in `nesting`.
 #![tactic(auto)]
 
-ghost use Rattle.std.specs.Prelude.{◌≡◌, ◌≢◌, ℕ, ◌<◌, ◌≤◌, ◌+◌, length, slice_set, map, if◌then◌else◌, Some, None, IsTrue, IsSome, IfSome, IfOk};
+ghost use Rattle.std.specs.Prelude.{◌≡◌, ◌≢◌, ℕ, ◌<◌, ◌≤◌, ◌+◌, [], ◌∷◌, ◌++◌, length, slice_set, map, if◌then◌else◌, Some, None, IsTrue, IsSome, IfSome, IfOk};
 ghost use Rattle.execlist.specs.{Lists.times, Order.enqueue, Disciplines.by_priority, Disciplines.pri_at};
 ghost use Rattle.taskq.specs.Tasks.{state_at, is_live, is_ready};
+ghost use Rattle.signals.specs.Signals.{initial_sets};
+ghost use Rattle.forbid.specs.Nesting.{initial_nesting};
 ghost use Rattle.scheduler.specs.Schedule.{task_count, task_name, priority_of, status_of, unstarted, is_absent, leaves, task_removed, found, switch_for, IsToOneOf, takes_over, begins, renewed, quantum_ticked, waits_at_semaphore, is_at_semaphore};
 ghost use Rattle.scheduler.specs.{Dispatch.arrives, Dispatch.displaced, Dispatch.switch_of, Dispatch.after_switch, Dispatch.rescheduled, Dispatch.added, Dispatch.reprioritized, Sound.is_stopped, Sound.IsToReady, Settled.begins_anew, Settled.stays, Joining.joined_by};
 
@@ -112,10 +114,8 @@ impl<S: ListSpace> Sched<S> {
         ensures { IfOk result (λ s. s ≡ joined_by task.pri task.name.bytes self.now) }
     {
         let queue = self.queue.with_new_task(alloc, task)?;
-        let mut signals = Vec::from_slice(alloc, &self.signals)?;
-        signals.push(SigState::new())?;
-        let mut nests = Vec::from_slice(alloc, &self.nests)?;
-        nests.push(Nest::new())?;
+        let signals = self.signals_with_new(alloc)?;
+        let nests = self.nests_with_new(alloc)?;
         Ok(Sched {
             queue,
             running: self.running,
@@ -126,6 +126,24 @@ impl<S: ListSpace> Sched<S> {
             idle: self.idle,
             settled: false,
         })
+    }
+
+    /// The signals of each task, and of one more, to which none was sent.
+    fn signals_with_new(&self, alloc: Global) -> Result<Vec<SigState>, AllocError>
+        ensures { IfOk result (λ v. v.items ≡ self.now.signals ++ initial_sets ∷ []) }
+    {
+        let mut signals = Vec::from_slice(alloc, &self.signals)?;
+        signals.push(SigState::new())?;
+        Ok(signals)
+    }
+
+    /// The nesting of each task, and of one more, which has forbidden and disabled nothing.
+    fn nests_with_new(&self, alloc: Global) -> Result<Vec<Nest>, AllocError>
+        ensures { IfOk result (λ v. v.items ≡ self.now.nestings ++ initial_nesting ∷ []) }
+    {
+        let mut nests = Vec::from_slice(alloc, &self.nests)?;
+        nests.push(Nest::new())?;
+        Ok(nests)
     }
 
     /// Makes the schedule as `new` made it, with these names, first priorities and full quantum: of as many tasks as
