@@ -31,6 +31,10 @@ kept_joined {s} kept = record {
   in_step variant.Request = kept.in_step variant.Request
   in_step _ = tt
 
+-- what holds of the semaphores' parts holds of the same semaphores
+pub kept_same : {s : Numbered} (q : Semaphores) → IsKept s → q ≡ s.sems → IsKept (record s { sems = q })
+kept_same {s} q kept same = subst (λ (x : Semaphores). IsKept (record s { sems = x })) (sym same) kept
+
 module _ (s : Numbered) where
   object_same : (k : Kind) (m : ℕ) → object_of k m (with_one_more_task s) ≡ object_of k m s
   object_same variant.Semaphore m = refl
