@@ -1,5 +1,5 @@
 -- What becomes of a machine to which a task is added.
-use Rattle.std.proofs.Common.{◌≡◌, ◌≢◌, ◌∙◌, ℕ, suc, ℤ, pos, List, [], ◌∷◌, ◌++◌, get_or, slice_index_or, length, if◌then◌else◌, refl, sym, ap, subst, Bool, false, Result, Ok, Err, OnOk, OnErr}
+use Rattle.std.proofs.Common.{◌≡◌, ◌≢◌, ◌∙◌, ℕ, suc, ℤ, pos, List, [], ◌∷◌, ◌++◌, get_or, slice_index_or, length, if◌then◌else◌, refl, sym, ap, ap₂, subst, Bool, false, Result, Ok, Err, OnOk, OnErr}
 use Rattle.execlist.specs.{Lists.times, Order.order, Disciplines.pri_at}
 use Rattle.execlist.proofs.OrderLaws.{order_reads_keys}
 use Rattle.taskq.specs.declared.TaskState.{TaskState}
@@ -40,12 +40,13 @@ none_ready y ready count =
 -- ---- what the machine shows
 
 -- a machine whose schedule, programs and memory have one more task each
-pub parts_joined : (name : List ℕ) (pri : ℤ) (m : Seen) (schedule : Schedule) (programs : List Program) (program : Program) (memory : Memory)
-    → schedule ≡ joined_by pri name m.schedule → programs ≡ m.scripts.programs → program ≡ begun_with [] false
+pub parts_joined : (name : List ℕ) (pri : ℤ) (m : Seen) (schedule : Schedule) (programs old : List Program) (program : Program) (memory : Memory)
+    → schedule ≡ joined_by pri name m.schedule → programs ≡ old ++ program ∷ [] → old ≡ m.scripts.programs → program ≡ begun_with [] false
     → memory ≡ record m.memory { tasks = suc m.memory.tasks }
-    → record m { schedule = schedule; scripts = record m.scripts { programs = programs ++ program ∷ [] }; memory = memory } ≡ seen_with_new (new_task name pri) m
-parts_joined name pri m schedule programs program memory joins same begins shows =
-    λ i. record m { schedule = joins i; scripts = record m.scripts { programs = same i ++ begins i ∷ [] }; memory = shows i }
+    → record m { schedule = schedule; scripts = record m.scripts { programs = programs }; memory = memory } ≡ seen_with_new (new_task name pri) m
+parts_joined name pri m schedule programs old program memory joins put same begins shows =
+    let grown = put ∙ ap₂ (λ ps p. ps ++ p ∷ []) same begins in
+    λ i. record m { schedule = joins i; scripts = record m.scripts { programs = grown i }; memory = shows i }
 
 module _ (task : TaskData) (m : Seen) (none : times (length m.schedule.queue.pris) m.schedule.queue.ready ≡ 0) where
   agrees_new : (s : State) → Agrees m s → Agrees (seen_with_new task m) (with_new task s)

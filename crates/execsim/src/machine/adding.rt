@@ -3,7 +3,7 @@
 ghost use Rattle.std.specs.Prelude.{◌≡◌, ℕ, ◌≤◌, ◌+◌, length, if◌then◌else◌, IfOk, MatchResult, OnErr, OnOk};
 ghost use Rattle.execlist.specs.Lists.{times};
 ghost use Rattle.taskq.specs.Tasks.{is_ready};
-ghost use Rattle.scheduler.specs.{Joining.joined_by, Schedule.status_of, Schedule.task_count};
+ghost use Rattle.scheduler.specs.{Schedule.status_of, Schedule.task_count};
 ghost use Rattle.execmodel.specs.Feeding.{with_new};
 ghost use Rattle.execsim.specs.{Adding.new_task, Adding.seen_with_new, Agreement.Moves, declared.machine.adding.AddFault.AddFault};
 
@@ -12,7 +12,6 @@ use crate::kernel::Kernel;
 use crate::progress::Program;
 use execlist::space::ListSpace;
 use exectrace::Name;
-use scheduler::Sched;
 use std::alloc::{AllocError, Global};
 use taskq::{TaskId, TaskInit};
 
@@ -46,29 +45,41 @@ impl<S: ListSpace> Machine<S> {
         ensures full { MatchResult result (λ t. Unit {0}) (λ fault. fault ≡ AddFault.Full → 4096 ≤ length self.old.seen.scripts.programs) }
         ensures kept { OnErr result (self.new ≡ self.old) }
     {
-        let number = self.kernel.programs.len();
-        if number >= MOST_TASKS {
-            return Err(AddFault::Full);
-        }
         self.is_settled = false;
-        match self.kernel.join_task(alloc, TaskInit { name, pri }) {
-            Ok(()) => Ok(number),
-            Err(_) => Err(AddFault::OutOfMemory),
-        }
+        self.kernel.append_task(alloc, name, pri)
     }
 }
 
 impl<S: ListSpace> Kernel<S> {
-    /// One more task is after the others, which was never added, and whose body is empty.
-    fn join_task(&mut self, alloc: Global, init: TaskInit) -> Result<(), AllocError>
-        requires { length self.old.scripts.programs + 1 ≤ 4096 }
-        ensures joined { OnOk result (self.new ≡ seen_with_new (new_task init.name.bytes init.pri) self.old) }
+    /// One more task, of that name and that priority, is after the others, which was never added, and whose body is
+    /// empty. Answers its number.
+    fn append_task(&mut self, alloc: Global, name: Name, pri: i8) -> Result<TaskId, AddFault>
+        ensures number { IfOk result (λ t. t ≡ length self.old.scripts.programs) }
+        ensures joined { OnOk result (self.new ≡ seen_with_new (new_task name.bytes pri) self.old) }
+        ensures full { MatchResult result (λ t. Unit {0}) (λ fault. fault ≡ AddFault.Full → 4096 ≤ length self.old.scripts.programs) }
         ensures kept { OnErr result (self.new ≡ self.old) }
         ensures ready { (t : ℕ) → times t self.old.schedule.queue.ready ≡ (if is_ready (status_of self.old.schedule t) then 1 else 0) }
         ensures pris { length self.old.schedule.queue.pris ≡ task_count self.old.schedule }
     {
         self.sched.facts();
-        let (sched, inits) = self.joined(alloc, init)?;
+        let number = self.programs.len();
+        if number >= MOST_TASKS {
+            return Err(AddFault::Full);
+        }
+        match self.join_task(alloc, TaskInit { name, pri }) {
+            Ok(()) => Ok(number),
+            Err(_) => Err(AddFault::OutOfMemory),
+        }
+    }
+
+    /// The same, if there is room for its number.
+    fn join_task(&mut self, alloc: Global, init: TaskInit) -> Result<(), AllocError>
+        requires { length self.old.scripts.programs + 1 ≤ 4096 }
+        ensures joined { OnOk result (self.new ≡ seen_with_new (new_task init.name.bytes init.pri) self.old) }
+        ensures kept { OnErr result (self.new ≡ self.old) }
+    {
+        let sched = self.sched.with_new_task(alloc, init)?;
+        let inits = self.inits_with_new(alloc)?;
         self.programs.reserve(1)?;
         self.memory.add_task(alloc)?;
         self.programs
@@ -79,15 +90,15 @@ impl<S: ListSpace> Kernel<S> {
         Ok(())
     }
 
-    /// The schedule with one more task, and room for as many names and priorities.
-    fn joined(&self, alloc: Global, init: TaskInit) -> Result<(Sched<S>, Vec<TaskInit>), AllocError>
-        requires { length self.now.scripts.programs + 1 ≤ 4096 }
-        ensures schedule { IfOk result (λ made. made.0 ≡ joined_by init.pri init.name.bytes self.now.schedule) }
-        ensures room { IfOk result (λ made. length made.1.items ≡ length self.now.scripts.programs + 1) }
+    /// Room for as many names and priorities as there are tasks, and for one more.
+    fn inits_with_new(&self, alloc: Global) -> Result<Vec<TaskInit>, AllocError>
+        ensures { IfOk result (λ v. length v.items ≡ length self.now.scripts.programs + 1) }
     {
-        let sched = self.sched.with_new_task(alloc, init)?;
         let mut inits = Vec::from_slice(alloc, &self.inits)?;
-        inits.push(init)?;
-        Ok((sched, inits))
+        inits.push(TaskInit {
+            name: Name::new(),
+            pri: 0,
+        })?;
+        Ok(inits)
     }
 }
