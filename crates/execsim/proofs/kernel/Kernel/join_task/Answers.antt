@@ -20,6 +20,6 @@ returns-clause-joined g c =
     } in
     let put : c.push.new.self.items ≡ c.reserve.new.self.items ++ c.new-2.result ∷ [] = rw c.unwrap.ensures at c.push.ensures.items in
     parts_joined c.args.init.name.bytes c.args.init.pri seen c.in_ok-sched.sched c.push.new.self.items c.reserve.new.self.items c.new-2.result c.add_task.new.self
-        c.in_ok-sched.ensures put c.in_ok-reserve.ensures.items
-        (c.new-2.ensures ∙ ap (λ cs. begun_with (map command_view cs) false) c.new.ensures.items) c.in_ok-add_task.ensures.added
+    c.in_ok-sched.ensures put c.in_ok-reserve.ensures.items
+    (c.new-2.ensures ∙ ap (λ cs. begun_with (map command_view cs) false) c.new.ensures.items) c.in_ok-add_task.ensures.added
     ∙ ap (seen_with_new (new_task c.args.init.name.bytes c.args.init.pri)) c.self.view_is
