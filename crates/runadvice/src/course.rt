@@ -3,13 +3,14 @@ ghost use Rattle.std.specs.Prelude.{◌≡◌, ◌<◌, ◌≤◌, ◌⊎◌, []
 
 use crate::bodies::{Begun, after_line, begun_by, begun_likely, command_at, count_of};
 use crate::failing::{Failings, may_fail, overwrites};
+use crate::interrupt_sends::InterruptSends;
 use crate::next::{Next, Part};
 use crate::page::Spot;
 use crate::past::{Past, TaskPast, Time, is_reached, rank_of};
 use crate::room::Room;
 use crate::scene::Linked;
 use crate::sends::{Act, END, Sends, is_clearing, is_sending, may_finish, number_in};
-use crate::step::{Marks, Site, TaskPlace, When, prints};
+use crate::step::{Marks, Site, TaskPlace, When, place_of, prints};
 use crate::value::value_of;
 use crate::words::row_of;
 use execsim::Flow;
@@ -39,8 +40,8 @@ pub struct Course<'a> {
     marks: Vec<Vec<Marks>>,
     /// The body that began last after each number of a body, from the second on; the first is for those that began before any other of their event.
     likely: Vec<usize>,
-    /// Whether a tick or a request can send something: there are servers, or requests of the timer.
-    has_senders: bool,
+    /// What the bodies of interrupts send, as far as their code says it.
+    interrupt_sends: InterruptSends,
     /// When each software interrupt was run last.
     softints: Vec<Option<Time>>,
     /// When the servers of each source were run last.
@@ -82,11 +83,6 @@ fn no_past(alloc: Global, file: &MachineFile) -> Result<Vec<TaskPast>, AllocErro
     Ok(tasks)
 }
 
-/// Whether only the text of a step says all that the call of a command has sent.
-fn is_read(command: &Command) -> bool {
-    may_finish(command.word) || is_sending(command.word) && overwrites(command)
-}
-
 /// What is noted of a command.
 fn marks_of(command: &Command) -> Marks {
     let word = command.word;
@@ -96,7 +92,8 @@ fn marks_of(command: &Command) -> Marks {
         clears: is_clearing(word),
         fails: may_fail(command),
         sends: is_sending(word),
-        is_read: is_read(command),
+        is_read: is_sending(word) && overwrites(command),
+        finishes: may_finish(word),
     }
 }
 
@@ -116,21 +113,6 @@ fn all_marks(alloc: Global, file: &MachineFile) -> Result<Vec<Vec<Marks>>, Alloc
         marks.push(marks_in(alloc, &task.code)?)?;
     }
     Ok(marks)
-}
-
-/// Whether some code may begin a request of the timer.
-fn may_begin(code: &[Command]) -> bool {
-    code.iter().any(|command| may_finish(command.word))
-}
-
-/// Whether a tick or a request of an interrupt can send something.
-fn has_senders(file: &MachineFile) -> bool {
-    file.servers().len() > 0
-        || file.tasks().iter().any(|task| may_begin(&task.code))
-        || file
-            .softints()
-            .iter()
-            .any(|softint| may_begin(&softint.code))
 }
 
 /// How many bodies of interrupts of one kind there are, at most.
@@ -155,17 +137,6 @@ fn is_closing(word: Word) -> bool {
     )
 }
 
-/// The place of a source in the order in which they are served.
-fn place_of(source: Source) -> usize
-    ensures { result < 3 }
-{
-    match source {
-        Source::Exter => 0,
-        Source::Vertb => 1,
-        Source::Ports => 2,
-    }
-}
-
 impl<'a> Course<'a> {
     /// Nothing is noted of the run of a machine yet.
     pub fn new(alloc: Global, file: &'a MachineFile) -> Result<Course<'a>, AllocError> {
@@ -174,7 +145,7 @@ impl<'a> Course<'a> {
             tasks: no_past(alloc, file)?,
             marks: all_marks(alloc, file)?,
             likely: vec![in alloc; 0usize; most_bodies(file).saturating_add(1)]?,
-            has_senders: has_senders(file),
+            interrupt_sends: InterruptSends::new(alloc, file)?,
             softints: vec![in alloc; None; file.softints().len()]?,
             sources: [None; 3],
             asking: [false; 3],
@@ -344,7 +315,7 @@ impl<'a> Course<'a> {
             moment: self.moment(),
         };
         self.sends.note(machine, word, values, deed);
-        self.is_whole = self.is_whole && self.sends.is_whole;
+        self.note_loss();
     }
 
     /// Notes what the call of a task has sent, by its arguments, which hold what they held before; or that the task has ended, after its last command.
@@ -440,23 +411,60 @@ impl<'a> Course<'a> {
             }
             first = None;
         }
+        self.note_loss();
+    }
+
+    /// Notes whether something was lost when what was sent was noted.
+    fn note_loss(&mut self) {
         self.is_whole = self.is_whole && self.sends.is_whole;
     }
 
     /// Notes what a step of a task has sent in which no source was asking. Its own call has the only line of the step that says so, unless that is read.
     fn note_alone(&mut self, machine: &Linked, turn: TaskPlace, room: &Room) {
         match self.marks_at(turn) {
-            Some(marks) if marks.is_read => self.note_lines(machine, Next::Task(turn), room),
+            Some(marks) if marks.is_read || marks.finishes && room.has_more() => {
+                self.note_lines(machine, Next::Task(turn), room);
+            }
             Some(marks) if !marks.sends => {}
             _ => self.note_own(machine, turn),
         }
     }
 
+    /// Notes what a software interrupt has sent in whose step no source was asking.
+    fn note_softint(&mut self, machine: &Linked, number: usize, room: &Room) {
+        if !self.interrupt_sends.is_softint_known(number) {
+            return self.note_lines(machine, Next::Softint(number), room);
+        }
+        let moment = self.moment();
+        self.interrupt_sends
+            .note_softint(&mut self.sends, machine, number, moment);
+        self.note_loss();
+    }
+
+    /// Notes what was sent in a tick, a request or some steps of an idle machine, in which these sources were served.
+    fn note_servers(&mut self, machine: &Linked, served: [bool; 3], room: &Room) {
+        if !self.interrupt_sends.are_sources_known(served) {
+            return self.note_lines(machine, Next::Nothing, room);
+        }
+        let moment = self.moment();
+        self.interrupt_sends
+            .note_sources(&mut self.sends, machine, served, moment);
+        self.note_loss();
+    }
+
     /// Notes what was sent in some steps, a tick or a request, where a source was asking or not.
-    fn note_sending(&mut self, machine: &Linked, next: Next, has_asked: bool, room: &Room) {
+    fn note_sending(
+        &mut self,
+        machine: &Linked,
+        next: Next,
+        has_asked: bool,
+        served: [bool; 3],
+        room: &Room,
+    ) {
         match next {
             Next::Task(turn) if !has_asked => self.note_alone(machine, turn, room),
-            Next::Nothing if !self.has_senders => {}
+            Next::Softint(number) if !has_asked => self.note_softint(machine, number, room),
+            Next::Nothing => self.note_servers(machine, served, room),
             _ => self.note_lines(machine, next, room),
         }
     }
@@ -487,20 +495,23 @@ impl<'a> Course<'a> {
         }
     }
 
-    /// Notes which sources were served: those that asked and do not ask any more.
-    fn note_served(&mut self, machine: &Linked, when: When) {
+    /// Notes which sources were served, and answers it: those that asked and do not ask any more.
+    fn note_served(&mut self, machine: &Linked, when: When) -> [bool; 3] {
         let asked = self.asking;
+        let mut served = [false; 3];
         if !self.any_asks() {
-            return;
+            return served;
         }
         let latches = machine.view().latches;
         let asking = [latches.exter, latches.vertb, latches.ports];
         self.asking = asking;
         for k in 0..3 {
             if asked[k] && !asking[k] {
+                served[k] = true;
                 self.sources[k] = self.next_bodies(when, self.file.servers().len());
             }
         }
+        served
     }
 
     /// Notes what a body of an interrupt has set in the event of the alert, up to a place.
@@ -590,8 +601,8 @@ impl<'a> Course<'a> {
             self.note_step(machine, next, when);
         }
         let has_asked = self.any_asks();
-        self.note_served(machine, when);
-        self.note_sending(machine, next, has_asked, room);
+        let served = self.note_served(machine, when);
+        self.note_sending(machine, next, has_asked, served, room);
     }
 
     /// Empties the room before the next event; after an alert it is as the alert left it.
@@ -600,7 +611,7 @@ impl<'a> Course<'a> {
         ensures bytes { (room.new.bytes.items ≡ []) ⊎ (room.new.bytes.items ≡ room.old.bytes.items) }
     {
         if self.stopped_in.is_none() {
-            room.bytes.clear();
+            room.clear();
         }
     }
 

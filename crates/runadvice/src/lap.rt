@@ -5,6 +5,7 @@ ghost use Rattle.execsim.specs.Time.{HasTimeFor};
 
 use crate::course::{Course, RECENT};
 use crate::following::Run;
+use crate::glance::Glance;
 use crate::next::{Next, next_of};
 use crate::scene::Linked;
 use crate::snapshot::{memory_shown, tasks_shown};
@@ -125,7 +126,7 @@ fn go_on(run: &mut Run<'_>) -> Result<bool, AllocError>
     ensures good { OnOk result (run.new.room.state ≡ SinkState.Good) }
     ensures time { OnOk result (HasTimeFor 0 run.new.machine.seen) }
 {
-    run.room.bytes.clear();
+    run.room.clear();
     match run.machine.event(Event::Run(1), &mut run.room) {
         Ok(flow) => Ok(flow == Flow::Going),
         Err(_) => Err(AllocError),
@@ -170,9 +171,10 @@ fn shows_again(
     alloc: Global,
     machine: &Linked,
     running: Option<TaskPlace>,
+    glance: &Glance,
     tasks: &str,
 ) -> Result<bool, AllocError> {
-    if turn_of(machine) != running {
+    if turn_of(machine) != running || !glance.is_shown(machine) {
         return Ok(false);
     }
     Ok(tasks_shown(alloc, machine)?.as_str() == tasks)
@@ -189,6 +191,7 @@ fn lap_from(alloc: Global, run: &mut Run<'_>) -> Result<Option<Lap>, AllocError>
     ensures time { OnOk result (HasTimeFor 0 run.new.machine.seen) }
 {
     let running = turn_of(&run.machine);
+    let glance = Glance::new(alloc, &run.machine)?;
     let tasks = tasks_shown(alloc, &run.machine)?;
     let memory = memory_shown(alloc, &run.machine)?;
     let mut lap = Lap::new(alloc);
@@ -199,7 +202,7 @@ fn lap_from(alloc: Global, run: &mut Run<'_>) -> Result<Option<Lap>, AllocError>
             return Ok(None);
         }
         lap.waits = lap.waits || is_waiting(&run.machine, next);
-        if shows_again(alloc, &run.machine, running, tasks.as_str())? {
+        if shows_again(alloc, &run.machine, running, &glance, tasks.as_str())? {
             if memory_shown(alloc, &run.machine)?.as_str() == memory.as_str() {
                 lap.is_back = true;
                 return Ok(Some(lap));

@@ -1,5 +1,6 @@
 //! Explains how a run ends: the alert that stopped it, each task that still waits, a deadlock, and a task that runs without end.
-//! `course`, `sends` and `failing` note what each step did, `following` makes the run, `lap` goes on from its end, and the other files ask the machine there.
+//! `course`, `sends`, `interrupt_sends` and `failing` note what each step did, `following` makes the run, `lap` goes on from its end, and the
+//! other files ask the machine there.
 #![tactic(auto)]
 
 mod alert;
@@ -11,7 +12,9 @@ mod deadlock;
 mod ending;
 mod failing;
 mod following;
+mod glance;
 mod handles;
+mod interrupt_sends;
 mod lap;
 mod memory;
 mod next;

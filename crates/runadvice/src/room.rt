@@ -10,6 +10,8 @@ use std::alloc::Global;
 pub struct Room {
     pub bytes: Vec<u8>,
     pub state: SinkState,
+    /// In how many writes the bytes came. Each line comes in one, or in more if it is long.
+    writes: u32,
 }
 
 impl Room {
@@ -21,7 +23,22 @@ impl Room {
         Room {
             bytes: Vec::new(alloc),
             state: SinkState::Good,
+            writes: 0,
         }
+    }
+
+    /// Whether there may be more than one line in it.
+    pub(crate) fn has_more(&self) -> bool {
+        self.writes > 1
+    }
+
+    /// Empties it.
+    pub fn clear(&mut self)
+        ensures bytes { self.new.bytes.items ≡ [] }
+        ensures state { self.new.state ≡ self.old.state }
+    {
+        self.bytes.clear();
+        self.writes = 0;
     }
 }
 
@@ -30,7 +47,9 @@ impl Sink for Room {
 
     ghost tape = { λ room. record { taken = Some room.bytes.items; state = room.state } };
 
+    #[inline(always)]
     fn write(&mut self, bytes: &[u8]) -> Result<usize, SinkFault> {
+        self.writes = self.writes.saturating_add(1);
         match self.bytes.extend_from_slice(bytes) {
             Ok(()) => {
                 self.state = SinkState::Good;

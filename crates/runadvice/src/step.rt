@@ -1,6 +1,8 @@
 //! Which command was done, when, and what it set.
+ghost use Rattle.std.specs.Prelude.{◌<◌};
+
 use crate::page::Spot;
-use script::{PlainWord, Word};
+use script::{PlainWord, Source, Word};
 use std::alloc::{AllocError, Global};
 
 /// When something was done in a run.
@@ -48,8 +50,10 @@ pub struct Marks {
     pub fails: bool,
     /// Whether it sends, or ends a task.
     pub sends: bool,
-    /// Whether only the text of its step says all that it has sent.
+    /// Whether only the text of its step says what it has sent: its answer is where an argument was.
     pub is_read: bool,
+    /// Whether it may let the timer finish requests, which only the text of its step says.
+    pub finishes: bool,
 }
 
 /// When something was done, in words.
@@ -66,5 +70,16 @@ pub fn prints(word: Word) -> bool {
     match word {
         Word::Plain(word) => matches!(word, PlainWord::Print),
         _ => true,
+    }
+}
+
+/// The place of a source in the order in which they are served.
+pub(crate) fn place_of(source: Source) -> usize
+    ensures { result < 3 }
+{
+    match source {
+        Source::Exter => 0,
+        Source::Vertb => 1,
+        Source::Ports => 2,
     }
 }
