@@ -14,11 +14,12 @@ use crate::near::are_digits;
 use crate::plain::{plain_line, without_quotes};
 use crate::proposal::fix_of_line;
 use crate::reads::is_number;
+use crate::roles::roles_of;
 use crate::said::cut;
 use crate::show::{Advice, Fix, Span, field_span, width_of};
 use crate::spacing::spacing_advice;
 use crate::topics::topic_of;
-use crate::values::{base_sixteen, has_point, is_constant, is_value, number_meant};
+use crate::values::{base_sixteen, has_point, is_constant, is_value, number_meant, shell_variable};
 use crate::variables::is_variable;
 use crate::words::{word_meant, word_near, words_begun};
 use escape::is_hidden;
@@ -45,7 +46,14 @@ const FIELDS: &str =
 
 /// What is said of the braces of C.
 const BRACES: &str =
-    "there are no blocks; a label, JumpZ x LABEL and Jump LABEL have the place of if and while";
+    "there are no blocks; JumpZ x LABEL goes past what is done if x is not 0, and a loop has a label before it and a Jump to that at its end";
+
+/// What is said of a choice of C among more than two.
+const BRANCHES: &str =
+    "there are no blocks; d = Sub x y and then JumpZ d LABEL, for each value y, have the place of switch";
+
+/// What is said of a loop that nothing ends.
+const ENDLESS: &str = "a label before the loop, and Jump to that at its end";
 
 /// What is said of a call as an argument of another one.
 const CALL_WITHIN: &str = "a call has a line of its own, before the line that takes its answer";
@@ -55,6 +63,33 @@ const QUOTES: &str = "a line of code has one pair of quotes around it, those of 
 
 /// What is said of a list, or a structure, as a value.
 const ONE_NUMBER: &str = "a variable holds one number; there are no lists of numbers";
+
+/// What is said of a text as a value.
+const ONE_NUMBER_NO_TEXT: &str = "a variable holds one number; there are no texts";
+
+/// What is said of an element of an array.
+const NO_ELEMENTS: &str = "there are no arrays; each number has a variable of its own";
+
+/// What is said of lines of BASIC and of assemblers that have no word.
+const NOT_NAMED: &str = "a number has no name; x = Set 5 sets a variable";
+
+const NOT_DRAWN: &str = "there is Exec alone, with timer.device, and nothing is drawn";
+
+const TEXT_ALONE: &str =
+    "a text alone is not a command; a comment is written after the closing quote, behind #";
+
+/// What is said of `$(` of the shell.
+const NOT_REPLACED: &str =
+    "nothing is put in place of $; the word follows the =, as in x = Wait $1000";
+
+/// What is said of two commands in one line.
+const OWN_LINE: &str = "each command has a line of its own";
+
+/// What is said of `$` before a variable.
+const DOLLAR: &str = "a variable has no $ before it";
+
+/// What is said of a name for a new port.
+const PORT_NAME: &str = "a new port has no name; AddPort p \"NAME\" 0 makes it public with one";
 
 /// What is said of a value that begins with the `*` of C.
 const NO_BASE: &str = "variables have no addresses, and the words of Exec need no base";
@@ -130,6 +165,38 @@ const NUMBER_HASH: &str = "a number has no # before it";
 /// What is said of a call in the manner of C.
 const CALLED: &str = "arguments follow the word, with one space before each";
 
+/// What is said of a line with a brace of C.
+fn braces_reason(line: &str) -> &'static str {
+    if line.starts_with("switch") {
+        BRANCHES
+    } else {
+        BRACES
+    }
+}
+
+/// Whether a line begins a loop that nothing ends.
+fn is_endless(line: &str) -> bool {
+    let is_loop = line.starts_with("while") || line.starts_with("for") || line.starts_with("WHILE");
+    let signs = ["True", "true", "TRUE", "(1)", ";;", "; ;"];
+    let is_one = line == "while 1" || line == "while 1:" || line == "WHILE 1";
+    is_one || is_loop && signs.iter().any(|sign| line.contains(*sign))
+}
+
+/// What is said of a name of another system with which a line begins that shows a text, or is a loop that nothing ends; or
+/// else what is said of it in any line.
+fn instead_in(line: &str, name: &str) -> Option<Instead> {
+    let instead = instead_of(name)?;
+    if is_endless(line) {
+        return Some(Instead::Write(ENDLESS));
+    }
+    match instead {
+        Instead::Write("Print x") if line.contains('"') && !line.contains('%') => {
+            Some(Instead::Nothing(SHOWN))
+        }
+        _ => Some(instead),
+    }
+}
+
 /// Whether a text is written as the name of a function: letters, digits, `_` and dots.
 fn is_identifier_like(text: &str) -> bool {
     !text.is_empty()
@@ -162,6 +229,7 @@ fn calculation_reason(after: &[&str]) -> Option<&'static str> {
         [value, ..] if value.starts_with("[") || value.starts_with("{") => Some(ONE_NUMBER),
         [value, ..] if value.starts_with("*") => Some(NO_BASE),
         [value] if value.starts_with("!") => Some(CHOICES),
+        [value] if value.contains('[') && !value.starts_with("\"") => Some(NO_ELEMENTS),
         [value] if value.contains("++") || value.contains("--") => Some(STEP_WITHIN),
         [_, operator, ..] if asks(*operator) => Some(CHOICES),
         [_, operator, _, _, ..] if is_operator(*operator) => Some(STEPS),
@@ -278,9 +346,11 @@ fn label_reason(alloc: Global, name: &str, wanted: &'static str) -> Made<&'stati
 }
 
 /// What is said of the name of another language with which the parts of a line begin that ends with a colon.
-fn instead_before_colon(parts: &[&str]) -> Option<Instead> {
+fn instead_before_colon(line: &str, parts: &[&str]) -> Option<Instead> {
     match parts {
-        [first, _, ..] if parts.last().copied().unwrap_or("").ends_with(":") => instead_of(*first),
+        [first, _, ..] if parts.last().copied().unwrap_or("").ends_with(":") => {
+            instead_in(line, *first)
+        }
         _ => None,
     }
 }
@@ -297,6 +367,9 @@ fn value_in_place(alloc: Global, text: &str, count: usize) -> Made<Option<&'stat
     if is_number(text) {
         return Ok(Some("a word is missing, as in x = Set 1"));
     }
+    if text.starts_with("\"") || text.starts_with("'") {
+        return Ok(Some(ONE_NUMBER_NO_TEXT));
+    }
     if begins_as_value(text) {
         return Ok(Some(value_reason(alloc, text)?));
     }
@@ -311,6 +384,37 @@ fn lone_reason(text: &str, count: usize) -> Option<&'static str> {
         Some("a variable alone is not a command, as @x = Set 1 is")
     } else {
         None
+    }
+}
+
+/// What is said of a line of BASIC, of an assembler, of Python or of a graphics program, which begins with a text that is
+/// no word.
+fn dialect_reason(text: &str, fields: &[&str]) -> Option<&'static str> {
+    let next = fields.get(1).copied().unwrap_or("");
+    if next.eq_ignore_ascii_case("equ") {
+        Some(NOT_NAMED)
+    } else if text == "SUB" && fields.len() == 2 {
+        Some(NO_FUNCTIONS)
+    } else if text.eq_ignore_ascii_case("end") && next.eq_ignore_ascii_case("sub") {
+        Some(NO_FUNCTIONS)
+    } else if text == "Move" && fields.len() == 4 {
+        Some(NOT_DRAWN)
+    } else if text.starts_with("\"") {
+        Some(TEXT_ALONE)
+    } else if asks(next) && instead_of(text).is_none() {
+        Some(CHOICES)
+    } else if has_joined_label(text) {
+        Some("a label has a line of its own")
+    } else {
+        None
+    }
+}
+
+/// Whether a part is a label with a word after its colon, with no space between them.
+fn has_joined_label(part: &str) -> bool {
+    match part.split_once(":") {
+        None => false,
+        Some((name, rest)) => is_identifier(name.as_bytes()) && word_of(rest).is_some(),
     }
 }
 
@@ -369,6 +473,18 @@ fn far_reason(alloc: Global, text: &str) -> Made<String> {
     let list = begun.join(alloc, ", ")?;
     let more = format!(in alloc; "those that begin so are {list}")?;
     unknown_text(alloc, text, more.as_str())
+}
+
+/// Why the name of no label is no word, in a line of its own: which words are for what it is about, and that a label ends
+/// with a colon.
+fn lone_name_reason(alloc: Global, text: &str) -> Made<String> {
+    match topic_of(alloc, text)? {
+        None => unknown_text(alloc, text, "a label ends with a colon"),
+        Some(topic) => {
+            let more = format!(in alloc; "{topic}; a label ends with a colon")?;
+            unknown_text(alloc, text, more.as_str())
+        }
+    }
 }
 
 /// Why a text is no word. `meant` is the line that is meant, if that is known.
@@ -483,6 +599,9 @@ fn value_reason(alloc: Global, field: &str) -> Made<&'static str> {
     if let Some(reason) = shape_reason(field) {
         return Ok(reason);
     }
+    if shell_variable(field).is_some() {
+        return Ok(DOLLAR);
+    }
     if let Some(digits) = base_sixteen(field) {
         return Ok(base_sixteen_reason(digits));
     }
@@ -551,7 +670,7 @@ fn softint_reason(softints: &[Value], field: &str) -> &'static str {
     if quoted_in(field).is_none() {
         quoted_reason(field, NAME)
     } else if softints.is_empty() {
-        "the file has no software interrupt"
+        "the file has no software interrupt; a [[softint]] table makes one"
     } else {
         "the file has no software interrupt of this name"
     }
@@ -588,22 +707,27 @@ fn kinds_text(alloc: Global, word: Word) -> Made<String> {
     format!(in alloc; " ({list})")
 }
 
-/// How many arguments a word takes, and what they are if too few are given.
-fn wanted_text(alloc: Global, word: Word, given: usize) -> Made<String> {
+/// How many arguments a word takes, and what they are.
+fn wanted_text(alloc: Global, word: Word) -> Made<String> {
     let text = word.text();
     let count = word.kinds().len();
     let wanted = counted(alloc, count)?;
-    if given >= count {
+    if count == 0 {
         return format!(in alloc; "{text} takes {wanted}");
     }
-    let kinds = kinds_text(alloc, word)?;
-    format!(in alloc; "{text} takes {wanted}{kinds}")
+    match roles_of(text) {
+        Some(roles) => format!(in alloc; "{text} takes {wanted} ({roles})"),
+        None => {
+            let kinds = kinds_text(alloc, word)?;
+            format!(in alloc; "{text} takes {wanted}{kinds}")
+        }
+    }
 }
 
 /// Why a word has not as many arguments as it takes. `has_target` says whether one of them is the variable for its
 /// answer.
 fn count_reason(alloc: Global, word: Word, given: usize, has_target: bool) -> Made<String> {
-    let takes = wanted_text(alloc, word, given)?;
+    let takes = wanted_text(alloc, word)?;
     if given == 0 {
         return format!(in alloc; "{takes}, but none is given");
     }
@@ -636,11 +760,50 @@ fn extra_reason(part: &str) -> Option<&'static str> {
     }
 }
 
+/// What is said of a value after the arguments of a word that takes less than other systems do.
+fn extra_value_reason(word: Word) -> Option<&'static str> {
+    match word.text() {
+        "Wait" => Some(
+            "Wait takes 1 mask, which has the bits of all signals: $1000 and $2000 are $3000",
+        ),
+        "Print" => Some("Print shows 1 value: a line for each"),
+        "ObtainSemaphore" => Some(
+            "ObtainSemaphore takes 1 semaphore: a line for each, in the same order in all tasks",
+        ),
+        "Add" => Some(
+            "Add takes 2 values, and another line goes on: x = Add x 1 and then x = Add x 2",
+        ),
+        "ReplyMsg" => Some(
+            "ReplyMsg takes 1 argument (message): NewMsg gave the message its reply port",
+        ),
+        _ => None,
+    }
+}
+
+/// Whether a part begins with a quote.
+fn begins_as_text(part: &str) -> bool {
+    ["\"", "'", "\u{201C}", "\u{2018}"]
+        .iter()
+        .any(|quote| part.starts_with(*quote))
+}
+
+/// What is said of a name after a word that takes no argument.
+fn extra_name_reason(word: Word, part: &str) -> Option<&'static str> {
+    if !part.starts_with("\"") {
+        return None;
+    }
+    match word.text() {
+        "NewSem" => Some(NAMELESS),
+        "CreateMsgPort" => Some(PORT_NAME),
+        _ => None,
+    }
+}
+
 /// What is said of a number for FindTask, and of a text for Print.
 fn said_of_argument(word: Word, field: &str) -> Option<&'static str> {
     if word.text() == "FindTask" && is_number(field) {
         Some(FOUND)
-    } else if word.text() == "Print" && (field.starts_with("\"") || field.starts_with("'")) {
+    } else if word.text() == "Print" && begins_as_text(field) {
         Some(SHOWN)
     } else {
         None
@@ -795,7 +958,15 @@ impl Line<'_, '_, '_> {
         if after.len() == count {
             return Ok(None);
         }
-        if let Some(reason) = extra_reason(after.get(count).copied().unwrap_or("")) {
+        let extra = after.get(count).copied().unwrap_or("");
+        let shown = if after.len() > count && !self.gains_target() {
+            extra_name_reason(word, extra)
+                .or(extra_reason(extra))
+                .or(extra_value_reason(word))
+        } else {
+            extra_reason(extra)
+        };
+        if let Some(reason) = shown {
             return self.at(first.saturating_add(count), reason);
         }
         let part = first.saturating_add(count.min(after.len()));
@@ -835,10 +1006,15 @@ impl Line<'_, '_, '_> {
             let reason = label_reason(alloc, text.trim_end_matches(':'), LABEL)?;
             return String::from_str(alloc, reason);
         }
-        if let Some(instead) = instead_before_colon(fields) {
+        if let Some(instead) = instead_before_colon(self.text, fields) {
             return instead_reason(alloc, text, instead);
         }
-        if let Some(reason) = joint_reason(text, fields, at) {
+        let dialect = if at == 0 {
+            dialect_reason(text, fields)
+        } else {
+            None
+        };
+        if let Some(reason) = dialect.or(joint_reason(text, fields, at)) {
             return String::from_str(alloc, reason);
         }
         let is_wordless = self.meant.is_some()
@@ -859,7 +1035,7 @@ impl Line<'_, '_, '_> {
                 return Ok(reason);
             }
         }
-        match instead_of(text) {
+        match instead_in(self.text, text) {
             Some(instead) => instead_reason(alloc, text, instead),
             None => self.unknown_reason(text),
         }
@@ -878,9 +1054,7 @@ impl Line<'_, '_, '_> {
             None
                 if instead_of(text).is_none()
                     && is_identifier(text.as_bytes())
-                    && word_near(alloc, text)?.is_none() => {
-                unknown_text(alloc, text, "a label ends with a colon")?
-            }
+                    && word_near(alloc, text)?.is_none() => { lone_name_reason(alloc, text)? }
             _ => return Ok(None),
         };
         Ok(Some(reason))
@@ -921,8 +1095,10 @@ impl Line<'_, '_, '_> {
 
     /// Why a name of another system is no word, if the line is written in the manner of C or of an assembler.
     fn foreign_reason(&self, name: &str) -> Made<Option<String>> {
-        let has_sign = self.text.contains('#') || self.text.contains(',');
-        match instead_of(name) {
+        let has_sign = self.text.contains('#')
+            || self.text.contains(',')
+            || self.text.contains("; ");
+        match instead_in(self.text, name) {
             Some(instead) if self.is_foreign_form() || has_sign => {
                 Ok(Some(instead_reason(self.alloc, name, instead)?))
             }
@@ -949,6 +1125,20 @@ impl Line<'_, '_, '_> {
         }
     }
 
+    /// What is wrong with a line that has two commands, or a sign of the shell.
+    fn shell_reason(&self, plain: &str) -> Option<&'static str> {
+        if self.text.contains("$(") {
+            return Some(NOT_REPLACED);
+        }
+        let (_, rest) = self.text.split_once("; ")?;
+        let is_command = word_of(rest.split(' ').next().unwrap_or("")).is_some();
+        if self.meant.is_none() && !begins_foreign(plain) && (is_command || rest.contains('=')) {
+            Some(OWN_LINE)
+        } else {
+            None
+        }
+    }
+
     /// What is wrong with a line that has a sign of C, or the name of a type.
     fn sign_reason(&self, plain: &str) -> Made<Option<&'static str>> {
         if let Some(reason) = memory_reason(self.text) {
@@ -958,7 +1148,10 @@ impl Line<'_, '_, '_> {
             return Ok(Some(FIELDS));
         }
         if self.text.ends_with("{") || self.text.starts_with("}") {
-            return Ok(Some(BRACES));
+            return Ok(Some(braces_reason(self.text)));
+        }
+        if let Some(reason) = self.shell_reason(plain) {
+            return Ok(Some(reason));
         }
         if self.text.starts_with("#") && self.meant.is_some() {
             return Ok(Some(HASH));
@@ -1008,6 +1201,20 @@ impl Line<'_, '_, '_> {
         String::from_str(self.alloc, CALLED)
     }
 
+    /// What is wrong with a word and its arguments, if there are more than it takes, with commas between them.
+    fn listed_reason(&self, after: &[&str]) -> Option<&'static str> {
+        let [first, arguments @ ..] = after else {
+            return None;
+        };
+        let word = word_of(first)?;
+        let is_listed = self.meant.is_none() && self.text.contains(',') && !self.text.contains('(');
+        if is_listed && arguments.len() > word.kinds().len() {
+            extra_value_reason(word)
+        } else {
+            None
+        }
+    }
+
     /// What is wrong with a line that has no word, or a call in the manner of C. `plain` is its plain form, which has
     /// these parts.
     fn plain_reason(&self, plain: &str, parts: &[&str]) -> Made<Option<String>> {
@@ -1019,6 +1226,9 @@ impl Line<'_, '_, '_> {
         let foreign = self.foreign_reason(first)?;
         if foreign.is_some() {
             return Ok(foreign);
+        }
+        if let Some(reason) = self.listed_reason(after) {
+            return Ok(Some(String::from_str(self.alloc, reason)?));
         }
         if self.meant.is_some() && without_word(self.alloc, plain)? == Wordless::Sets {
             return Ok(Some(String::from_str(self.alloc, "a word is missing")?));

@@ -11,32 +11,36 @@ use taskscript::fields_of;
 /// The operators of C that a word has the place of.
 const OPERATORS: [&str; 4] = ["+", "-", "&", "|"];
 
-/// The word for an operator of C.
+/// The word for an operator of C or of BASIC.
 fn word_for(operator: &str) -> Option<&'static str> {
     match operator {
         "+" => Some("Add"),
         "-" => Some("Sub"),
-        "&" => Some("And"),
-        "|" => Some("Or"),
+        "&" | "AND" => Some("And"),
+        "|" | "OR" => Some("Or"),
         _ => None,
     }
 }
 
-/// The name of another system for an operator of C that no word has the place of.
+/// The name of another system for an operator of C, of BASIC or of Python that no word has the place of.
 pub(crate) fn name_of_operator(operator: &str) -> Option<&'static str> {
     match operator {
         "*" | "**" => Some("Mul"),
-        "/" => Some("Div"),
-        "%" => Some("Mod"),
+        "/" | "//" | "DIV" | "div" => Some("Div"),
+        "%" | "MOD" | "mod" => Some("Mod"),
         "<<" => Some("Shl"),
-        "^" => Some("Xor"),
+        ">>" | ">>>" => Some("Shr"),
+        "^" | "XOR" | "xor" => Some("Xor"),
         _ => None,
     }
 }
 
-/// Whether a part is an operator of C that asks whether values are 0.
+/// Whether a part is an operator of C or of Python that asks whether values are 0.
 pub(crate) fn asks(part: &str) -> bool {
-    part == "&&" || part == "||" || part == "?"
+    match part {
+        "&&" | "||" | "?" | "and" | "or" | "if" | "is" | "in" => true,
+        _ => false,
+    }
 }
 
 /// Whether a part is an operator of C that calculates.
@@ -60,9 +64,11 @@ fn without_operators(before: &str) -> &str {
     text.trim_end_matches('&').trim_end_matches('|').trim()
 }
 
-/// A target without the `:` of `:=`, the word `Set`, the `*` of C and the `#` of an assembler.
+/// A target without the `:` of `:=`, the word `Set`, the `*` of C, the `#` of an assembler and the signs of BASIC for
+/// its type.
 fn plain_target(before: &str) -> &str {
     let target = before.trim_end_matches(':').trim();
+    let target = target.trim_end_matches('%').trim_end_matches('$');
     let target = target.strip_prefix("Set ").unwrap_or(target);
     target.trim_start_matches('*').trim_start_matches('#')
 }

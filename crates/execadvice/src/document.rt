@@ -34,6 +34,16 @@ const YAML: &str =
 const C: &str =
     "this is C, which execc runs; a machine file is TOML, with KEY = VALUE, and [[task]] above each task";
 
+/// What is said of a calculation as a value.
+const CALCULATED: &str = "a value is one number: nothing is calculated";
+
+/// What is said of a quote within a string between single quotes.
+const SINGLE: &str =
+    "a name within a string between single quotes has double quotes, as 'FindTask \"a\"'";
+
+/// What is said of a backslash.
+const BACKSLASH: &str = "a backslash is written \\\\, or the string is put between single quotes";
+
 /// What is said of the head of a table that does not end.
 const HEAD: &str =
     "the head of a table is its kind between two brackets on each side, as [[task]], with its name below: name = \"a\"";
@@ -60,7 +70,7 @@ fn character_likely(c: char) -> Option<&'static str> {
         ),
         ':' => Some("TOML has = between a key and its value"),
         '(' | ')' | '}' => Some("an array is between [ and ]"),
-        '*' | '+' => Some("a value is one number: nothing is calculated"),
+        '*' | '+' | '|' => Some(CALCULATED),
         _ => None,
     }
 }
@@ -89,7 +99,9 @@ fn likely_reason(before: char, c: char, wants_value: bool) -> Option<&'static st
             "a double quote within a string is written \\\", or the string is put between single quotes",
         );
     }
-    if wants_value && c.is_ascii_alphabetic() {
+    if before == '\'' && c != ']' {
+        Some(SINGLE)
+    } else if wants_value && c.is_ascii_alphabetic() {
         Some("text is put between double quotes")
     } else {
         None
@@ -99,6 +111,9 @@ fn likely_reason(before: char, c: char, wants_value: bool) -> Option<&'static st
 /// What the reader of TOML says at a character, and what is likely wrong. `before` is the character before it.
 fn character_reason(alloc: Global, message: &str, before: char, c: char) -> Made<String> {
     match likely_reason(before, c, message.starts_with("invalid value")) {
+        _ if message.starts_with("invalid escape") => {
+            format!(in alloc; "{message}; {BACKSLASH}")
+        }
         Some(reason) => format!(in alloc; "{message}; {reason}"),
         None if is_hidden(c) => {
             let reason = hidden_reason(alloc, c)?;
@@ -196,9 +211,15 @@ fn sets_kind(line: &str) -> bool {
     }
 }
 
+/// Whether a line has one bracket before a kind and two after it.
+fn has_one_bracket(text: &str) -> bool {
+    text.starts_with("[") && !text.starts_with("[[") && text.ends_with("]]") && !text.contains('"')
+}
+
 /// Whether a line begins a table, or sets a kind of tables, in another way than a head does. `text` is it without the spaces around it.
 fn is_wrong_head(line: &str, text: &str) -> bool {
-    begins_as_head(line) && (!text.ends_with("]") || text.contains(' ')) || sets_kind(text)
+    let is_other = !text.ends_with("]") || text.contains(' ') || has_one_bracket(text);
+    begins_as_head(line) && is_other || sets_kind(text)
 }
 
 /// What is said of a line of another language.
@@ -207,6 +228,11 @@ fn other_language_reason(line: &str) -> Option<&'static str> {
     let first = text.split(' ').next().unwrap_or("");
     if text.starts_with("---") || text.starts_with("- ") {
         Some(YAML)
+    } else if ["--", "/*", "REM ", "!"]
+        .iter()
+        .any(|mark| text.starts_with(*mark))
+    {
+        Some("a comment begins with #")
     } else if text.ends_with(":") && !text.contains('"') && !text.contains('=') {
         Some(YAML)
     } else if text.contains('(') && is_type(first) {
@@ -251,7 +277,12 @@ fn reason_in(
         _ => line.chars().nth(start.saturating_sub(1)).unwrap_or('\n'),
     };
     let c = line.chars().nth(start).unwrap_or('\n');
+    let after = line.chars().nth(start.saturating_add(1)).unwrap_or('\n');
     let likely = match key {
+        Some(_) if c == '<' => return format!(in alloc; "{message}; {CALCULATED}"),
+        Some(_) if c == ',' && before.is_ascii_digit() && after.is_ascii_digit() => {
+            return format!(in alloc; "{message}; a number has no comma in it");
+        }
         None => None,
         Some(key) => value_reason(key),
     };

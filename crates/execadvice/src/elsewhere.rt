@@ -14,10 +14,6 @@ const END: &str = "RemTask 0, or nothing: the end of the code ends the task";
 
 const JOIN: &str = "Wait MASK, with a signal that the other task sends at its end";
 
-/// How a task lets another run.
-const YIELD: &str =
-    "me = FindTask 0 and then SetTaskPri me 0, which lets tasks of that priority run";
-
 /// How a task keeps others away.
 const ATTEMPT: &str = "x = AttemptSemaphore s";
 
@@ -45,14 +41,20 @@ const CLEAR_MEMORY: &str = "a = AllocMem SIZE $10001, for MEMF_PUBLIC and MEMF_C
 const FREE_MEMORY: &str = "FreeMem a SIZE";
 
 /// How a loop and a choice are written.
-const LOOP: &str = "a label, JumpZ x LABEL and Jump LABEL";
+const LOOP: &str = "again:, JumpZ x done, the lines of the loop, Jump again and done:";
 
 const LOOP_END: &str = "JumpNZ x LABEL, with a label where the loop begins";
+
+const COUNT_END: &str = "x = Sub x 1 and then JumpNZ x LABEL, with a label where the loop begins";
 
 const CHOICE: &str = "d = Sub x y and then JumpZ d LABEL, for each value y";
 
 const SIGN: &str =
     "d = Sub x y, s = And d $80000000 and then JumpNZ s LABEL, which jumps if x is less than y";
+
+/// How a loop of an assembler counts, which ends at -1.
+const COUNT_TO_END: &str =
+    "x = Sub x 1, y = Add x 1 and then JumpNZ y LABEL, since it goes on until x is -1";
 
 /// How a product is made.
 const PRODUCT: &str = "x = Add y y for twice y, and a loop for other products";
@@ -64,7 +66,7 @@ const LET_OTHERS: &str = "Permit, or Enable after Disable";
 
 /// Names of calls of amiga.lib, of dos.library and of other systems, that make, end and time tasks, and show numbers, each with what is written in their
 /// place.
-const CALLS: [(&str, &str); 92] = [
+const CALLS: [(&str, &str); 90] = [
     ("NewCreateTask", NEW_TASK),
     ("CreateTaskTags", NEW_TASK),
     ("CreateProcess", NEW_TASK),
@@ -83,7 +85,6 @@ const CALLS: [(&str, &str); 92] = [
     ),
     ("DoTimer", SLEEP),
     ("OpenTimer", "e = OpenDevice \"timer.device\" 0 r"),
-    ("Schedule", YIELD),
     ("CreateSem", "s = NewSem"),
     ("AddMsgPort", "AddPort p \"NAME\" 0"),
     ("FindMsgPort", "p = FindPort \"NAME\""),
@@ -128,7 +129,6 @@ const CALLS: [(&str, &str); 92] = [
     ("vTaskPrioritySet", "old = SetTaskPri TASK PRIORITY"),
     ("vTaskDelete", "RemTask NUMBER"),
     ("vTaskDelayUntil", SLEEP),
-    ("taskYIELD", YIELD),
     ("Thread", NEW_TASK),
     ("CreateThread", NEW_TASK),
     ("CreateNewProcTags", NEW_TASK),
@@ -169,7 +169,7 @@ const CALLS: [(&str, &str); 92] = [
 ];
 
 /// The same of calls that have to do with semaphores, signals, messages and memory.
-const LOCKS: [(&str, &str); 111] = [
+const LOCKS: [(&str, &str); 110] = [
     ("pthread_mutex_init", "s = NewSem"),
     ("mutex_init", "s = NewSem"),
     ("sem_init", "s = NewSem"),
@@ -215,7 +215,6 @@ const LOCKS: [(&str, &str); 111] = [
     ("msgrcv", RECEIVE),
     ("calloc", CLEAR_MEMORY),
     ("new", "a word that makes it, as NewList, NewNode or NewMsg"),
-    ("sched_yield", YIELD),
     ("cli", "Disable"),
     ("sti", "Enable"),
     ("spin_lock", KEEP_OTHERS),
@@ -296,7 +295,7 @@ const LOCKS: [(&str, &str); 111] = [
 ];
 
 /// Names of other languages and of assemblers, each with what is written in their place.
-const SIGNS: [(&str, &str); 84] = [
+const SIGNS: [(&str, &str); 83] = [
     ("do", LOOP_END),
     ("until", LOOP_END),
     ("unless", "JumpNZ x LABEL"),
@@ -319,7 +318,6 @@ const SIGNS: [(&str, &str); 84] = [
     ("push", "x = Set y: there is no stack"),
     ("pop", "y = Set x: there is no stack"),
     ("movem", "x = Set y for each variable: there is no stack"),
-    ("swap", "t = Set x, x = Set y and then y = Set t"),
     ("exg", "t = Set x, x = Set y and then y = Set t"),
     ("addi", "x = Add x VALUE"),
     ("subi", "x = Sub x VALUE"),
@@ -361,7 +359,7 @@ const SIGNS: [(&str, &str); 84] = [
     ("jle", SIGN),
     ("ja", SIGN),
     ("jb", SIGN),
-    ("dbf", "x = Sub x 1 and then JumpNZ x LABEL"),
+    ("dbf", COUNT_TO_END),
     ("jz", "JumpZ x LABEL"),
     ("je", "JumpZ x LABEL"),
     ("jne", "JumpNZ x LABEL"),
@@ -384,11 +382,105 @@ const SIGNS: [(&str, &str); 84] = [
     ("Multiply", PRODUCT),
     ("idiv", "a loop of Sub"),
     ("Divide", "a loop of Sub"),
-    ("dbne", "x = Sub x 1 and then JumpNZ x LABEL"),
+    ("dbne", COUNT_TO_END),
     ("peek", "x = MsgWord m, which reads the word of a message"),
     (
         "poke",
         "SetMsgWord m VALUE, which sets the word of a message",
+    ),
+];
+
+/// How a variable is changed that others change too.
+const WHOLE: &str = "@x = Add @x 1: each command is done whole";
+
+/// The same of calls of C11, of other kernels and of Python, and of words of the shell and of assemblers.
+const MORE_PLACES: [(&str, &str); 72] = [
+    ("put", "PutMsg p m"),
+    ("get", "m = GetMsg p"),
+    ("Queue", "p = CreateMsgPort"),
+    ("append", "AddTail l n"),
+    (
+        "with",
+        "ObtainSemaphore s, and ReleaseSemaphore s at the end",
+    ),
+    ("async", NEW_TASK),
+    (
+        "await",
+        "WaitPort p for a message, or Wait MASK for a signal",
+    ),
+    (
+        "export",
+        "@x = Set VALUE, with a variable that all tasks share",
+    ),
+    ("test", "JumpZ x LABEL or JumpNZ x LABEL"),
+    ("fi", "a label, to which the jumps go"),
+    ("esac", "a label, to which the jumps go"),
+    ("complete", "Signal TASK MASK"),
+    ("wake_up", "Signal TASK MASK"),
+    ("wait_for_completion", "x = Wait MASK"),
+    ("printk", "Print x"),
+    ("thrd_create", NEW_TASK),
+    ("kthread_run", NEW_TASK),
+    ("thrd_join", JOIN),
+    ("thrd_sleep", SLEEP),
+    ("k_sleep", SLEEP),
+    ("mtx_init", "s = NewSem"),
+    ("mtx_lock", "ObtainSemaphore s"),
+    ("mtx_unlock", "ReleaseSemaphore s"),
+    ("cnd_wait", CONDITION),
+    ("cnd_signal", "Signal TASK MASK"),
+    ("cnd_broadcast", EACH_TASK),
+    ("k_sem_take", "ObtainSemaphore s"),
+    ("k_sem_give", NO_COUNT),
+    ("InterlockedIncrement", WHOLE),
+    ("InterlockedDecrement", WHOLE),
+    ("atomic_inc", WHOLE),
+    ("atomic_add", WHOLE),
+    ("SetPri", "old = SetTaskPri TASK PRIORITY"),
+    ("WaitMsgPort", "m = WaitPort p"),
+    ("Subtract", "x = Sub y z"),
+    ("Minus", "x = Sub y z"),
+    ("Plus", "x = Add y z"),
+    ("Copy", "x = Set y"),
+    ("Assign", "x = Set VALUE"),
+    ("Load", "x = Set VALUE"),
+    ("Store", "x = Set VALUE"),
+    ("WaitBOVP", "Wait for a signal of a server of VERTB"),
+    ("local_irq_disable", "Disable"),
+    ("local_irq_enable", "Enable"),
+    ("preempt_disable", "Forbid"),
+    ("preempt_enable", "Permit"),
+    ("portENTER_CRITICAL", KEEP_OTHERS),
+    ("portEXIT_CRITICAL", LET_OTHERS),
+    ("st", "x = Set -1"),
+    ("ext", "x = Set y: a variable holds 32 bits"),
+    ("pea", "x = Set y: there is no stack"),
+    ("rtd", END),
+    ("rtr", END),
+    ("dbeq", COUNT_TO_END),
+    ("CheckIORequest", "CheckIO r"),
+    ("SendIORequest", "SendIO r"),
+    ("DoIORequest", "DoIO r"),
+    ("WaitIORequest", "WaitIO r"),
+    ("AbortIORequest", "AbortIO r"),
+    ("osDelay", SLEEP),
+    ("OSTimeDly", SLEEP),
+    ("tx_thread_sleep", SLEEP),
+    ("DosDelay", SLEEP),
+    ("SetTimer", START_TIMER),
+    ("StartTimer", START_TIMER),
+    ("GetTickCount", READ_TIME),
+    ("CloseTimer", "CloseDevice r"),
+    ("StopTimer", "AbortIO r"),
+    ("[", "JumpZ x LABEL or JumpNZ x LABEL"),
+    ("ON", CHOICE),
+    (
+        "cmpi",
+        "d = Sub x y and then JumpZ d LABEL or JumpNZ d LABEL",
+    ),
+    (
+        "cmpa",
+        "d = Sub x y and then JumpZ d LABEL or JumpNZ d LABEL",
     ),
 ];
 
@@ -576,6 +668,100 @@ const LACKED_SIGNS: [(&str, &str); 61] = [
     ("AllocRaster", NO_GRAPHICS),
 ];
 
+const NO_TAGS: &str = "there are no tag lists; each call has its arguments after it";
+
+const NO_DELETING: &str =
+    "a variable stays; FreeMem, FreeMsg, FreeSem, DeleteMsgPort and the like free objects";
+
+const ALL_SHARED: &str = "all tasks share the variables that begin with @, and all memory";
+
+const NO_YIELD: &str =
+    "no word gives way to a task of the same priority: Wait MASK does, or a tick that ends the quantum";
+
+const NO_HALVES: &str = "no word exchanges the halves of a value";
+
+const NO_STACK: &str = "there is no stack; each task has variables of its own";
+
+/// The same of calls of graphics and of other systems, and of words of the shell and of assemblers.
+const MORE_LACKS: [(&str, &str); 64] = [
+    ("GetTagData", NO_TAGS),
+    ("FindTagItem", NO_TAGS),
+    ("NextTagItem", NO_TAGS),
+    ("OpenWindowTags", NO_GRAPHICS),
+    ("ModifyIDCMP", NO_GRAPHICS),
+    ("Draw", NO_GRAPHICS),
+    ("Text", NO_GRAPHICS),
+    ("RectFill", NO_GRAPHICS),
+    ("SetAPen", NO_GRAPHICS),
+    ("LoadView", NO_GRAPHICS),
+    ("EasyRequest", NO_GRAPHICS),
+    ("EasyRequestArgs", NO_GRAPHICS),
+    ("AutoRequest", NO_GRAPHICS),
+    ("CLS", NO_GRAPHICS),
+    ("PLOT", NO_GRAPHICS),
+    ("LOCATE", NO_GRAPHICS),
+    ("COLOR", NO_GRAPHICS),
+    ("CIRCLE", NO_GRAPHICS),
+    ("BEEP", NO_GRAPHICS),
+    ("cd", NO_FILES),
+    ("ls", NO_FILES),
+    ("dir", NO_FILES),
+    ("cat", NO_FILES),
+    ("rm", NO_FILES),
+    ("mkdir", NO_FILES),
+    ("chmod", NO_FILES),
+    ("lseek", NO_FILES),
+    ("exec", NO_PROGRAMS),
+    ("bg", NO_PROGRAMS),
+    ("fg", NO_PROGRAMS),
+    ("jobs", NO_PROGRAMS),
+    ("ps", "execlog --state N shows all tasks after step N"),
+    (
+        "len",
+        "nothing counts the objects of a list; a variable does, by n = Add n 1",
+    ),
+    ("del", NO_DELETING),
+    ("CloseHandle", NO_DELETING),
+    (
+        "GetLastError",
+        "a call answers by its own result, as e = DoIO r",
+    ),
+    ("even", NOT_NEEDED),
+    ("cnop", NOT_NEEDED),
+    ("org", NOT_NEEDED),
+    ("incdir", NOT_NEEDED),
+    ("alias", NOT_NEEDED),
+    ("declare", NOT_NEEDED),
+    (
+        "local",
+        "a variable belongs to its task, and is not declared",
+    ),
+    (
+        "nonlocal",
+        "a shared variable has @ before its name, and is not declared",
+    ),
+    ("unset", "a variable stays; x = Set 0 makes it 0"),
+    ("shmget", ALL_SHARED),
+    ("shm_open", ALL_SHARED),
+    ("link", NO_STACK),
+    ("swap", NO_HALVES),
+    ("yield", NO_YIELD),
+    ("Switch", NO_YIELD),
+    ("Reschedule", NO_YIELD),
+    ("Schedule", NO_YIELD),
+    ("taskYIELD", NO_YIELD),
+    ("sched_yield", NO_YIELD),
+    ("thread_yield", NO_YIELD),
+    ("pthread_yield", NO_YIELD),
+    ("thrd_yield", NO_YIELD),
+    ("unlk", NO_STACK),
+    ("RANDOMIZE", NO_CHANCE),
+    ("mv", NO_FILES),
+    ("cp", NO_FILES),
+    ("touch", NO_FILES),
+    ("FindToolType", NO_FILES),
+];
+
 /// The second part of the row of a name, in whatever case.
 pub(crate) fn row_of(rows: &[(&'static str, &'static str)], name: &str) -> Option<&'static str> {
     Some(rows.iter().find(|row| name.eq_ignore_ascii_case(row.0))?.1)
@@ -596,7 +782,8 @@ fn place_in(
 /// What has the place of a name in capital letters that is another one in small letters.
 pub(crate) fn place_of_capitals(name: &str) -> Option<&'static str> {
     match name {
-        "NEXT" => Some(LOOP_END),
+        "NEXT" => Some(COUNT_END),
+        "LOOP" => Some(LOOP_END),
         "PAUSE" => Some(SLEEP),
         "SELECT" => Some(CHOICE),
         "Lock" => Some("s = NewSem for a new semaphore, and ObtainSemaphore s to have it"),
@@ -608,10 +795,16 @@ pub(crate) fn place_of_capitals(name: &str) -> Option<&'static str> {
 
 /// What has the place of a name of another system or language, as text.
 pub(crate) fn place_elsewhere(name: &str) -> Option<&'static str> {
-    place_in(&CALLS, name, place_in(&LOCKS, name, row_of(&SIGNS, name)))
+    let habit = row_of(&MORE_PLACES, name);
+    place_in(
+        &CALLS,
+        name,
+        place_in(&LOCKS, name, place_in(&SIGNS, name, habit)),
+    )
 }
 
 /// Why nothing has the place of a name of another system or language.
 pub(crate) fn lack_elsewhere(name: &str) -> Option<&'static str> {
-    place_in(&LACKED, name, row_of(&LACKED_SIGNS, name))
+    let habit = row_of(&MORE_LACKS, name);
+    place_in(&LACKED, name, place_in(&LACKED_SIGNS, name, habit))
 }

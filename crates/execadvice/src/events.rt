@@ -96,12 +96,17 @@ const BEGINS: &str = "the machine starts before the first line; run N makes N st
 const SIGNALS: &str =
     "a signal is sent by the code of a task or of a server, which irq PORTS, irq EXTER or tick N runs";
 
+const STATES: &str = "execlog shows a run, and with --state N the machine after step N";
+
+const COMMANDS: &str =
+    "a command is a line of code in a machine file; here a line is run N, tick N or irq S";
+
 const BLANKS: &str = "tick N is N vertical blanks";
 
 const SMALL: &str = "its word is in small letters, with one argument: run N, tick N or irq S";
 
 /// Words that begin no event, each with what has its place.
-const HABITS: [(&str, &str); 39] = [
+const HABITS: [(&str, &str); 53] = [
     ("wait", WAITS),
     ("sleep", WAITS),
     ("delay", WAITS),
@@ -141,6 +146,20 @@ const HABITS: [(&str, &str); 39] = [
     ("signal", SIGNALS),
     ("send", SIGNALS),
     ("nmi", "irq PORTS and irq EXTER are requests of interrupts"),
+    ("state", STATES),
+    ("trace", STATES),
+    ("show", STATES),
+    ("dump", STATES),
+    ("log", STATES),
+    ("list", STATES),
+    ("tasks", STATES),
+    ("print", COMMANDS),
+    ("set", COMMANDS),
+    ("cause", COMMANDS),
+    ("putmsg", COMMANDS),
+    ("reboot", BEGINS),
+    ("restart", BEGINS),
+    ("break", "a run goes on until its last line or an alert"),
     ("run", SMALL),
     ("tick", SMALL),
     ("irq", SMALL),
@@ -316,13 +335,25 @@ fn is_accepted(alloc: Global, text: &str) -> Made<bool> {
     }
 }
 
+/// The event that is meant by a word with a number right after it, as `run10`.
+fn joined_event(alloc: Global, text: &str) -> Made<Option<String>> {
+    for word in ["run", "tick"] {
+        if let Some(digits) = text.strip_prefix(word) {
+            if are_digits(digits) && !digits.is_empty() {
+                return event_of(alloc, word, digits);
+            }
+        }
+    }
+    Ok(None)
+}
+
 /// The event that is meant by a line, if that can be told: a line that the reader of events accepts.
 fn event_meant(alloc: Global, line: &str) -> Made<Option<String>> {
     let plain = plain_event(alloc, line)?;
     let plain = plain.as_str();
     let found = match plain.split_once(" ") {
         None if are_digits(plain) => event_of(alloc, "run", plain)?,
-        None => None,
+        None => joined_event(alloc, plain)?,
         Some((number, word)) if are_digits(number) => event_of(alloc, word, number)?,
         Some((word, argument)) => event_of(alloc, word, argument)?,
     };

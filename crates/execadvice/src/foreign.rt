@@ -71,9 +71,15 @@ const COMPARE: &str = "d = Sub x y and then JumpZ d LABEL or JumpNZ d LABEL";
 /// What has the place of a call of one's own code.
 const NO_CALLS: &str = "Jump LABEL: there are no subroutines";
 
-/// How a task lets another run.
-const YIELD: &str =
-    "me = FindTask 0 and then SetTaskPri me 0, which lets tasks of that priority run";
+/// How loops are written.
+const LOOP: &str = "again:, JumpZ x done, the lines of the loop, Jump again and done:";
+
+const COUNTED_LOOP: &str =
+    "x = Set N, again:, the lines of the loop, x = Sub x 1 and then JumpNZ x again";
+
+/// How a loop of an assembler counts, which ends at -1.
+const COUNT_TO_END: &str =
+    "x = Sub x 1, y = Add x 1 and then JumpNZ y LABEL, since it goes on until x is -1";
 
 /// How a number is divided.
 const COUNT_DOWN: &str = "a loop of Sub";
@@ -85,7 +91,7 @@ const NOT_SHARED: &str = "ObtainSemaphore s, since semaphores are not shared her
 const READ_TIME: &str = "SetIO r 10 0 0 and then DoIO r; the time is in IOSecs r and IOMicros r";
 
 /// Names of Exec and of other systems, each with what is written in their place.
-const NAMES: [(&str, &str); 109] = [
+const NAMES: [(&str, &str); 106] = [
     ("InitSemaphore", "s = NewSem"),
     (
         "AddSemaphore",
@@ -93,7 +99,7 @@ const NAMES: [(&str, &str); 109] = [
     ),
     (
         "FindSemaphore",
-        "ObtainSemaphore @s, with the semaphore in a shared variable",
+        "@s for it: the task that makes it has @s = NewSem, and all tasks have it in @s",
     ),
     (
         "RemSemaphore",
@@ -139,12 +145,15 @@ const NAMES: [(&str, &str); 109] = [
     ("pthread_create", NEW_TASK),
     ("fork", NEW_TASK),
     ("DeleteTask", "RemTask NUMBER"),
-    ("kill", "Signal TASK MASK"),
+    ("kill", "RemTask NUMBER, or Signal TASK MASK for a signal"),
     (
         "CreatePort",
         "p = CreateMsgPort and then AddPort p \"NAME\" 0",
     ),
-    ("DeletePort", "RemPort p and then DeleteMsgPort p"),
+    (
+        "DeletePort",
+        "DeleteMsgPort p, and RemPort p before it if the port is public",
+    ),
     ("AddIntServer", "a [[server]] table"),
     ("SetIntVector", "a [[server]] table"),
     ("malloc", "a = AllocMem SIZE 1"),
@@ -158,8 +167,8 @@ const NAMES: [(&str, &str); 109] = [
     ("echo", "Print x"),
     ("goto", "Jump LABEL"),
     ("if", "JumpZ x LABEL or JumpNZ x LABEL"),
-    ("while", "a label, JumpZ x LABEL and Jump LABEL"),
-    ("for", "a label, JumpZ x LABEL and Jump LABEL"),
+    ("while", LOOP),
+    ("for", COUNTED_LOOP),
     ("WaitTOF", "Wait for a signal of a server of VERTB"),
     ("OldOpenLibrary", "b = OpenLibrary \"NAME\" 0"),
     ("nop", "x = Set x"),
@@ -190,14 +199,17 @@ const NAMES: [(&str, &str); 109] = [
     ("continue", "Jump LABEL"),
     ("beq", "JumpZ x LABEL"),
     ("bne", "JumpNZ x LABEL"),
-    ("dbra", "x = Sub x 1 and then JumpNZ x LABEL"),
+    ("dbra", COUNT_TO_END),
     ("JumpIf", "JumpNZ x LABEL"),
     ("JumpEQ", COMPARE),
     ("JumpNE", COMPARE),
     ("else", "Jump LABEL before a label"),
     ("WaitSignal", "Wait MASK"),
     ("SendSignal", "Signal TASK MASK"),
-    ("def", NO_CALLS),
+    (
+        "def",
+        "a [[task]] table for its lines, or a label: there are no functions",
+    ),
     ("function", NO_CALLS),
     ("call", NO_CALLS),
     ("jsr", NO_CALLS),
@@ -206,9 +218,6 @@ const NAMES: [(&str, &str); 109] = [
     ("pass", "nothing: a body may be empty"),
     ("import", "nothing: all words are known"),
     ("include", "nothing: all words are known"),
-    ("yield", YIELD),
-    ("Switch", YIELD),
-    ("Reschedule", YIELD),
     ("WaitMsg", "WaitPort p and then m = GetMsg p"),
     ("ReceiveMsg", "WaitPort p and then m = GetMsg p"),
     ("SendMsg", "PutMsg p m"),

@@ -61,7 +61,9 @@ fn word_advice(alloc: Global, line: &str, said: &Said<'_>) -> Made<Option<Advice
 /// Why a line may not be in the body of an interrupt, if it may not.
 fn interrupt_advice(alloc: Global, line: &str) -> Made<Option<Advice>> {
     if label_of(line).is_some() {
-        let reason = format!(in alloc; "the code of an interrupt has no label")?;
+        let reason = format!(in alloc;
+            "the code of an interrupt has no label: it has no jumps, and runs straight to its end"
+        )?;
         return Ok(Some(Advice::of_field(line, 0, reason, None)));
     }
     match said_by(alloc, line)? {

@@ -70,7 +70,11 @@ fn task_with<'a>(alloc: Global, table: &'a Table, name: &str) -> Made<Option<&'a
 /// Why a body has no label of that name, to which a line jumps.
 fn lacked_reason(alloc: Global, table: &Table, name: &str) -> Made<String> {
     match task_with(alloc, table, name)? {
-        None => String::from_str(alloc, "the body has no label of this name"),
+        None => {
+            format!(in alloc;
+                "the body has no label of this name; a line that is {name}: would be one"
+            )
+        }
         Some(task) => {
             let task = shown_name(alloc, task)?;
             format!(in alloc;

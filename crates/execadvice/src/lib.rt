@@ -28,6 +28,7 @@ mod proposal;
 mod reads;
 mod regions;
 mod render;
+mod roles;
 mod said;
 mod scan;
 mod show;

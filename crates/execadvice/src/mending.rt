@@ -93,11 +93,19 @@ fn in_order<'a>(alloc: Global, word: Word, fields: &[&'a str]) -> Made<Vec<&'a s
     }
 }
 
-/// The arguments of a word without one that C has, and that has no place here: the flags of OpenDevice, and the size
-/// of a request.
+/// The arguments of a word without those that C has, and that have no place here: the flags of OpenDevice, the size of a
+/// request, and all of a word that takes none.
 fn without_extra<'b, 'a>(word: Word, fields: &'b [&'a str]) -> &'b [&'a str] {
     let text = word.text();
     let count = word.kinds().len();
+    if count == 0
+        && (!word.answers()
+            || fields
+                .iter()
+                .all(|field| !is_variable(without_address(*field))))
+    {
+        return &[];
+    }
     if text != "OpenDevice" && text != "CreateIORequest"
         || fields.len() != count.saturating_add(1)
     {

@@ -35,8 +35,24 @@ const JUMPS: &str = "for jumps there are Jump LABEL, JumpZ x LABEL and JumpNZ x 
 
 const SHOWS: &str = "Print x shows a number";
 
+const GRAPHICS: &str = "there is Exec alone, with timer.device, and nothing is drawn";
+
+const WHOLE_COMMANDS: &str = "each command is done whole, as @x = Add @x 1";
+
 /// Parts of names in small letters, each with the words for what a name is about that has it. The first counts.
-const TOPICS: [(&str, &str); 50] = [
+const TOPICS: [(&str, &str); 66] = [
+    ("atomic", WHOLE_COMMANDS),
+    ("interlocked", WHOLE_COMMANDS),
+    ("window", GRAPHICS),
+    ("screen", GRAPHICS),
+    ("gadget", GRAPHICS),
+    ("idcmp", GRAPHICS),
+    ("draw", GRAPHICS),
+    ("blit", GRAPHICS),
+    ("rgb", GRAPHICS),
+    ("bitmap", GRAPHICS),
+    ("font", GRAPHICS),
+    ("pixel", GRAPHICS),
     ("timer", TIME),
     ("time", TIME),
     ("tick", TIME),
@@ -46,11 +62,14 @@ const TOPICS: [(&str, &str); 50] = [
     ("alarm", TIME),
     ("device", TIME),
     ("wake", WAITS),
+    ("cnd", WAITS),
+    ("complet", WAITS),
     ("suspend", WAITS),
     ("resume", WAITS),
     ("block", WAITS),
     ("sem", SEMAPHORES),
     ("mutex", SEMAPHORES),
+    ("mtx", SEMAPHORES),
     ("lock", SEMAPHORES),
     ("acquire", SEMAPHORES),
     ("interrupt", INTERRUPTS),
@@ -65,6 +84,7 @@ const TOPICS: [(&str, &str); 50] = [
     ("reply", MESSAGES),
     ("port", PORTS),
     ("thread", TASKS),
+    ("thrd", TASKS),
     ("task", TASKS),
     ("process", TASKS),
     ("priority", TASKS),

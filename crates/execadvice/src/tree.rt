@@ -358,7 +358,10 @@ impl<'a> File<'a> {
     fn wrong_item(&self, array: Array, item: usize) -> Made<Wrong<'a>> {
         Ok(Wrong {
             words: self.item_words(array, item)?,
-            reason: String::from_str(self.alloc, "expected a table")?,
+            reason: String::from_str(
+                self.alloc,
+                "expected a table: each item is one that begins with the head of its kind, as [[task]]",
+            )?,
             part: self.written.head(array, item),
             fix: None,
         })

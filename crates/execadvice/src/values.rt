@@ -140,9 +140,23 @@ fn number_of_form(alloc: Global, field: &str) -> Made<Option<String>> {
     })
 }
 
-/// The variable that a part is meant to be, if there is one: with small letters, and without the `&` of C.
+/// The variable of a part as `$x` or `${x}`, which the shell has; none if it is a number in base 16.
+pub(crate) fn shell_variable(field: &str) -> Option<&str> {
+    let name = field.strip_prefix("$")?;
+    let name = name.trim_start_matches('{').trim_end_matches('}');
+    let is_hex = name.as_bytes().iter().all(|b| b.is_ascii_hexdigit());
+    if is_variable(name) && !is_hex {
+        Some(name)
+    } else {
+        None
+    }
+}
+
+/// The variable that a part is meant to be, if there is one: with small letters, and without the `&` of C and the `$` of
+/// the shell.
 fn variable_meant(alloc: Global, field: &str) -> Made<Option<String>> {
-    let lower = field.trim_start_matches('&').to_ascii_lowercase(alloc)?;
+    let name = shell_variable(field).unwrap_or(field);
+    let lower = name.trim_start_matches('&').to_ascii_lowercase(alloc)?;
     Ok(if is_variable(lower.as_str()) && !is_constant(field) {
         Some(lower)
     } else {
@@ -192,7 +206,10 @@ pub(crate) fn unquoted(field: &str) -> &str {
 
 /// The name between double quotes that a part is meant to be, if there is one.
 pub(crate) fn quoted_meant(alloc: Global, field: &str) -> Made<Option<String>> {
-    let inside = unquoted(field);
+    let inside = match unquoted(field) {
+        "TIMERNAME" => "timer.device",
+        inside => inside,
+    };
     if is_name(inside.as_bytes()) {
         return Ok(Some(format!(in alloc; "\"{inside}\"")?));
     }

@@ -2,13 +2,42 @@
 use crate::argument::joined;
 use crate::page::Page;
 use crate::scene::Scene;
-use crate::wait::{Awaited, Waiter, awaited_text};
+use crate::wait::{Awaited, Waiter, awaited_text, wait_of};
 use std::alloc::AllocError;
 
 /// How many tasks of a circle are named at most.
 const MOST_NAMED: usize = 4;
 
+/// What ends a circle of tasks that wait for semaphores, for signals and messages, or for both.
+const ONE_ORDER: &str = "; let all tasks obtain them in one order";
+
+const SEND_FIRST: &str = "; let one of them send or reply before it waits";
+
+const RELEASE_FIRST: &str = "; let the owner of the semaphore release it before it waits";
+
 impl Scene<'_, '_> {
+    /// Whether a task waits for a semaphore.
+    fn wants_semaphore(&self, task: usize) -> bool {
+        wait_of(self.machine, task).is_some_and(|waiter| matches!(
+            waiter.awaited,
+            Awaited::Semaphore(_)
+        ))
+    }
+
+    /// What ends a circle, as the end of the sentence of its first task; nothing of the others, and of one task.
+    fn way_out(&self, circle: &[usize], task: usize) -> &'static str {
+        let is_first = circle.iter().all(|other| task <= *other);
+        if !is_first || circle.len() < 2 {
+            ""
+        } else if circle.iter().all(|one| self.wants_semaphore(*one)) {
+            ONE_ORDER
+        } else if circle.iter().any(|one| self.wants_semaphore(*one)) {
+            RELEASE_FIRST
+        } else {
+            SEND_FIRST
+        }
+    }
+
     /// The names of the tasks of a circle, the first ones in the order of the file.
     fn names_of(&self, circle: &[usize]) -> Result<String, AllocError> {
         let alloc = self.alloc;
@@ -53,7 +82,8 @@ impl Scene<'_, '_> {
         let reason = if circle.len() == 1 {
             format!(in alloc; "task {names} waits for itself: it {cause}")?
         } else {
-            format!(in alloc; "tasks {names} wait for each other: this one {cause}")?
+            let way = self.way_out(circle, waiter.turn.task);
+            format!(in alloc; "tasks {names} wait for each other: this one {cause}{way}")?
         };
         page.warn(waiter.turn.spot(), "deadlock", reason.as_str())
     }

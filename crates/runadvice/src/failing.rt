@@ -231,6 +231,9 @@ pub(crate) fn cause_text(alloc: Global, cause: Cause) -> Result<String, AllocErr
         }
         Cause::NoReplyPort => format!(in alloc; ", since its port was 0"),
         Cause::NoSignal => format!(in alloc; ", since no signal was free"),
+        Cause::Allocated(number) if number < 16 => {
+            format!(in alloc; ", since {number} is none of the signals 16 to 31")
+        }
         Cause::Allocated(number) => format!(in alloc; ", since signal {number} was not free"),
     }
 }

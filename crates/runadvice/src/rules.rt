@@ -9,6 +9,7 @@ use crate::words::{Flaw, Row, answers_signal, row_of};
 use execsim::ObjectView;
 use iorequest::request::ReqState;
 use msgport::action::PortAction;
+use script::{RequestWord, Word};
 use std::alloc::{AllocError, Global};
 
 /// What is at fault in a refused call.
@@ -42,9 +43,23 @@ impl Fault {
     }
 }
 
-/// Whether a mask is rather the number of a signal, 12 to 31: it would name more than one signal.
+/// Whether a mask is rather the number of a signal, 12 to 31: as a mask it names none of them.
 fn is_likely_number(mask: u32) -> bool {
-    12 <= mask && mask < 32 && mask.count_ones() > 1
+    12 <= mask && mask < 32
+}
+
+/// The word that frees the memory of an object.
+fn freed_by(object: ObjectView) -> &'static str {
+    match object {
+        ObjectView::Plain => "FreeMem",
+        ObjectView::List => "FreeList",
+        ObjectView::Node(_) => "FreeNode",
+        ObjectView::Port(_) => "DeleteMsgPort",
+        ObjectView::Message(_) => "FreeMsg",
+        ObjectView::Semaphore(_) => "FreeSem",
+        ObjectView::Library(_) => "RemLibrary",
+        ObjectView::Request(_) => "DeleteIORequest",
+    }
 }
 
 impl Asking<'_, '_> {
@@ -64,6 +79,9 @@ impl Asking<'_, '_> {
     fn mask_fault(&self, number: usize) -> Result<Fault, AllocError> {
         let alloc = self.alloc;
         let mask = self.refused.value(number);
+        if mask == u32::MAX && self.is_allocated(number) {
+            return Ok(Fault::of(number, format!(in alloc; "is no mask of signals")?, true));
+        }
         let bit = (mask & 0xFFF).trailing_zeros();
         let hint = if mask < 32 && (is_likely_number(mask) || self.is_allocated(number)) {
             let own = 1u32 << mask;
@@ -82,7 +100,9 @@ impl Asking<'_, '_> {
         let alloc = self.alloc;
         let others = self.refused.value(number) & !allowed;
         let why = if others == 0 {
-            format!(in alloc; "has both MEMF_LARGEST ($20000) and MEMF_TOTAL ($80000)")?
+            format!(in alloc;
+                "has both MEMF_LARGEST ($20000) and MEMF_TOTAL ($80000), of which AvailMem takes one"
+            )?
         } else {
             let bit = others.trailing_zeros();
             format!(in alloc;
@@ -96,9 +116,6 @@ impl Asking<'_, '_> {
     fn memory_fault(&self) -> Result<Fault, AllocError> {
         let alloc = self.alloc;
         let address = self.refused.value(0);
-        if self.refused.value(1) == 0 {
-            return Ok(Fault::of(1, format!(in alloc; "is not the size of a block")?, true));
-        }
         let Some(block) = self.machine.block(address) else {
             let unfound = self.unfound_text(address)?;
             let why = format!(in alloc; "is not the address of a block{unfound}")?;
@@ -107,7 +124,10 @@ impl Asking<'_, '_> {
         };
         if !matches!(block.object, ObjectView::Plain) {
             let kind = kind_of(block.object);
-            let why = format!(in alloc; "is {kind}, and FreeMem frees blocks of AllocMem only")?;
+            let word = freed_by(block.object);
+            let why = format!(in alloc;
+                "is {kind}, and FreeMem frees blocks of AllocMem only; {word} frees this"
+            )?;
             return Ok(Fault::of(0, why, false));
         }
         let whole = block.size;
@@ -254,6 +274,14 @@ impl Asking<'_, '_> {
         Ok(Fault::of(0, why, false))
     }
 
+    /// Whether the call takes a request whose reply was taken, and no other.
+    fn needs_reply(&self) -> bool {
+        matches!(
+            self.refused.command.word,
+            Word::Requests(RequestWord::DoIO | RequestWord::SendIO | RequestWord::DeleteIORequest)
+        )
+    }
+
     /// The alert IO.
     fn request_fault(&self, row: Row) -> Result<Fault, AllocError> {
         let number = row.wanted.len().saturating_sub(1);
@@ -261,6 +289,9 @@ impl Asking<'_, '_> {
         let why = match request_at(self.machine, address) {
             None => "is not a request that this call accepts",
             Some(request) => match request.state {
+                ReqState::UnderWay if self.needs_reply() => {
+                    "is a request in progress; WaitIO waits until it is done; AbortIO and then WaitIO end it"
+                }
                 ReqState::UnderWay => {
                     "is a request in progress; WaitIO waits until it is done, AbortIO ends it"
                 }
@@ -291,7 +322,7 @@ impl Asking<'_, '_> {
         );
         let unit = failed.unit;
         let why = if failed.is_timer {
-            format!(in alloc; "unit {unit} is not one of timer.device, which has 0, 1 and 3")?
+            format!(in alloc; "unit {unit} of timer.device does not open here; 0, 1 and 3 do")?
         } else {
             format!(in alloc; "the only device is timer.device")?
         };

@@ -1,7 +1,7 @@
 //! What would end a wait that nothing ends: an interrupt that nothing causes, one that sends another signal, or a task that was not added.
 use crate::memory::Block;
 use crate::scene::Scene;
-use crate::wait::{Awaited, Waiter};
+use crate::wait::{Awaited, Waiter, wait_of};
 use crate::why::mask_text;
 use script::{Argument, Command, InterruptWord, MachineFile, PortWord, SignalWord, Word};
 use std::alloc::AllocError;
@@ -136,14 +136,26 @@ impl Scene<'_, '_> {
             .is_none_or(|view| matches!(view.state, TaskState::Absent))
     }
 
-    /// Which task would send one of these signals to another one, but was not added, or that no line sends one, as a part of a sentence; nothing if
+    /// Why a task sends nothing to another one that waits, if it was not added or waits too.
+    fn state_text(&self, sender: usize, task: usize) -> &'static str {
+        if self.is_absent(sender) {
+            "was not added"
+        } else if sender != task && wait_of(self.machine, sender).is_some() {
+            "waits too"
+        } else {
+            ""
+        }
+    }
+
+    /// Which task would send one of these signals to another one, but was not added or waits too, or that no line sends one, as a part of a sentence; nothing if
     /// another line may.
     fn unadded_text(&self, task: usize, mask: u32) -> Result<String, AllocError> {
         let file = self.course.file;
         for (number, record) in file.tasks().iter().enumerate() {
-            if sent_in(&record.code, task) & mask != 0 && self.is_absent(number) {
+            let state = self.state_text(number, task);
+            if sent_in(&record.code, task) & mask != 0 && !state.is_empty() {
                 let name = self.name(number);
-                return format!(in self.alloc; "; task \"{name}\" would send it, and was not added");
+                return format!(in self.alloc; "; task \"{name}\" would send it, and {state}");
             }
         }
         if is_sent(file, task, mask) {
@@ -155,6 +167,9 @@ impl Scene<'_, '_> {
     /// Of a wait for signals that nothing can end, of which none is that of a port: what would send one, or that nothing does, as a part of a sentence;
     /// nothing if something else came, or if that is not known.
     fn unsent_by_name(&self, waiter: &Waiter, mask: u32) -> Result<String, AllocError> {
+        if mask == 0 {
+            return Ok(String::new(self.alloc));
+        }
         let (turn, received) = (waiter.turn, waiter.received);
         let uncaused = self.uncaused_text(turn.task, mask)?;
         if !uncaused.as_str().is_empty() {

@@ -24,6 +24,9 @@ enum Level {
     Noted,
 }
 
+/// What is said of the owner of a semaphore that has ended.
+const GONE: &str = " has ended without releasing it; ReleaseSemaphore belongs before its end";
+
 /// The name of a wait that has no other.
 const WAITS: &str = "waits";
 
@@ -162,7 +165,7 @@ impl Scene<'_, '_> {
         };
         let name = self.name(owner);
         let (level, rule, end) = match self.machine.task(owner).map(|view| view.state) {
-            Some(TaskState::Removed) => (Level::Forever, "owner-gone", " has ended"),
+            Some(TaskState::Removed) => (Level::Forever, "owner-gone", GONE),
             Some(TaskState::Waiting(_)) => (self.level(), WAITS, " waits too"),
             _ => (Level::Noted, WAITS, "")
         };

@@ -331,7 +331,7 @@ impl Scene<'_, '_> {
             ("message", "its port's task", "no task is signalled for it")
         };
         let reason = format!(in self.alloc;
-            "this {what} comes late: {who} \"{name}\" ended at step {ended}, so {effect}; a real Exec writes into freed memory"
+            "this {what} comes late: {who} \"{name}\" ended at step {ended}, so {effect}; a real Exec writes into its task structure, which may be freed by then"
         )?;
         page.warn(spot, "late", reason.as_str())
     }

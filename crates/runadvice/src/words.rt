@@ -265,7 +265,7 @@ fn port_row(word: PortWord) -> Row {
             Row::of(&[PORT]).within(2, PRIORITY).said(why)
         }
         PortWord::RemPort => {
-            Row::of(&[PORT]).said("is a port that is not public; AddPort makes it so")
+            Row::of(&[PORT]).said("is a port that is not public, so nothing has to be removed")
         }
         PortWord::FindPort => Row::of(&[]).zero(", when no public port had that name"),
         PortWord::NewMsg => Row::of(&[PORT]).or_none(0).taking(NO_ROOM),
