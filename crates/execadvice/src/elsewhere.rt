@@ -394,7 +394,7 @@ const SIGNS: [(&str, &str); 83] = [
 const WHOLE: &str = "@x = Add @x 1: each command is done whole";
 
 /// The same of calls of C11, of other kernels and of Python, and of words of the shell and of assemblers.
-const MORE_PLACES: [(&str, &str); 72] = [
+const MORE_PLACES: [(&str, &str); 74] = [
     ("put", "PutMsg p m"),
     ("get", "m = GetMsg p"),
     ("Queue", "p = CreateMsgPort"),
@@ -482,6 +482,8 @@ const MORE_PLACES: [(&str, &str); 72] = [
         "cmpa",
         "d = Sub x y and then JumpZ d LABEL or JumpNZ d LABEL",
     ),
+    ("FreeIO", "DeleteIORequest r"),
+    ("[[", "JumpZ x LABEL or JumpNZ x LABEL"),
 ];
 
 const NO_FILES: &str = "there are no files";
@@ -678,12 +680,14 @@ const ALL_SHARED: &str = "all tasks share the variables that begin with @, and a
 const NO_YIELD: &str =
     "no word gives way to a task of the same priority: Wait MASK does, or a tick that ends the quantum";
 
+const NO_TURNS: &str = "no word turns the bits of a value";
+
 const NO_HALVES: &str = "no word exchanges the halves of a value";
 
 const NO_STACK: &str = "there is no stack; each task has variables of its own";
 
 /// The same of calls of graphics and of other systems, and of words of the shell and of assemblers.
-const MORE_LACKS: [(&str, &str); 64] = [
+const MORE_LACKS: [(&str, &str); 70] = [
     ("GetTagData", NO_TAGS),
     ("FindTagItem", NO_TAGS),
     ("NextTagItem", NO_TAGS),
@@ -760,6 +764,12 @@ const MORE_LACKS: [(&str, &str); 64] = [
     ("cp", NO_FILES),
     ("touch", NO_FILES),
     ("FindToolType", NO_FILES),
+    ("rol", NO_TURNS),
+    ("ror", NO_TURNS),
+    ("NewRawDoFmt", NO_TEXTS),
+    ("SetWriteMask", NO_GRAPHICS),
+    ("CoInitialize", NOT_NEEDED),
+    ("FindDosEntry", NO_FILES),
 ];
 
 /// The second part of the row of a name, in whatever case.

@@ -25,6 +25,12 @@ fn without_address(part: &str) -> &str {
     part.trim_start_matches('&')
 }
 
+/// Whether what is first after a word is the request or the port that it takes.
+fn begins_with_object(word: Word) -> bool {
+    let text = word.text();
+    text.ends_with("IO") || text == "GetMsg" || text == "WaitPort"
+}
+
 /// The number of the part after a word that answers which is the variable for its answer, if there is one part too
 /// many. After a word that calculates it is the first part if it can be, and after another the last.
 fn target_place(word: Word, fields: &[&str]) -> Option<usize> {
@@ -37,8 +43,7 @@ fn target_place(word: Word, fields: &[&str]) -> Option<usize> {
         Word::Plain(_) => true,
         _ => false,
     };
-    // What is first after a word on a request is the request.
-    if is_first && (is_plain || !is_last && !word.text().ends_with("IO")) {
+    if is_first && (is_plain || !is_last && !begins_with_object(word)) {
         Some(0)
     } else if is_last {
         Some(word.kinds().len())
