@@ -4,3 +4,4 @@ pub mod Sums
 pub mod Parts
 pub mod Right
 pub mod Totals
+pub mod Written

@@ -21,3 +21,8 @@ ways_of (Some part) all = part.ways
 abbrev pub IsWindow : Option Part → (all : ℕ) → Type 0
 IsWindow None all = Unit {0}
 IsWindow (Some part) all = (1 ≤ part.number) × (part.number ≤ part.of) × (part.ways ≡ size_of_part part.number part.of all)
+
+-- A report of a part is of a search of at most 2^40 ways, in at most 1,000,000 parts.
+abbrev pub AreFew : Option Part → (all : ℕ) → Type 0
+AreFew None all = Unit {0}
+AreFew (Some part) all = (part.of ≤ 1000000) × (all ≤ 1099511627776)

@@ -1,7 +1,7 @@
 //! The sum of the reports of all parts: the report of the whole.
-ghost use Rattle.std.specs.Prelude.{◌≡◌, ◌+◌, ◌≤◌, ◌<◌, true, All, IfOk, IfSome, OnOk, length, map, sum_by, string_bytes};
-ghost use Rattle.ways.specs.Tables.{merged};
-ghost use Rattle.wayreport.specs.{Reports.found_view, Sums.IsPartOf, Sums.IsSum, Sums.is_numbered, Sums.outcomes_in, Sums.outcomes_of, Sums.parts_of, Sums.summed};
+ghost use Rattle.std.specs.Prelude.{◌≡◌, ◌+◌, ◌≤◌, ◌<◌, ◌^◌, true, All, IfErr, IfOk, IfSome, OnOk, length, map, sum_by, string_bytes};
+ghost use Rattle.ways.specs.Tables.{merged, total as total_of_entries};
+ghost use Rattle.wayreport.specs.{Reports.found_view, declared.sum.SumFault.TheVariants.OutOfMemory, Sums.IsPartOf, Sums.IsSum, Sums.is_numbered, Sums.outcomes_in, Sums.outcomes_of, Sums.parts_of, Sums.summed};
 
 use crate::report::{Found, Part, Report};
 use crate::total::Total;
@@ -27,12 +27,16 @@ pub enum SumFault {
 }
 
 impl From<AllocError> for SumFault {
+    ghost from_gives = { λ _ fault. fault ≡ OutOfMemory };
+
     fn from(_error: AllocError) -> SumFault {
         SumFault::OutOfMemory
     }
 }
 
 impl<T: Drop> From<AllocFailed<T>> for SumFault {
+    ghost from_gives = { λ _ fault. fault ≡ OutOfMemory };
+
     fn from(_error: AllocFailed<T>) -> SumFault {
         SumFault::OutOfMemory
     }
@@ -40,7 +44,8 @@ impl<T: Drop> From<AllocFailed<T>> for SumFault {
 
 /// Adds the outcomes of later ways.
 pub(crate) fn merge(alloc: Global, total: &mut Total, more: &[Found]) -> Result<(), SumFault>
-    ensures { OnOk result (total.new ≡ merged total.old (map found_view more.now)) }
+    ensures ok { OnOk result (total.new ≡ merged total.old (map found_view more.now)) }
+    ensures err { IfErr result (λ fault. ¬ (fault ≡ OutOfMemory) → 2 ^ 64 ≤ total_of_entries total.old + total_of_entries (map found_view more.now)) }
 {
     for one in more {
         total.add(alloc, one)?;

@@ -1,7 +1,7 @@
 //! The outcomes of several parts, each text once.
-ghost use Rattle.std.specs.Prelude.{◌≡◌, [], length, map, IfOk, OnOk, string_bytes};
-ghost use Rattle.ways.specs.Tables.{added};
-ghost use Rattle.wayreport.specs.{Reports.found_view, Totals.entries_in};
+ghost use Rattle.std.specs.Prelude.{◌≡◌, ◌+◌, ◌≤◌, ◌^◌, [], length, map, IfErr, IfOk, OnOk, string_bytes};
+ghost use Rattle.ways.specs.Tables.{added, total};
+ghost use Rattle.wayreport.specs.{Reports.found_view, Totals.entries_in, declared.sum.SumFault.TheVariants.OutOfMemory};
 
 use crate::report::Found;
 use crate::sum::SumFault;
@@ -52,7 +52,8 @@ impl Total {
 
     /// Adds an outcome of later ways.
     pub fn add(&mut self, alloc: Global, one: &Found) -> Result<(), SumFault>
-        ensures { OnOk result (self.new ≡ added self.old (found_view one.now)) }
+        ensures ok { OnOk result (self.new ≡ added self.old (found_view one.now)) }
+        ensures err { IfErr result (λ fault. ¬ (fault ≡ OutOfMemory) → 2 ^ 64 ≤ total self.old + one.now.count) }
     {
         let text = one.seen.as_slice();
         if let Some(tally) = self.tallies.get_mut(text) {
