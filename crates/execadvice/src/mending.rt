@@ -109,7 +109,7 @@ fn without_extra<'b, 'a>(word: Word, fields: &'b [&'a str]) -> &'b [&'a str] {
                 .iter()
                 .all(|field| !is_variable(without_address(*field))))
     {
-        return &[];
+        return fields.get(..0).unwrap_or(fields);
     }
     if text != "OpenDevice" && text != "CreateIORequest"
         || fields.len() != count.saturating_add(1)
