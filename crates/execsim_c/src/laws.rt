@@ -15,7 +15,6 @@ pub fn calls_follow()
 /// finds the task at the end of its body, and before an alert.
 ///
 /// Project rule.
-#[tactic(auto, using(crate::proofs::Whole::grown_machines_are_whole))]
 pub fn grown_machines_are_whole()
     ensures { GrownMachinesAreWhole }
 {}
