@@ -1,12 +1,12 @@
 -- Calls that do events, feed lines and add tasks, one after another.
-use Rattle.std.proofs.Common.{◌≡◌, ◌∙◌, ℕ, List, [], ◌∷◌, ◌++◌, map, Option, refl, ap, sym, subst, append-nil, ap₂}
+use Rattle.std.proofs.Common.{◌≡◌, ◌∙◌, ℕ, List, [], ◌∷◌, ◌++◌, map, Option, Some, refl, ap, sym, subst, append-nil, ap₂}
 use Rattle.std.specs.Io.KnownBytes.{Appends}
 use Rattle.std.proofs.lemmas.List.Concat.{flat_map-append}
 use Rattle.exectrace.specs.{Trace.TraceLine, Trace.printed, Trace.printed_line}
 use Rattle.exectrace.specs.Putting.{Appends-then}
-use Rattle.script.specs.declared.event.Event.{Event}
-use Rattle.execmodel.specs.{State.Mark, State.Outcome, State.State, State.andthen, State.booted, State.quiet, Step.event, Step.events, Step.starts}
-use Rattle.execmodel.specs.Feeding.{Comes, Input, does_input, inputs}
+use Rattle.script.specs.{File.MachineData, declared.event.Event.Event}
+use Rattle.execmodel.specs.{State.Mark, State.Outcome, State.State, State.andthen, State.booted, State.quiet, Step.event, Step.events, Step.run, Step.starts}
+use Rattle.execmodel.specs.Feeding.{Comes, Input, does_input, events_among, inputs, whole}
 use Rattle.execmodel.proofs.{FedRuns.fed_machines_run_as_whole, Moments.joined, Moments.next_same}
 use Rattle.execsim.specs.Agreement.{Agrees, Seen}
 use Rattle.execsim_c.specs.{Stepping.Does, Whole.CallsDoInputs, Whole.CallsFollow, Whole.GrownMachinesAreWhole}

@@ -1,5 +1,5 @@
 -- What C is shown of a request, and of the messages of a port.
-use Rattle.std.specs.Prelude.{ℕ, ◌-◌, ◌^◌, if◌then◌else◌, nat_eq, Option, None, Some, option_map, option_and_then}
+use Rattle.std.specs.Prelude.{ℕ, ◌-◌, ◌^◌, Bool, true, false, if◌then◌else◌, nat_eq, Option, None, Some, option_map, option_and_then}
 use Rattle.execlist.specs.{Lists.part_from, Order.first}
 use Rattle.iorequest.specs.declared.request.ReqState.TheVariants.{Idle, UnderWay, Quick, Replied}
 use Rattle.iorequest.specs.{declared.request.Request.Request, declared.request.ReqState.ReqState}
