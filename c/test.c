@@ -336,7 +336,7 @@ static void add(void) {
         count("a line of it", execsim_feed(&machine, 1, (const uint8_t *)lines[i], strlen(lines[i])) == EXECSIM_RAN);
     count("the lines of the whole",
           do_text(&machine, "run 9") == EXECSIM_RAN &&
-              has_lines(&machine, "switch a\na Print $00000001\na AddTask $00000002\nswitch b\nb Print $00000002\nb Signal $00000001 $00001000\n"
+              has_lines(&machine, "switch a\na Print $00000001\na AddTask $00000002 -> $00000002\nswitch b\nb Print $00000002\nb Signal $00000001 $00001000\n"
                                   "b RemTask $00000000\nswitch a\na Wait $00001000 -> $00001000\na RemTask $00000000\nidle\n"));
     execsim_close(&machine);
     count("an alert", open_text(&machine, "[[task]]\nname = \"a\"\ncode = [\"Signal 7 1\"]\n") == EXECSIM_RAN && do_text(&machine, "run 1") == EXECSIM_ALERTED &&
