@@ -5514,7 +5514,7 @@ Event = data('Event',
 # ---- Types of the code in lib.rt [taskq/src/lib.rt]
 
 # What a task waits for.
-# [taskq/src/lib.rt:31]
+# [taskq/src/lib.rt:32]
 Why = data('Why',
     # Any of the signals of this mask. Autodoc exec.library/Wait.
     Signals='a0',
@@ -5523,7 +5523,7 @@ Why = data('Why',
 )
 
 # Where a task is in its life. RKM Libraries, Exec Tasks: task states.
-# [taskq/src/lib.rt:40]
+# [taskq/src/lib.rt:41]
 TaskState = data('TaskState',
     # It was never added.
     Absent='',
@@ -5625,7 +5625,7 @@ Kind = data('Kind',
 # ---- Types of the code in lib.rt [scheduler/src/lib.rt]
 
 # What a machine turns to: another task, or nothing.
-# [scheduler/src/lib.rt:27]
+# [scheduler/src/lib.rt:29]
 Switch = data('Switch',
     # This task runs from now on.
     To='a0',
