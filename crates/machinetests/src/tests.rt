@@ -1,5 +1,4 @@
-//! Texts that are read up to a limit, machines that are advanced, that grow, and that are reset.
-mod adding;
+//! Texts that are read up to a limit, machines that are advanced, and machines that are reset.
 mod advancing;
 mod feeding;
 mod reading;
