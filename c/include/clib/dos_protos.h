@@ -14,8 +14,8 @@ int Read() __attribute__((error("files are of dos.library, which is not here")))
 int Write() __attribute__((error("files are of dos.library, which is not here")));
 int Lock() __attribute__((error("files are of dos.library, which is not here")));
 int UnLock() __attribute__((error("files are of dos.library, which is not here")));
-int Execute() __attribute__((error("files are of dos.library, which is not here")));
 int LoadSeg() __attribute__((error("files are of dos.library, which is not here")));
+int Execute() __attribute__((error("no other program is here; leave it out")));
 int Output() __attribute__((error("dos.library is not here; use printf")));
 int Input() __attribute__((error("dos.library is not here; use printf")));
 int Printf() __attribute__((error("dos.library is not here; use printf")));

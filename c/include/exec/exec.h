@@ -87,10 +87,20 @@ struct IOStdReq {
     APTR io_Data;
     ULONG io_Offset;
 };
+#define EXECC_NO_LIST(serves) "the lists of Exec itself cannot be read here; " serves
 struct ExecBase {
     struct Library LibNode;
     struct Task *ThisTask;
     UBYTE VBlankFrequency, PowerSupplyFrequency;
+#if defined __clang__ || __GNUC__ >= 12
+    struct List TaskReady __attribute__((unavailable(EXECC_NO_LIST("FindTask finds a task by its name"))));
+    struct List TaskWait __attribute__((unavailable(EXECC_NO_LIST("FindTask finds a task by its name"))));
+    struct List PortList __attribute__((unavailable(EXECC_NO_LIST("FindPort finds a port by its name"))));
+    struct List SemaphoreList __attribute__((unavailable(EXECC_NO_LIST("FindSemaphore finds a semaphore by its name"))));
+    struct List MemList __attribute__((unavailable(EXECC_NO_LIST("AvailMem says how much memory is free"))));
+    struct List LibList __attribute__((unavailable(EXECC_NO_LIST("there are no libraries that C could call"))));
+    struct List DeviceList __attribute__((unavailable(EXECC_NO_LIST("timer.device is the only device"))));
+#endif
 };
 extern struct ExecBase *SysBase;
 
