@@ -7,7 +7,7 @@
 #include <unistd.h>
 
 static struct {
-    int is_on, count;
+    int is_on, count, is_whole;
     uintptr_t word[4096];
 } * shared; /* one for all processes */
 static struct {
@@ -21,6 +21,15 @@ void accesses_begin(int is_on) {
     shared->is_on = is_on;
 }
 int accesses_shared(void) { return shared->count; }
+
+/* A machine begins with a small memory, which takes less time. What shows how much there is begins all anew with the
+ * whole one: what is refused, an alert, AvailMem, a recorded file. */
+int memory_is_small(void) { return !shared->is_whole; }
+void need_memory(int is_needed) {
+    if (!is_needed || shared->is_whole) return;
+    shared->is_whole = 1;
+    if (task_count) _exit(AGAIN);
+}
 
 static int is_shared(uintptr_t word) {
     for (int i = 0; i < shared->count; i++)
@@ -91,44 +100,60 @@ void __tsan_init(void) {}
 void __tsan_func_entry(void *from) { (void)from; }
 void __tsan_func_exit(void) {}
 
-/* The lines of the program at which the accesses were, by addr2line. */
-void accesses_name(void) {
+/* The lines of the program at which the accesses were, by one addr2line for all. */
+enum { MOST_NAMED = 2048, TRIES = 5 };
+static struct {
+    const void *access;
+    const char *file;
+    int line;
+} named[MOST_NAMED];
+static int named_count;
+
+static int named_at(const void *access) {
+    int at = 0;
+    while (at < named_count && named[at].access != access) at++;
+    return at;
+}
+
+/* What addr2line says of an access, FILE:LINE. */
+static void note_name(int at, const char *said) {
     extern const char *execc_files[];
+    const char *colon = strchr(said, ':');
+    for (int f = 0; colon && execc_files[f]; f++) {
+        const char *slash = strrchr(execc_files[f], '/'), *name = slash ? slash + 1 : execc_files[f];
+        if (named[at].line || strncmp(name, said, colon - said) || name[colon - said]) continue;
+        named[at].file = execc_files[f];
+        named[at].line = atoi(colon + 1);
+    }
+}
+
+void accesses_name(void) {
+    static const int back[TRIES] = {1, 6, 12, 24, 48}; /* clang gives no line to some of its instructions */
+    int begun = named_count;
+    char *command, said[512];
+    size_t length;
+    FILE *to = open_memstream(&command, &length);
+    fprintf(to, "addr2line -s -e '%s'", self);
     for (int i = 0; i < task_count; i++)
         for (int k = 0; k < tasks[i].lines.count; k++) {
-            static struct {
-                const void *access;
-                const char *file;
-                int line;
-            } known[512];
-            static int known_count;
+            const void *access = tasks[i].lines.line[k].access;
+            if (!access || named_count == MOST_NAMED || named_at(access) < named_count) continue;
+            named[named_count++].access = access;
+            for (int n = 0; n < TRIES; n++) fprintf(to, " %p", (void *)((const char *)access - back[n]));
+        }
+    fputs(" 2>/dev/null", to);
+    fclose(to);
+    FILE *from = begun < named_count ? popen(command, "r") : 0;
+    for (int n = 0; from && n < (named_count - begun) * TRIES && fgets(said, sizeof said, from); n++)
+        note_name(begun + n / TRIES, said);
+    if (from) pclose(from);
+    free(command);
+    for (int i = 0; i < task_count; i++)
+        for (int k = 0; k < tasks[i].lines.count; k++) {
             Line *line = &tasks[i].lines.line[k];
-            int at = 0;
-            if (!line->access) continue;
-            while (at < known_count && known[at].access != line->access) at++;
-            if (at == known_count && known_count < 512) {
-                char command[4400], said[512] = "";
-                const char *code = line->access;
-                snprintf(command, sizeof command, "addr2line -s -e '%s' %p %p %p %p %p 2>/dev/null", self,
-                         (void *)(code - 1), (void *)(code - 6), (void *)(code - 12), (void *)(code - 24),
-                         (void *)(code - 48)); /* clang gives no line to some of its instructions */
-                FILE *from = popen(command, "r");
-                while (from && fgets(said, sizeof said, from) && strchr(said, ':') &&
-                       atoi(strchr(said, ':') + 1) == 0) {}
-                if (from) pclose(from);
-                char *colon = strchr(said, ':');
-                known[known_count++].access = line->access;
-                for (int f = 0; colon && execc_files[f]; f++) {
-                    const char *name = strrchr(execc_files[f], '/') ? strrchr(execc_files[f], '/') + 1 : execc_files[f];
-                    if (strncmp(name, said, colon - said) || name[colon - said]) continue;
-                    known[at].file = execc_files[f];
-                    known[at].line = atoi(colon + 1);
-                }
-            }
-            if (at == known_count) continue;
-            line->access = 0;
-            if (!known[at].file) continue;
-            line->file = known[at].file;
-            line->line = known[at].line;
+            int at = line->access ? named_at(line->access) : named_count;
+            if (at == named_count || !named[at].line) continue;
+            line->file = named[at].file;
+            line->line = named[at].line;
         }
 }

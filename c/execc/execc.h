@@ -19,7 +19,8 @@ enum {
     MOST_LINES = 1024,
     STACK = 1 << 18,
     BASE = 0x00200000,
-    SIZE = 0x00100000
+    SIZE = 0x00100000,
+    SMALL = 0x00010000
 };
 /* How execc ends, beside 0: the program is refused; the command line or the events are; an alert or findings; a file or
  * memory; a crash; not the same. */
@@ -74,6 +75,18 @@ typedef struct {
     int priority, forbids, disables, place;
 } View;
 
+/* What is seen of a request of timer.device. */
+typedef struct {
+    ULONG command, seconds, micros, is_quick;
+    LONG error;
+} Request;
+/* A line of the trace: its two first words, the addresses behind them, and what is answered. */
+typedef struct {
+    char first[40], second[40];
+    ULONG address[2], answer;
+    int has_answer, waits, is_long; /* there is a third word */
+} Said;
+
 extern Task tasks[MOST_TASKS];
 extern Interrupt interrupts[MOST_INTERRUPTS];
 extern int task_count, interrupt_count;
@@ -84,6 +97,7 @@ extern long actions;         /* how many were done */
 extern int in_progress;      /* requests of timer.device */
 extern int served[3];        /* how often each source was served */
 extern int active;           /* the interrupt whose body the machine runs, or -1 */
+extern int too_long;         /* the task whose call 1,025 no machine file has, or -1 */
 extern struct {
     const char *name;
     int (*main)();
@@ -99,8 +113,9 @@ int machine_at_end(void);
 int machine_running(void);
 void machine_view(int task, View *view);
 ULONG machine_signal_of_port(ULONG address);
+Request machine_request(ULONG address);
 int machine_record(const char *path);
-const char *machine_differs(void);
+const char *machine_differs(int is_recorded);
 int machine_shows(const char *what, const char *number, const char *names);
 unsigned long machine_ways(const char *actions, size_t count, int extra, const char *kinds);
 int machine_replied(ULONG address);
@@ -142,7 +157,7 @@ const char *name_of(const char *name, const char *what);
 
 /* ports.c, requests.c, interrupts.c */
 ULONG port_address(struct MsgPort *port, const char *who);
-void trace_line(const char *line);
+void trace_line(const Said *said);
 void get_fields(struct IORequest *request);
 Interrupt *interrupt_named(const char *name);
 int interrupt_begins(const char *name);
@@ -163,6 +178,8 @@ extern sigjmp_buf end_of_way;
 void accesses_begin(int is_on);
 int accesses_shared(void);
 void accesses_name(void);
+int memory_is_small(void);
+void need_memory(int is_needed);
 extern char self[4096];
 void explore_begin(void);
 void explore_share(const char *actions, size_t count, int extra, const char *of, int share, int shares);

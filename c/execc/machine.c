@@ -148,7 +148,8 @@ static char *write_file(size_t *length, int is_recorded) {
     fputs("# Recorded from a C program over one event text: it is that run alone. Over other events its tasks go on "
           "with the calls of that run.\n",
           to);
-    fprintf(to, "version = 2\nquantum = %d\npool = 1024\n\n[[region]]\nbase = %d\nsize = %d\n", quantum, BASE, SIZE);
+    fprintf(to, "version = 2\nquantum = %d\npool = %d\n\n[[region]]\nbase = %d\nsize = %d\n", quantum,
+            memory_is_small() ? 64 : 1024, BASE, memory_is_small() ? SMALL : SIZE);
     for (int i = 0; i < interrupt_count; i++) {
         Interrupt *it = &interrupts[i];
         fprintf(to,
@@ -199,6 +200,9 @@ static void do_action(int kind) {
 static void open_anew(void) {
     size_t size;
     uint64_t length = 0;
+    if (too_long >= 0)
+        refuse("the machine is opened anew for an interrupt, and a task has made more than 1,024 calls before; add "
+               "interrupts first");
     char *file = write_file(&size, 0), *events = machine_events();
     if (!buffer && !(buffer = malloc(buffer_room))) stop(FAILED, "out of memory");
     check(execsim_open(&machine, (uint8_t *)file, size, buffer, buffer_room, &length), length);
@@ -236,28 +240,47 @@ int machine_at_end(void) {
     return execsim_at_end(&machine, &task) || task == EXECSIM_NO_TASK ? -1 : (int)task;
 }
 
+/* Takes a word of a line, and answers what is behind it. */
+static const char *take_word(const char *at, char *to, size_t room) {
+    size_t n = strcspn(at, " "), kept = n < room ? n : room - 1;
+    memcpy(to, at, kept);
+    to[kept] = 0;
+    return at + n + (at[n] == ' ');
+}
+
+static Said said_by(const char *line) {
+    Said said = {0};
+    const char *at = take_word(take_word(line, said.first, sizeof said.first), said.second, sizeof said.second);
+    said.is_long = *at != 0;
+    for (int i = 0; i < 2 && *at == '$'; i++, at += strcspn(at, " "), at += *at == ' ')
+        said.address[i] = strtoul(at + 1, 0, 16);
+    size_t length = strlen(line);
+    said.waits = length > 6 && !strcmp(line + length - 6, " waits");
+    const char *arrow = strstr(line, " -> $");
+    said.has_answer = arrow != 0;
+    if (arrow) said.answer = strtoul(arrow + 5, 0, 16);
+    return said;
+}
+
 /* Reads a line of the trace. Whether the machine has to be opened anew, since an interrupt makes a call that its body
  * did not have. */
 static int read_line(const char *line) {
-    char first[40] = "", second[40] = "";
-    int at = 0;
+    Said said = said_by(line);
     show(line, strlen(line));
     show("\n", 1);
-    sscanf(line, "%39s %39s%n", first, second, &at);
-    if (!strcmp(first, "alert")) {
+    if (!strcmp(said.first, "alert")) {
+        need_memory(strstr(line, "FreeMem") != 0);
         is_stopped = 1;
         sscanf(line, "alert %*s %31s", alerted);
         return 0;
     }
-    Interrupt *it = line[at] ? 0 : interrupt_named(second);
-    if (it && !strcmp(first, it->kind ? "server" : "softint")) return interrupt_begins(second);
-    if (!strcmp(first, "serve")) served[*second == 'P' ? 0 : *second == 'V' ? 1 : 2]++;
-    const char *arrow = strstr(line, " -> $");
-    ULONG answer = arrow ? strtoul(arrow + 5, 0, 16) : 0;
-    trace_line(line);
-    if (active >= 0 && !strcmp(first, interrupts[active].name)) return interrupt_goes_on(answer);
-    Task *task = arrow ? task_named(first) : 0;
-    if (task) task->answer = answer;
+    Interrupt *it = said.is_long ? 0 : interrupt_named(said.second);
+    if (it && !strcmp(said.first, it->kind ? "server" : "softint")) return interrupt_begins(said.second);
+    if (!strcmp(said.first, "serve")) served[*said.second == 'P' ? 0 : *said.second == 'V' ? 1 : 2]++;
+    trace_line(&said);
+    if (active >= 0 && !strcmp(said.first, interrupts[active].name)) return interrupt_goes_on(said.answer);
+    Task *task = said.has_answer ? task_named(said.first) : 0;
+    if (task) task->answer = said.answer;
     return 0;
 }
 
@@ -321,7 +344,14 @@ int machine_replied(ULONG address) {
            !memmem(trace + trace_read, trace_length - trace_read, finished, strlen(finished));
 }
 
-/* Writes the machine file of the run, and its events beside it if `events` is to be kept. */
+/* What is seen of a request of timer.device. */
+Request machine_request(ULONG address) {
+    execsim_request_view it = {0};
+    execsim_request(&machine, address, &it);
+    return (Request){it.command, it.seconds, it.micros, it.quick, it.error};
+}
+
+/* Writes the machine file of the run. */
 int machine_record(const char *path) {
     size_t size;
     char *file = write_file(&size, 1);
@@ -332,11 +362,12 @@ int machine_record(const char *path) {
     return is_written;
 }
 
-/* The recorded file over the events is to be this run. What differs, or nothing. */
-const char *machine_differs(void) {
+/* The file over the events is to be this run, as it is recorded or without what a reader alone sees. What differs, or
+ * nothing. */
+const char *machine_differs(int is_recorded) {
     size_t size;
     uint64_t length = 0;
-    char *file = write_file(&size, 1), *events = machine_events();
+    char *file = write_file(&size, is_recorded), *events = machine_events();
     uint8_t *out = malloc(trace_length + 1);
     uint32_t status = execsim_run((uint8_t *)file, size, (uint8_t *)events, strlen(events), out, trace_length, &length);
     int is_same =

@@ -1,6 +1,7 @@
 /* The command line of a compiled program, its rounds of runs, and what is written of them. The script execc calls it.
  */
 #include "execc.h"
+#include <malloc.h>
 #include <stdlib.h>
 #include <sys/mman.h>
 #include <sys/wait.h>
@@ -72,15 +73,17 @@ static int has_servers(void) {
 }
 
 /* Events where none are given: steps until the machine is idle; then, while a request is in progress, a tick; and ten
- * ticks if there are servers. */
-static void make_events(void) {
-    for (int ticks = 0; actions < 200000 && !is_stopped;) {
+ * ticks if there are servers. Whether the run goes on after as many as are made. */
+enum { MOST_MADE = 100000 };
+static int make_events(void) {
+    for (int made = 0, ticks = 0; !is_stopped && made < MOST_MADE; made++) {
         if (machine_running() >= 0) act(STEP);
         else if (in_progress > 0 || (has_servers() && ticks++ < 10)) {
             act(TICK);
             if (machine_running() < 0) act(STEP);
-        } else break;
+        } else return 0;
     }
+    return !is_stopped;
 }
 
 static void write_text(const char *path, const char *text) {
@@ -123,23 +126,42 @@ static void keep_record(void) {
     write_text(path, machine_events());
 }
 
+/* Says of a run that no machine file can have why that is so; the status if a file is needed. */
+static int say_too_long(void) {
+    if (too_long < 0) return 0;
+    accesses_name();
+    say_of(&tasks[too_long].lines.line[MOST_LINES], too_long, -1,
+           "this is call 1,025 of the task, and a machine file has at most 1,024 lines of a task: the run is not "
+           "recorded; make fewer calls, or share them out among tasks");
+    return REFUSED;
+}
+
 /* One run, in a process of its own; its status. */
 static int run(void) {
+    int goes_on = 0;
     if (asked.events)
         for (size_t i = 0; i < frame_count && !is_stopped; i++) act(frame[i]);
-    else make_events();
+    else goes_on = make_events();
     show_rest();
     if (asked.shows) shown_length = 0;
     flush();
-    if (asked.record) keep_record();
-    if (asked.shows) return machine_shows(asked.shows, asked.number, asked.names);
-    const char *differs = machine_differs();
-    if (differs) stop(FAILED, "%s; please report this", differs);
+    if (goes_on) say("the run goes on; %d events are made at most, so give an event text for more", MOST_MADE);
+    if (say_too_long()) {
+        if (asked.record || asked.shows) return REFUSED;
+    } else {
+        if (asked.record) keep_record();
+        if (asked.shows) return machine_shows(asked.shows, asked.number, asked.names);
+        const char *differs = machine_differs(asked.record != 0);
+        if (differs) stop(FAILED, "%s; please report this", differs);
+    }
     say_end();
     return is_stopped ? FOUND : 0;
 }
 
 static void begin(void) {
+    mallopt(M_MMAP_MAX, 0); /* so memory of the C library lies below 4 GB too */
+    mallopt(M_TOP_PAD, 1 << 18);
+    mallopt(M_TRIM_THRESHOLD, 1 << 30);
     if (mmap((void *)(uintptr_t)BASE, SIZE, PROT_READ | PROT_WRITE, MAP_PRIVATE | MAP_ANONYMOUS | MAP_FIXED_NOREPLACE,
              -1, 0) == MAP_FAILED)
         stop(FAILED, "the memory of the machine is not free");
@@ -255,6 +277,7 @@ int main(int count, char **words) {
     read_words(count, words);
     if (asked.events) machine_read_events(asked.events, &frame, &frame_count);
     accesses_begin(asked.accesses);
+    need_memory(asked.record || asked.shows);
     if (asked.is_twice || asked.extra >= 0) {
         if (!is_same_twice()) return DIFFERS;
         if (asked.is_twice) return puts("the same twice") < 0;

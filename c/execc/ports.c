@@ -36,31 +36,25 @@ static void arrive_back(ULONG address) {
 }
 
 /* What a line of the trace changes in the lists of ports, and in the number of requests in progress. */
-void trace_line(const char *line) {
-    char name[40], word[24];
-    ULONG first = 0, second = 0;
-    int at = 0;
-    if (sscanf(line, "timer $%X", &first) == 1) {
+void trace_line(const Said *said) {
+    const char *word = said->second;
+    ULONG first = said->address[0];
+    if (!strcmp(said->first, "timer")) {
         in_progress--;
-        arrive_back(first);
+        arrive_back(strtoul(word + 1, 0, 16));
         return;
     }
-    if (sscanf(line, "%39s %23s%n", name, word, &at) < 2) return;
-    size_t length = strlen(line);
-    const char *arrow = strstr(line, " -> $");
-    ULONG answer = arrow ? strtoul(arrow + 5, 0, 16) : 0;
-    if (length > 6 && !strcmp(line + length - 6, " waits")) {
+    if (said->waits) {
         in_progress += !strcmp(word, "DoIO");
         return;
     }
-    sscanf(line + at, " $%X $%X", &first, &second);
-    if (!strcmp(word, "PutMsg")) arrive(host_at(first), host_at(second));
+    if (!strcmp(word, "PutMsg")) arrive(host_at(first), host_at(said->address[1]));
     if (!strcmp(word, "ReplyMsg")) arrive_back(first);
-    if (!strcmp(word, "GetMsg") && host_at(answer)) list_take(&((struct Message *)host_at(answer))->mn_Node);
+    if (!strcmp(word, "GetMsg") && host_at(said->answer)) list_take(&((struct Message *)host_at(said->answer))->mn_Node);
     if (!strcmp(word, "WaitIO") || !strcmp(word, "DoIO")) leave(host_at(first));
     if (!strcmp(word, "SendIO") && machine_replied(first)) arrive_back(first);
     else if (!strcmp(word, "SendIO")) in_progress++;
-    if (!strcmp(word, "AbortIO") && !answer) {
+    if (!strcmp(word, "AbortIO") && !said->answer) {
         in_progress--;
         arrive_back(first);
     }
@@ -75,6 +69,7 @@ void *execc_malloc(size_t size) {
 /* Memory: the address is the pointer. What lies in it is let go with it. */
 APTR AllocMem(ULONG size, ULONG requirements) {
     ULONG address = issue("AllocMem %u $%X", size, requirements);
+    need_memory(!address);
     if (address) memset((void *)(uintptr_t)address, requirements & MEMF_CLEAR ? 0 : fresh, size);
     return (APTR)(uintptr_t)address;
 }
@@ -96,7 +91,10 @@ APTR AllocVec(ULONG size, ULONG requirements) {
 void FreeVec(APTR memory) {
     if (memory) FreeMem((ULONG *)memory - 2, ((ULONG *)memory)[-2]);
 }
-ULONG AvailMem(ULONG requirements) { return issue("AvailMem $%X", requirements); }
+ULONG AvailMem(ULONG requirements) {
+    need_memory(1);
+    return issue("AvailMem $%X", requirements);
+}
 
 static ULONG fill_port(struct MsgPort *port, ULONG address) {
     port->mp_Node.ln_Type = NT_MSGPORT;
@@ -134,6 +132,7 @@ ULONG port_address(struct MsgPort *port, const char *who) {
                who);
     if (action == PA_SIGNAL) issue("FreeSignal %d", bit);
     ULONG address = issue("CreateMsgPort");
+    need_memory(!address);
     if (!address) refuse("there is no memory for the port");
     fill_port(port, address);
     if (action == PA_SIGNAL && port->mp_SigBit != bit)
@@ -149,6 +148,7 @@ ULONG port_address(struct MsgPort *port, const char *who) {
 }
 struct MsgPort *CreateMsgPort(void) {
     ULONG address = issue("CreateMsgPort");
+    need_memory(!address);
     struct MsgPort *port = address ? calloc(1, sizeof *port) : 0;
     if (port) fill_port(port, address);
     return port;
@@ -197,6 +197,7 @@ static ULONG message_address(struct Message *message, int may_make) {
     if (!may_make)
         refuse("this is no message that was sent before; an interrupt can only send one that a task has sent");
     ULONG address = issue("NewMsg $%X 0", reply);
+    need_memory(!address);
     if (!address) refuse("there is no memory for the message, or there are 1,024; free some");
     object_add(message, address, 'm')->reply = reply;
     return address;
@@ -208,7 +209,7 @@ void PutMsg(struct MsgPort *port, struct Message *message) {
 }
 struct Message *GetMsg(struct MsgPort *port) {
     struct Message *message = host_at(issue("GetMsg $%X", port_address(port, "GetMsg")));
-    if (message && serving < 0 && object_of(message, 'r')) get_fields((struct IORequest *)message);
+    if (message && object_of(message, 'r')) get_fields((struct IORequest *)message);
     return message;
 }
 struct Message *WaitPort(struct MsgPort *port) {
@@ -232,6 +233,7 @@ void InitSemaphore(struct SignalSemaphore *semaphore) {
         object_remove(object_of(semaphore, 's'));
     }
     ULONG address = issue("NewSem");
+    need_memory(!address);
     if (!address) refuse("there is no memory for the semaphore, or there are 1,024; use fewer");
     object_add(semaphore, address, 's');
     semaphore->ss_Link.ln_Type = NT_SIGNALSEM;

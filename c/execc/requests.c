@@ -1,10 +1,7 @@
-/* Requests of timer.device. A request is told what the program filled in when it is begun, if that changed; and the
- * program what the machine answered. */
+/* Requests of timer.device. A request is told what the program filled in when it is begun, if the machine has it
+ * otherwise; and the program what the machine has when it is done. */
 #include "execc.h"
 #include <stdlib.h>
-
-/* What each request was told last, by its address. */
-static struct { ULONG address, command, seconds, micros; } told[1024];
 
 static ULONG request_address(struct IORequest *request, const char *who) {
     Object *object = object_of(request, 'r');
@@ -17,6 +14,7 @@ struct IORequest *CreateIORequest(struct MsgPort *port, ULONG size) {
     if (size < sizeof(struct IORequest))
         refuse("a size of %u is below that of a request; give sizeof (struct timerequest)", size);
     ULONG address = issue("CreateIORequest $%X", port_address(port, "CreateIORequest"));
+    need_memory(!address);
     struct IORequest *request = address ? calloc(1, size < least ? least : size) : 0;
     if (!request) return 0;
     request->io_Message.mn_ReplyPort = port;
@@ -48,42 +46,29 @@ void CloseDevice(struct IORequest *request) { issue("CloseDevice $%X", request_a
 static ULONG set_fields(struct IORequest *request, const char *who) {
     struct timerequest *timer = (struct timerequest *)request;
     ULONG address = request_address(request, who), seconds = timer->tr_time.tv_secs, micros = timer->tr_time.tv_micro;
-    int at = (address >> 3) & 1023;
     if (serving >= 0)
         refuse("an interrupt may call Signal, Cause, PutMsg, GetMsg and ReplyMsg here; let a task begin the request");
     port_address(request->io_Message.mn_ReplyPort, "mn_ReplyPort");
-    if (told[at].address == address && told[at].command == request->io_Command && told[at].seconds == seconds &&
-        told[at].micros == micros)
-        return address;
-    told[at].address = address;
-    told[at].command = request->io_Command;
-    told[at].seconds = seconds;
-    told[at].micros = micros;
-    issue("SetIO $%X %u %u %u", address, request->io_Command, seconds, micros);
+    Request has = machine_request(address);
+    if (has.command != request->io_Command || has.seconds != seconds || has.micros != micros)
+        issue("SetIO $%X %u %u %u", address, request->io_Command, seconds, micros);
     return address;
 }
 
-/* Tells the program the error, and the time that TR_GETSYSTIME answered. */
+/* Tells the program the error, whether it was done at once, and the time that TR_GETSYSTIME answered. */
 void get_fields(struct IORequest *request) {
     struct timerequest *timer = (struct timerequest *)request;
-    ULONG address = request_address(request, "GetMsg");
-    request->io_Error = (BYTE)issue("IOError $%X", address);
+    Request has = machine_request(request_address(request, "GetMsg"));
+    request->io_Error = (BYTE)has.error;
+    request->io_Flags = has.is_quick ? IOF_QUICK : 0;
     if (request->io_Command != TR_GETSYSTIME) return;
-    told[(address >> 3) & 1023].address = 0;
-    timer->tr_time.tv_secs = issue("IOSecs $%X", address);
-    timer->tr_time.tv_micro = issue("IOMicros $%X", address);
+    timer->tr_time.tv_secs = has.seconds;
+    timer->tr_time.tv_micro = has.micros;
 }
 
 static BYTE finish(struct IORequest *request, ULONG error) {
-    struct timerequest *timer = (struct timerequest *)request;
-    ULONG address = request_address(request, "DoIO");
-    request->io_Error = (BYTE)error;
-    if (request->io_Command == TR_GETSYSTIME) {
-        told[(address >> 3) & 1023].address = 0;
-        timer->tr_time.tv_secs = issue("IOSecs $%X", address);
-        timer->tr_time.tv_micro = issue("IOMicros $%X", address);
-    }
-    return request->io_Error;
+    get_fields(request);
+    return request->io_Error = (BYTE)error;
 }
 BYTE DoIO(struct IORequest *request) { return finish(request, issue("DoIO $%X", set_fields(request, "DoIO"))); }
 void SendIO(struct IORequest *request) { issue("SendIO $%X", set_fields(request, "SendIO")); }

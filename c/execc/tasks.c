@@ -13,6 +13,7 @@
 Task tasks[MOST_TASKS];
 int task_count, current = -1, serving = -1, is_quiet, is_stopped, in_progress, fresh = 0xA5;
 long actions;
+int too_long = -1;
 static Fiber own; /* what runs the machine */
 static Fiber *running;
 static void (*code_of)(int);
@@ -172,9 +173,7 @@ ULONG issue(const char *format, ...) {
     }
     if (current < 0) stop(REFUSED, "a call of Exec outside of all tasks; make it in a task");
     int me = current;
-    if (tasks[me].lines.count == MOST_LINES)
-        refuse("this is call 1,025 of the task, and a machine file has at most 1,024 lines of a task; make fewer, or "
-               "share them out among tasks");
+    if (tasks[me].lines.count == MOST_LINES && too_long < 0) too_long = me;
     add_line(&tasks[me].lines, line);
     machine_feed(me);
     fiber_stop(&tasks[me].fiber);
