@@ -19,7 +19,7 @@ import typing
 import weakref
 
 __all__ = [
-    "Block", "Closed", "Finding", "Machine", "OutOfMemory", "Outcome", "Refused", "Row", "Run", "Task", "View",
+    "Block", "Closed", "Finding", "Machine", "OutOfMemory", "Outcome", "Refused", "Request", "Row", "Run", "Task", "View",
     "check", "chrome", "explore", "log", "picture", "run", "state",
 ]
 
@@ -27,6 +27,7 @@ Text = typing.Union[str, bytes]
 
 RAN, MACHINE_REFUSED, EVENTS_REFUSED, ALERTED, NO_MEMORY, TOO_LONG, NO_MACHINE, NOT_THERE, TOO_MANY = range(9)
 _LAST_STEP = _NO_TASK = (1 << 64) - 1
+_NO_UNIT = (1 << 32) - 1
 # How long a buffer is at first; one that is too short is made anew in the length that the library says.
 _ROOM = 1 << 16
 _KINDS = {"PORTS": 1, "tick": 2, "EXTER": 4}
@@ -51,7 +52,7 @@ class Refused(ValueError):
 
 
 class OutOfMemory(MemoryError):
-    """Memory was refused. A machine whose call was refused memory is closed."""
+    """Memory was refused. A machine is closed by it, but one that was fed a line or was to have a task more is as it was."""
 
 
 class Closed(ValueError):
@@ -174,6 +175,11 @@ class _BlockView(ctypes.Structure):
     _fields_ += [("priority", ctypes.c_int32)]
 
 
+class _RequestView(ctypes.Structure):
+    _fields_ = [(name, ctypes.c_uint32) for name in ("reply_port", "state", "unit", "command", "seconds", "micros")]
+    _fields_ += [("error", ctypes.c_int32), ("quick", ctypes.c_uint32)]
+
+
 _STATES = ("absent", "ready", "running", "waits for signals", "waits for a semaphore", "removed")
 
 
@@ -223,6 +229,26 @@ class Block:
     priority: int
 
 
+@dataclasses.dataclass(frozen=True)
+class Request:
+    """What is seen of a request of timer.device."""
+
+    #: The address of its reply port.
+    reply_port: int
+    #: 0 never begun, 1 in progress, 2 finished at once, 3 replied.
+    state: int
+    #: The unit that it is open for, or None.
+    unit: typing.Optional[int]
+    command: int
+    #: Its time.
+    seconds: int
+    micros: int
+    #: 0, or why it failed.
+    error: int
+    #: Whether IOF_QUICK is set in its flags.
+    quick: bool
+
+
 def _load() -> ctypes.CDLL:
     """The library, which lies beside this file, with the types of its calls."""
     library = ctypes.CDLL(str(pathlib.Path(__file__).with_name("libexecsim.so")))
@@ -243,6 +269,11 @@ def _load() -> ctypes.CDLL:
         "task": [handle, size, ctypes.POINTER(_TaskView)],
         "block": [handle, word, ctypes.POINTER(_BlockView)],
         "task_name": [handle, size, *buffer],
+        "request": [handle, word, ctypes.POINTER(_RequestView)],
+        "message": [handle, word, word, ctypes.POINTER(word)],
+        "feed": [handle, size, bytes_, size],
+        "add_task": [handle, bytes_, size, ctypes.c_int32, ctypes.POINTER(wide)],
+        "at_end": [handle, ctypes.POINTER(wide)],
         "close": [handle],
     }.items():
         call = getattr(library, f"execsim_{name}")
@@ -478,3 +509,78 @@ class Machine:
         task = None if view.task == _NO_TASK else view.task
         seen = (view.count, view.signal, view.word, view.reply_port, view.state, view.priority)
         return Block(_KINDS_OF_BLOCK[view.kind], view.size, task, *seen)
+
+    def request(self, address: int) -> typing.Optional[Request]:
+        """What is seen of the request of timer.device that begins at an address; None if none does. Raises `Closed`."""
+        view = _RequestView()
+        if not 0 <= address < 1 << 32:
+            return None
+        if self._open(_library.execsim_request(self._own(), address, ctypes.byref(view))) == NOT_THERE:
+            return None
+        unit = None if view.unit == _NO_UNIT else view.unit
+        return Request(view.reply_port, view.state, unit, view.command, view.seconds, view.micros, view.error, bool(view.quick))
+
+    def messages(self, port: int) -> list[int]:
+        """The addresses of the messages and requests in the port at an address, in order of arrival; none if no port begins there. Raises `Closed`."""
+        found: list[int] = []
+        after = ctypes.c_uint32()
+        while 0 <= port < 1 << 32:
+            self._open(_library.execsim_message(self._own(), port, after.value, ctypes.byref(after)))
+            if not after.value:
+                break
+            found.append(after.value)
+        return found
+
+    @property
+    def at_end(self) -> typing.Optional[int]:
+        """The place in `tasks` of the task that the next step finds at the end of its lines, and ends, unless it is fed before; or None. Raises `Closed`."""
+        task = ctypes.c_uint64()
+        self._open(_library.execsim_at_end(self._own(), ctypes.byref(task)))
+        return None if task.value == _NO_TASK else task.value
+
+    def feed(self, task: int, line: Text) -> None:
+        """Feeds a line to a task, which is the last one of its code then: as `Wait $1000`, without a variable, a label or a jump. The run is that of the
+        machine file whose bodies have all lines from the start, if no step has found a task at the end of its lines that is fed later: that is proved.
+
+        task: its place in `tasks`. Raises ValueError if it is no such line, IndexError if there is no such task, `OutOfMemory` and `Closed`; the
+        machine is as it was then.
+        """
+        text = _as_bytes(line)
+        if not 0 <= task < _NO_TASK:
+            raise IndexError(f"there is no task {task}")
+        status = self._open(_library.execsim_feed(self._own(), task, text, len(text)))
+        if status == MACHINE_REFUSED:
+            raise ValueError(f"a line that can be fed is a command without a variable, a label or a jump, and this is {line!r}")
+        if status == NOT_THERE:
+            raise IndexError(f"there is no task {task}")
+        if status == NO_MEMORY:
+            raise OutOfMemory("no memory")
+
+    def add_task(self, name: Text, priority: int = 0) -> int:
+        """Adds a task after the others, and returns its place in `tasks`. It was never added and has no lines: the word AddTask adds it, by its number,
+        which is one more than its place, and `feed` feeds it. The run is that of the machine file that has it as its last, with `start = false`: that is proved.
+
+        Raises ValueError if a machine file has no such name or priority, or if there are 4,096 tasks; RuntimeError if an alert has stopped the machine;
+        `OutOfMemory` and `Closed`; the machine is as it was then.
+        """
+        text, task = _as_bytes(name), ctypes.c_uint64()
+        refused = f"a machine file has no task of the name {name!r} and the priority {priority}"
+        if not -128 <= priority <= 127:
+            raise ValueError(refused)
+        status = self._open(_library.execsim_add_task(self._own(), text, len(text), priority, ctypes.byref(task)))
+        if status == MACHINE_REFUSED:
+            raise ValueError(refused)
+        if status == TOO_MANY:
+            raise ValueError("the machine has 4,096 tasks, and no more are added")
+        if status == ALERTED:
+            raise RuntimeError("an alert has stopped the machine")
+        if status == NO_MEMORY:
+            raise OutOfMemory("no memory")
+        return task.value
+
+    @staticmethod
+    def _open(status: int) -> int:
+        """What a call answers, of a machine that is not closed."""
+        if status == NO_MACHINE:
+            raise Closed("the machine is closed")
+        return status
