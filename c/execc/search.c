@@ -166,8 +166,9 @@ int explore_report(const char *actions, size_t count, int extra, const char *of,
            found->count, found->count == 1 ? "" : "s");
     printf("program: execc\nseen of a way: what the program prints, and its end\nways that end in an alert: %lu\n",
            found->alerts);
-    printf("words of shared memory: %d, found in %d round%s; the first way ran twice and was the same\n",
-           accesses_shared(), rounds, rounds == 1 ? "" : "s");
+    printf("each of these ways was run, if the programs do the same each time: the first way ran twice and was the same\n");
+    printf("words of shared memory: %d, found in %d round%s; no way of the last round found another\n", accesses_shared(),
+           rounds, rounds == 1 ? "" : "s");
     for (int i = 0; i < found->count; i++) {
         Outcome *it = &found->of[i];
         printf("\noutcome %d: %lu way%s, first %s\n%s", i + 1, it->ways, it->ways == 1 ? "" : "s",
