@@ -162,8 +162,8 @@ int explore_report(const char *actions, size_t count, int extra, const char *of,
         printf("%s\n", events_of(&found->of[wanted - 1].first, "\n"));
         return 0;
     }
-    printf("%s: %zu actions, at most %d more of %s: %lu ways, %d outcome%s\n", names, count, extra, of_names, ways,
-           found->count, found->count == 1 ? "" : "s");
+    printf("%s: %zu actions, at most %d more of %s: %lu way%s, %d outcome%s\n", names, count, extra, of_names, ways,
+           ways == 1 ? "" : "s", found->count, found->count == 1 ? "" : "s");
     printf("program: execc\nseen of a way: what the program prints, and its end\nways that end in an alert: %lu\n",
            found->alerts);
     printf("each of these ways was run, if the programs do the same each time: the first way ran twice and was the same\n");
