@@ -67,15 +67,33 @@ class Strip {
       if (!base) return this.refuse('Of this run no other ways are tried.');
       this.kinds = base.kinds;
       if (!this.classes.length) this.newClass(base.outcomes[0]);
-      const { from, to } = this.view.drawn ?? { from: 0, to: 0 }, needed = base.took * (to - from + 1) * this.kinds.length;
+      const { from, to } = this.view.drawn ?? { from: 0, to: 0 }, needed = await this.timeOf(base, (to - from + 1) * this.kinds.length);
+      if (isOver()) return;
       if (needed > LONGEST_STRIP) return this.refuse(`The run is long: its ${counted((to - from + 1) * this.kinds.length, 'place')} in view would take about ${shown(Math.ceil(needed / 1000))} s, and are not tried.`);
       const isFew = (frame.end + 1) * this.kinds.length <= MOST_CELLS;
       await this.tryAll(from, to, isOver);
       if (isFew && !isOver()) await this.tryAll(0, frame.end, isOver);
+      if (isFew && !isOver()) this.letterInOrder();
       if (isFew && !isOver()) await this.compare(isOver);
     } catch (why) {
       if (!(why instanceof Stopped)) this.refuse(`The ways broke off: ${why.message}`);
     }
+  }
+
+  /** How long some cells will take, in milliseconds. If the call that is given says that it is too long, it is made once more: the first one of a worker
+      takes longer than those that follow, and so does any that another program has held up. */
+  async timeOf(base, cells) {
+    const needed = base.took * cells;
+    return needed > LONGEST_STRIP ? Math.min(needed, (await this.outcomeOf(this.frame.texts[1])).took * cells) : needed;
+  }
+
+  /** Gives the outcomes their letters in the order of the places that bring them: those in view were tried first, and which these are depends on the window. */
+  letterInOrder() {
+    const places = Array.from({ length: this.frame.end + 1 }, (_it, place) => place), tried = places.flatMap(place => this.kinds.map(kind => this.cells.get(`${kind} ${place}`)));
+    const order = [...new Set([0, ...tried.filter(it => it !== undefined)])];
+    this.classes = order.map(number => this.classes[number]);
+    for (const [key, number] of this.cells) this.cells.set(key, order.indexOf(number));
+    this.draw();
   }
 
   refuse(words) {
@@ -160,9 +178,10 @@ class Strip {
   }
 
   row(kind, index, columns, left) {
-    const row = made('div', '', 'cells'), name = made('span', kind === 'tick' ? 'a tick here' : `irq ${kind} here`, 'name'), { from, to } = this.view.drawn;
+    const row = made('div', '', 'cells'), name = made('span', kind === 'tick' ? 'a tick' : `irq ${kind}`, 'name'), { from, to } = this.view.drawn;
     row.setAttribute('role', 'row');
     name.setAttribute('role', 'rowheader');
+    name.append(made('span', ' here', 'if-room'));
     row.append(name);
     for (let place = from; place <= to; place++) {
       const column = columns[Math.min(place - from, columns.length - 1)], x = place - from < columns.length ? column.left : column.right;
