@@ -12,10 +12,10 @@ function breaksRule({ never, always }, outcome) {
 }
 
 class Exercise {
-  /** `library` makes the search; `begun` gives the texts of an exercise as they were, and `now` those whose ways are judged; `onWay` opens one, `onJudged` is
-      called with what was found. */
-  constructor({ library, begun, now, onWay, onJudged }) {
-    Object.assign(this, { library, begun, now, onWay, onJudged, rule: null });
+  /** `library` makes the search, and `opener` gives a way; `begun` gives the texts of an exercise as they were, and `now` those whose ways are judged;
+      `onWay` opens one, `onJudged` is called with what was found. */
+  constructor({ library, opener, begun, now, onWay, onJudged }) {
+    Object.assign(this, { library, opener, begun, now, onWay, onJudged, rule: null });
     $('exercise-check').addEventListener('click', () => this.check());
   }
 
@@ -58,15 +58,22 @@ class Exercise {
       this.onJudged({ holds: !sum, ways, wrong: sum });
       if (!sum) say(made('b', `It holds in all ${counted(ways, 'way')}`), ` in which ${more}, and no way was left out.`);
       if (!sum) return '';
-      const open = button('Show me one', async () => {
-        const way = await this.library.ask('execsim_way', texts, [extra, kinds, 1, MOST_WAYS, BigInt(wrong[0].number)]), said = made('span');
-        said.append(...withCode(rule.says));
-        if (isThere(way)) this.onWay({ texts, events: way.bytes, said: `A way in which ${said.textContent}.` });
-      });
+      const open = button('Show me one', () => this.open(texts, rule, wrong[0].number));
       say(made('b', 'Not yet: '), `in ${shown(sum)} of ${counted(ways, 'way')} `, ...withCode(rule.says), '. ', open);
       return '';
     } catch (why) {
       return say(why instanceof Stopped ? 'It was stopped.' : `It broke off: ${why.message}`);
+    }
+  }
+  /** Opens the first way of an outcome that breaks a rule. */
+  async open(texts, { extra, kinds, says }, number) {
+    const said = made('span');
+    said.append(...withCode(says));
+    try {
+      const way = await this.opener.ask('execsim_way', texts, [extra, kinds, 1, MOST_WAYS, BigInt(number)]);
+      if (isThere(way)) this.onWay({ texts, events: way.bytes, said: `A way in which ${said.textContent}.` });
+    } catch (why) {
+      if (!(why instanceof Stopped)) $('exercise-verdict').append(` The way is not opened: ${why.message}`);
     }
   }
 }

@@ -313,14 +313,20 @@ async function save(id) {
   }
 }
 
-/** Opens files: one whose name ends with .events is an event text, any other a machine file. */
+/** Opens files: one whose name ends with .events is an event text, any other a machine file; of each one at most. */
 async function openFiles(list) {
-  const [machine, events] = texts(), found = { machine, events }, names = { ...files };
+  const [machine, events] = texts(), found = { machine, events }, names = { ...files }, seen = {};
   for (const file of list) {
     if (file.size > LIMIT) return says(`${file.name} has more than 4,194,304 bytes, which are not read.`, 'fault');
     const which = file.name.endsWith('.events') ? 'events' : 'machine';
-    found[which] = new Uint8Array(await file.arrayBuffer());
-    names[which] = file.name;
+    if (file.size > LIMIT) return says(`${file.name} has more than 4,194,304 bytes, which are not read.`, 'fault');
+    if (seen[which]) return says(`${seen[which]} and ${file.name} are both ${which === 'events' ? 'event texts' : 'machine files'}: one of each can be opened, an event text by a name that ends in .events.`, 'fault');
+    try {
+      found[which] = new Uint8Array(await file.arrayBuffer());
+    } catch (why) {
+      return says(`${file.name} cannot be read: ${why.message}`, 'fault'); // a folder, or a file that went away
+    }
+    names[which] = seen[which] = file.name;
   }
   if (list.length) return take({ texts: [found.machine, found.events], files: names });
 }
@@ -500,8 +506,9 @@ async function begin(carried, loads) {
   view = new View({ onCursor: cursorAt, breaks: () => editors['machine.toml'].breaks, onPicture: () => strip?.pictured(), onNone: says, onFault: why => says(`The simulator broke off: ${why.message}`, 'fault') });
   makeEditors();
   await loads;
-  [checker, asides, search] = [library.another(), library.another(), new Search(library.another(), texts, frameTexts, openWay)];
-  exercise = new Exercise({ library: search.library, begun: name => exampleOf(name).texts, now: frameTexts, onWay: openWay, onJudged: judged });
+  [checker, asides] = [library.another(), library.another()];
+  search = new Search({ library: library.another(), opener: checker, textsNow: texts, frameNow: frameTexts, onWay: openWay });
+  exercise = new Exercise({ library: search.library, opener: checker, begun: name => exampleOf(name).texts, now: frameTexts, onWay: openWay, onJudged: judged });
   lesson = new Lesson({ onOpen: openLesson, onStep: showStep, onPart: partShown });
   strip = new Strip(asides, view, outcome => exercise.isBroken(outcome), openCell);
   work = new Work(current, take);

@@ -4,9 +4,10 @@
 const MOST_WAYS = 1000000n, MOST_LISTED = 500;
 
 class Search {
-  /** `textsNow` gives the texts, `frameNow` those that an opened way is of, `onWay` opens the events of a way. */
-  constructor(library, textsNow, frameNow, onWay) {
-    Object.assign(this, { library, textsNow, frameNow, onWay, report: null });
+  /** `library` makes the searches, and `opener` gives a way, also while one is made; `textsNow` gives the texts, `frameNow` those that an opened way is of,
+      `onWay` opens the events of a way. */
+  constructor({ library, opener, textsNow, frameNow, onWay }) {
+    Object.assign(this, { library, opener, textsNow, frameNow, onWay, report: null });
     $('search').addEventListener('submit', event => {
       event.preventDefault();
       this.search(textsNow());
@@ -106,13 +107,8 @@ class Search {
     const item = made('li', '', hasAlert(one) || exercise.isBroken(one) ? 'alert' : ''), open = button('Open', () => this.openWay(number)), more = made('details'), other = one === this.base ? null : firstOtherLine(one, this.base);
     item.value = number;
     open.setAttribute('aria-label', `Open the first way of outcome ${number}`);
-    item.append(`${counted(one.count, 'way')} `, open);
-    if (one === this.base) item.append(made('p', 'as now'));
-    if (other) {
-      const line = made('p');
-      line.append(made('code', inShort(other.line)), ', not ', made('code', inShort(other.was)));
-      item.append(line);
-    }
+    item.append(open, ` ${counted(one.count, 'way')}${one === this.base ? ', as now' : ''}`);
+    if (other) item.append(': ', made('code', inShort(other.line)), ', not ', made('code', inShort(other.was)));
     more.append(made('summary', `${counted(one.lines.length, 'line')}, first ${one.way}`), made('pre', one.lines.join('\n')));
     item.append(more);
     return item;
@@ -120,9 +116,14 @@ class Search {
 
   /** Opens the first way of an outcome as a run. */
   async openWay(number) {
-    const numbers = [this.depth, ...this.asked.slice(1)], answer = await this.library.ask('execsim_way', this.texts, [...numbers, BigInt(number)]);
-    if (isThere(answer)) this.onWay({ texts: this.texts, events: answer.bytes, said: `The first way of outcome ${number}: ${this.report.outcomes[number - 1].way}.` });
-    else $('searched').textContent = answer.text();
+    const { texts, report, depth, asked } = this;
+    try {
+      const answer = await this.opener.ask('execsim_way', texts, [depth, ...asked.slice(1), BigInt(number)]);
+      if (isThere(answer)) this.onWay({ texts, events: answer.bytes, said: `The first way of outcome ${number}: ${report.outcomes[number - 1].way}.` });
+      else $('searched').textContent = answer.text();
+    } catch (why) {
+      if (!(why instanceof Stopped)) $('searched').textContent = `The way is not opened: ${why.message}`;
+    }
   }
 
   /** Shows whether what is listed, or searched, is of texts as they were. */
