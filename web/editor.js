@@ -7,9 +7,10 @@ const LIMIT = 4194304;
 const LONGEST_LINE = 20000;
 
 class Editor {
-  /** `onChange` is called after each change by a user, and `onLine` with a line whose number is clicked, or which has the caret when Alt+Enter is pressed.
-      If there is `onBreaks`, lines can have breaks, and it is called with their number. */
-  constructor(place, label, mode, onChange, onLine, onBreaks = null) {
+  /** `onChange` is called after each change by a user, `onLine` with a line whose number is clicked, or which has the caret when Alt+Enter is pressed, and
+      `onUndo` when a change is to be taken back and nothing was changed since the text was set. If there is `onBreaks`, lines can have breaks, and it is called
+      with their number. */
+  constructor(place, label, mode, { onChange, onLine, onUndo, onBreaks = null }) {
     this.place = place;
     this.marks = [];
     this.lines = [];
@@ -18,7 +19,7 @@ class Editor {
     this.cut.hidden = true;
     place.before(this.cut);
     this.onBreaks = onBreaks;
-    this.shown = CodeMirror(place, this.options(label, mode, onLine));
+    this.shown = CodeMirror(place, this.options(label, mode, onLine, onUndo));
     this.shown.on('changes', (_editor, changes) => { if (changes.some(it => it.origin !== 'setValue')) this.changed(onChange); onBreaks?.(this.breaks.length); });
     this.shown.on('gutterClick', (_editor, line, gutter) => { if (gutter === 'CodeMirror-linenumbers') onLine(line + 1); else if (gutter === 'breaks') this.toggleBreak(line + 1); });
     this.shown.on('drop', (_editor, event) => { if (event.dataTransfer.types.includes('Files')) event.preventDefault(); });
@@ -28,13 +29,13 @@ class Editor {
     new ResizeObserver(() => this.resized()).observe(place);
   }
 
-  options(label, mode, onLine) {
-    const help = () => this.help(this.shown.getCursor());
+  options(label, mode, onLine, onUndo) {
+    const help = () => this.help(this.shown.getCursor()), undo = editor => { const { undo: done, redo: undone } = editor.historySize(); if (done || undone) editor.undo(); else onUndo(); };
     return {
       mode, lineNumbers: true, lineSeparator: '\n', inputStyle: 'contenteditable', screenReaderLabel: label, indentUnit: 2, tabSize: 4, matchBrackets: true,
       autoCloseBrackets: { pairs: '[]""\'\'', explode: '[]' }, foldGutter: { rangeFinder: foldsAt }, gutters: [...(this.onBreaks ? ['breaks'] : []), 'CodeMirror-linenumbers', 'CodeMirror-foldgutter'],
       hintOptions: { hint: completion, completeSingle: false }, workTime: 20, workDelay: 200,
-      extraKeys: { Tab: false, 'Shift-Tab': false, 'Ctrl-Space': 'autocomplete', F1: help, F9: () => this.toggleBreak(this.shown.getCursor().line + 1), 'Alt-Enter': () => onLine(this.shown.getCursor().line + 1), 'Ctrl-Enter': () => {}, 'Cmd-Enter': () => {}, 'Alt-.': () => {}, 'Alt-,': () => {}, Esc: editor => { hideTip(); if (!editor.state.completionActive) return CodeMirror.Pass; } },
+      extraKeys: { Tab: false, 'Shift-Tab': false, 'Ctrl-Space': 'autocomplete', F1: help, 'Ctrl-Z': undo, 'Cmd-Z': undo, F9: () => this.toggleBreak(this.shown.getCursor().line + 1), 'Alt-Enter': () => onLine(this.shown.getCursor().line + 1), 'Ctrl-Enter': () => {}, 'Cmd-Enter': () => {}, 'Alt-.': () => {}, 'Alt-,': () => {}, Esc: editor => { hideTip(); if (!editor.state.completionActive) return CodeMirror.Pass; } },
     };
   }
 

@@ -488,11 +488,12 @@ function breaksChanged(count) { $('to-break').hidden = count === 0; }
 
 /** Makes the editors. */
 function makeEditors() {
+  const onUndo = () => work.undo();
   CodeMirror.defineMode('machine', machineMode);
   CodeMirror.defineMode('events', eventsMode);
   editors = {
-    'machine.toml': new Editor($('machine-editor'), 'Machine file', 'machine', () => typed('machine'), line => view.goToSuch(row => row.line === line), breaksChanged),
-    'run.events': new Editor($('events-editor'), 'Events', 'events', () => typed('events'), line => { const event = shownRun?.events.find(it => it.line === line); if (event) view.goTo(event.from); }),
+    'machine.toml': new Editor($('machine-editor'), 'Machine file', 'machine', { onChange: () => typed('machine'), onUndo, onLine: line => view.goToSuch(row => row.line === line), onBreaks: breaksChanged }),
+    'run.events': new Editor($('events-editor'), 'Events', 'events', { onChange: () => typed('events'), onUndo, onLine: line => { const event = shownRun?.events.find(it => it.line === line); if (event) view.goTo(event.from); } }),
   };
 }
 

@@ -15,27 +15,36 @@ class Work {
     this.unsaved = new Set(); // the files that were changed since they were saved
     $('undo').addEventListener('click', () => this.undo());
     $('kept-menu').addEventListener('toggle', () => this.list());
-    addEventListener('beforeunload', event => { if (this.unsaved.size && navigator.userActivation?.hasBeenActive !== false) event.preventDefault(); });
+    addEventListener('beforeunload', event => { if (this.isUnsaved() && navigator.userActivation?.hasBeenActive !== false) event.preventDefault(); });
   }
+
+  /** Whether there is own work that would be lost: what is shown, or what Undo alone has, since this browser did not keep it. */
+  isUnsaved() { return this.unsaved.size > 0 || this.past.some(it => it.unsaved.size && !it.isKept); }
 
   newId() { return `${Date.now()}-${Math.random().toString(36).slice(2)}`; }
 
   /** Keeps a pair that another one replaces. */
   replaces(pair) {
     if (!pair.texts.some(text => text.length)) return;
-    this.past.push({ ...pair, id: this.id, unsaved: new Set(this.unsaved) });
+    this.past.push({ ...pair, id: this.id, unsaved: new Set(this.unsaved), isKept: Boolean(pair.example) || this.keep(pair) });
     if (this.past.length > 50) this.past.shift();
-    if (!pair.example) this.keep(pair);
     this.id = this.newId();
     this.unsaved = new Set();
-    $('undo').disabled = false;
+    this.showUndo();
+  }
+
+  /** Shows whether there is something to bring back, and what. */
+  showUndo() {
+    const pair = this.past.at(-1);
+    $('undo').disabled = !pair;
+    $('undo').title = pair ? `Brings back ${pair.example ?? pair.title}${pair.way ? ', a way' : ''}` : 'Brings back the texts that were here before';
   }
 
   /** Brings back the last pair that was replaced. What is shown now is kept among the earlier ones. */
   undo() {
     const pair = this.past.pop();
     if (!pair) return;
-    $('undo').disabled = !this.past.length;
+    this.showUndo();
     const last = this.now();
     if (!last.example) this.keep(last);
     this.onTake(pair, false);
@@ -47,26 +56,30 @@ class Work {
     try { return JSON.parse(localStorage.getItem(KEPT)) ?? []; } catch { return []; }
   }
 
-  /** Keeps own texts in this browser; of the same work only the last. */
+  /** Keeps own texts in this browser; of the same work only the last. Answers whether it did. */
   keep({ texts, title, changedFrom }) {
     const [machine, events] = texts.map(decoded);
-    if (machine.length + events.length > MOST_IN_PAIR) return;
+    if (machine.length + events.length > MOST_IN_PAIR) return false;
     const others = this.pairs().filter(it => it.id !== this.id && (it.machine !== machine || it.events !== events));
     const pairs = [{ id: this.id, time: Date.now(), title, of: changedFrom, machine, events }, ...others].slice(0, MOST_PAIRS);
     while (pairs.length && pairs.reduce((sum, it) => sum + it.machine.length + it.events.length, 0) > MOST_CHARACTERS) pairs.pop();
     for (; pairs.length; pairs.pop()) {
-      try { return localStorage.setItem(KEPT, JSON.stringify(pairs)); } catch {} // there is no room for all of them, or none is allowed
+      try {
+        localStorage.setItem(KEPT, JSON.stringify(pairs));
+        return true;
+      } catch {} // there is no room for all of them, or none is allowed
     }
+    return false;
   }
 
   /** Lists the pairs that are kept. */
   list() {
     const pairs = this.pairs(), items = pairs.map(it => {
       const open = button('', () => { $('kept-menu').open = false; this.onTake(takenFrom(it), true); });
-      open.append(made('b', new Date(it.time).toLocaleString()), made('span', it.title));
+      open.append(made('b', new Date(it.time).toLocaleString()), it.of ? `, of ${exampleOf(it.of)?.title ?? it.of}` : '', made('span', it.title));
       return open;
     });
-    $('kept').replaceChildren(...(items.length ? items : [made('p', 'Texts of yours that another text replaces, or that you leave, are kept here: the last 20 pairs.')]));
+    $('kept').replaceChildren(...(items.length ? items : [made('p', 'Texts of yours that another text replaces, or that you leave, are kept here, in this browser: the last 20 pairs, each of at most 1,000,000 characters.')]));
   }
 }
 
