@@ -144,6 +144,7 @@ async function check(one) {
 
 function showFindings(found) {
   found.forEach((one, i) => { one.id = `finding-${i}`; });
+  FINDINGS_AT = new Set(found.filter(one => one.file === 'machine.toml' && one.line).map(one => one.line));
   for (const [file, editor] of Object.entries(editors)) editor.setMarks(found.filter(one => one.file === file && one.line).map(one => ({ ...one, text: noteOf(one) })));
   $('findings').replaceChildren(...(found.length ? found.map(findingItem) : [made('li', 'Nothing was found.', 'none')]));
   $('findings-tab').textContent = found.length ? `Findings: ${found.length}` : 'Findings';
@@ -197,6 +198,8 @@ function nameTexts() {
 /** Shows a pair of texts, and runs them. What was shown can be had back by Undo. */
 function take(pair, keepsOld = true) {
   if (keepsOld) work.replaces(current());
+  const was = chosen ?? changedFrom, is = pair.example ?? pair.changedFrom ?? null;
+  if (was !== is || (!is && !way && !pair.way)) view.watch.clear();
   [chosen, changedFrom, files, way] = [pair.example ?? null, exampleOf(pair.changedFrom) ? pair.changedFrom : null, pair.files ?? { machine: 'machine.toml', events: 'run.events' }, pair.way ?? null];
   const now = texts();
   Object.values(editors).forEach((editor, i) => { if (!isSame(now[i], pair.texts[i])) editor.bytes = pair.texts[i]; });

@@ -107,6 +107,20 @@ class Run {
     return this.states.get(step);
   }
 
+  /** The next step after one, or the last one before it, at which what is read of a state is other than it was; or how far that was looked for. */
+  async changeOf(read, step, isBack, isOver) {
+    const end = performance.now() + LONGEST_LOOK, way = isBack ? -1 : 1;
+    let at = isBack ? step - 1 : step, value = at < 0 ? undefined : read(await this.stateAt(at));
+    while (performance.now() < end && !isOver()) {
+      const places = Array.from({ length: STATES_AT_ONCE }, (_it, i) => at + way * (i + 1)).filter(it => it >= 0 && it <= this.end);
+      if (!places.length) return { isThere: false, isWhole: true };
+      const values = (await Promise.all(places.map(it => this.stateAt(it)))).map(read), other = values.findIndex(it => it !== value);
+      if (other >= 0) return { isThere: true, step: isBack ? places[other] + 1 : places[other] };
+      at = places.at(-1);
+    }
+    return { isThere: false, isWhole: false, step: at };
+  }
+
   /** Finds the alert that ended the run, if the log did not come to it yet: the first step by which the log says that the machine is stopped. */
   async findAlert() {
     if (this.alert || (await this.whole()).status !== ALERTED) return;

@@ -23,6 +23,7 @@ class View {
     this.zoom = 0; // how many steps the picture shows; 0 is as many as fit
     this.beside = null; // the rows of the run that a way was opened from
     this.trace = new Trace($('trace'), step => this.goTo(step));
+    this.watch = new Watch((key, name, isBack) => this.goToChange(key, name, isBack));
     $('step').addEventListener('input', () => this.goTo(Number($('step').value)));
     for (const [id, step] of [['first', () => 0], ['back', () => this.step - 1], ['forward', () => this.step + 1], ['last', () => this.run?.end ?? 0]]) $(id).addEventListener('click', () => this.goTo(step()));
     $('play').addEventListener('click', () => this.play());
@@ -126,6 +127,20 @@ class View {
     }
   }
 
+  /** Moves the cursor to the step at which something of the state changed last, or changes next. If there is none, or none as far as is looked, it says so. */
+  async goToChange(key, name, isBack) {
+    const { run, step } = this, isOver = () => run !== this.run || step !== this.step;
+    if (!run) return;
+    try {
+      const found = await run.changeOf(state => valueOf(state, key), step, isBack, isOver);
+      if (isOver()) return;
+      if (found.isThere) this.goTo(found.step);
+      else this.onNone(`${name} changes at no ${isBack ? 'earlier' : 'later'} step${found.isWhole ? '' : `, as far as was looked: ${isBack ? 'down' : 'up'} to ${shown(found.step)}`}.`);
+    } catch (why) {
+      if (!(why instanceof Stopped)) this.onFault(why);
+    }
+  }
+
   /** Moves the cursor to the next step of a line that has a break. If there is none as far as is looked, it says so and how far; without a run, nothing. */
   async goToBreak() {
     const { run } = this, last = run ? run.log.from + TRACED * (PARTS_FURTHER + 1) - 1 : 0;
@@ -176,6 +191,7 @@ class View {
     this.drawPicture(picture, step);
     this.drawTrace(log, step);
     drawState($('state'), before, after);
+    this.watch.draw(before, after);
     const rows = this.trace.at(step), event = run.eventAt(step);
     drawTelling(tellStep(rows, step, event?.kind, before, after), step ? `Step ${shown(step)}` : 'The start');
     this.drawPlace();

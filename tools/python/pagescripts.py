@@ -71,8 +71,19 @@ IN_SIGHT = """(async () => {
 MARKED = """(async () => {
   const all = [];
   for (let step = 1; step <= view.run.end; step++) {
-    const parts = changedParts(await view.run.stateAt(step - 1), await view.run.stateAt(step));
-    all.push(parts.flatMap(it => it.lines.filter(line => line.is === 'changed').map(line => line.text)));
+    const lines = changedParts(await view.run.stateAt(step - 1), await view.run.stateAt(step)).flatMap(it => it.lines);
+    all.push(['changed', 'gone'].map(what => lines.filter(line => line.is === what).map(line => line.text)));
+  }
+  return all;
+})()"""
+
+# What the first thing that is watched is at each step, and whether it is marked.
+WATCHED = """(async () => {
+  const all = [], row = $('watched').firstElementChild;
+  for (let step = 0; step <= view.run.end; step++) {
+    await view.move(step, false);
+    while (view.moving) await new Promise(done => setTimeout(done));
+    all.push([row.querySelector('.value').textContent, row.classList.contains('changed')]);
   }
   return all;
 })()"""
