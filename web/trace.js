@@ -1,6 +1,6 @@
 // The trace as a table of rows, of which only those in sight are in the document.
 
-const COLUMNS = [['step', 'step'], ['ms', 'ms'], ['line', 'line'], ['said', 'trace'], ['source', 'source']], AS_IT_WAS = 'as it was';
+const COLUMNS = [['step', 'step'], ['ms', 'ms'], ['line', 'line'], ['said', 'trace'], ['source', 'source']], AS_IT_WAS = 'as it was, with its step';
 
 /** What a row says: its line of the trace, or that of a word that prints nothing. */
 const textOf = row => row?.trace ?? row?.plain ?? '';
@@ -47,6 +47,7 @@ class Trace {
     this.other = beside ? rows.findIndex((row, i) => textOf(row) !== textOf(beside[i])) : -1;
     if (this.other < 0) this.other = Infinity;
     this.table.querySelector('.head .source').textContent = this.other < Infinity ? AS_IT_WAS : 'source';
+    this.box.classList.toggle('beside', this.other < Infinity);
     this.table.setAttribute('aria-rowcount', rows.length + 1);
     this.body.style.height = `calc(${rows.length} * var(--row))`;
     const widest = read => rows.reduce((most, row) => Math.max(most, read(row)?.length ?? 0), 0), moves = rows.some(row => row.clock_us);
@@ -93,8 +94,12 @@ class Trace {
     return now !== undefined && now !== before ? (now / 1000).toFixed(3) : '';
   }
 
-  /** What is in the last column of a row: its source; or, of a way, what was there in the run that it was opened from. */
-  besideText(index, row) { return this.other === Infinity ? row.source ?? '' : index < this.other ? '' : textOf(this.beside[index]); }
+  /** What is in the last column of a row: its source; or, of a way, what was there in the run that it was opened from, after its step. */
+  besideText(index, row) {
+    if (this.other === Infinity) return row.source ?? '';
+    const was = index < this.other ? undefined : this.beside[index];
+    return was ? `${was.step}  ${textOf(was)}` : '';
+  }
 
   row(it, index, height) {
     const row = made('div', '', it.step === this.step ? 'row here' : 'row');
@@ -110,7 +115,7 @@ class Trace {
     for (const [key] of COLUMNS) {
       const cell = made('span', texts[key], key);
       cell.setAttribute('role', 'cell');
-      if (String(texts[key]).length > 40) cell.title = texts[key];
+      if (String(texts[key]).length > (this.other < Infinity ? 14 : 40)) cell.title = texts[key];
       row.append(cell);
     }
     return row;
