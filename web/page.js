@@ -192,6 +192,7 @@ function nameTexts() {
   $('machine-name').textContent = files.machine;
   $('events-name').textContent = files.events;
   $('about').hidden = !exampleOf(of)?.about;
+  document.title = `${exampleOf(of)?.title ?? of ?? files.machine}${chosen || !of ? '' : ', changed'}: execsim`;
   exercise.begin(of, isLesson);
 }
 
@@ -320,7 +321,6 @@ async function save(id) {
 async function openFiles(list) {
   const [machine, events] = texts(), found = { machine, events }, names = { ...files }, seen = {};
   for (const file of list) {
-    if (file.size > LIMIT) return says(`${file.name} has more than 4,194,304 bytes, which are not read.`, 'fault');
     const which = file.name.endsWith('.events') ? 'events' : 'machine';
     if (file.size > LIMIT) return says(`${file.name} has more than 4,194,304 bytes, which are not read.`, 'fault');
     if (seen[which]) return says(`${seen[which]} and ${file.name} are both ${which === 'events' ? 'event texts' : 'machine files'}: one of each can be opened, an event text by a name that ends in .events.`, 'fault');
@@ -457,6 +457,7 @@ function listen() {
 /** Keys that do the same wherever the focus is. */
 function pressed(event) {
   if ((event.ctrlKey || event.metaKey) && event.key === 'Enter') run();
+  else if ((event.ctrlKey || event.metaKey) && event.key === 's') save(editors['run.events'].hasFocus ? 'save-events' : 'save-machine');
   else if (event.altKey && (event.code === 'Period' || event.code === 'Comma')) view.goTo(view.step + (event.code === 'Period' ? 1 : -1));
   else if ((event.ctrlKey || event.metaKey) && event.key === 'f' && event.target.closest?.('#view, #now')) $('find').select();
   else if (event.key === 'Escape') { for (const menu of document.querySelectorAll('.menu, .sure')) menu.open = false; return; }
