@@ -67,7 +67,7 @@ IN_SIGHT = """(async () => {
   return wrong;
 })()"""
 
-# The marked lines of the state at each step.
+# The marked lines of the state at each step, and those that are shown as gone.
 MARKED = """(async () => {
   const all = [];
   for (let step = 1; step <= view.run.end; step++) {
