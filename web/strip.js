@@ -48,6 +48,12 @@ class Strip {
     this.draw();
   }
 
+  /** The first and the last place in view. An opened way has more steps than the run that is asked about. */
+  inView() {
+    const { from, to } = this.view.drawn ?? { from: 0, to: 0 };
+    return { from, to: Math.min(to, this.frame.end) };
+  }
+
   wayAt(place, kind) { return encoded(withInterrupt(decoded(this.frame.texts[1]), place, kind)); }
 
   /** What comes of some events, or null if they are not searched. */
@@ -67,7 +73,7 @@ class Strip {
       if (!base) return this.refuse('Of this run no other ways are tried.');
       this.kinds = base.kinds;
       if (!this.classes.length) this.newClass(base.outcomes[0]);
-      const { from, to } = this.view.drawn ?? { from: 0, to: 0 }, needed = await this.timeOf(base, (to - from + 1) * this.kinds.length);
+      const { from, to } = this.inView(), needed = await this.timeOf(base, (to - from + 1) * this.kinds.length);
       if (isOver()) return;
       if (needed > LONGEST_STRIP) return this.refuse(`The run is long: its ${counted((to - from + 1) * this.kinds.length, 'place')} in view would take about ${shown(Math.ceil(needed / 1000))} s, and are not tried.`);
       const isFew = (frame.end + 1) * this.kinds.length <= MOST_CELLS;
@@ -145,7 +151,7 @@ class Strip {
 
   /** Whether all cells in view are tried. */
   hasAll() {
-    const { from, to } = this.view.drawn;
+    const { from, to } = this.inView();
     for (let place = from; place <= to; place++) if (this.kinds.some(kind => !this.cells.has(`${kind} ${place}`))) return false;
     return true;
   }
@@ -165,11 +171,11 @@ class Strip {
 
   /** The headers of the columns, for a screen reader. */
   heads() {
-    const row = made('div', '', 'unseen'), first = made('span', 'one more interrupt');
+    const row = made('div', '', 'unseen'), first = made('span', 'one more interrupt'), { from, to } = this.inView();
     row.setAttribute('role', 'row');
     first.setAttribute('role', 'columnheader');
     row.append(first);
-    for (let place = this.view.drawn.from; place <= this.view.drawn.to; place++) {
+    for (let place = from; place <= to; place++) {
       const cell = made('span', place ? `after step ${place}` : 'at the start');
       cell.setAttribute('role', 'columnheader');
       row.append(cell);
@@ -178,7 +184,7 @@ class Strip {
   }
 
   row(kind, index, columns, left) {
-    const row = made('div', '', 'cells'), name = made('span', kind === 'tick' ? 'a tick' : `irq ${kind}`, 'name'), { from, to } = this.view.drawn;
+    const row = made('div', '', 'cells'), name = made('span', kind === 'tick' ? 'a tick' : `irq ${kind}`, 'name'), { from, to } = this.inView();
     row.setAttribute('role', 'row');
     name.setAttribute('role', 'rowheader');
     name.append(made('span', ' here', 'if-room'));
