@@ -1,12 +1,12 @@
 -- How a machine goes on over some events and then over others, up to the end of a run.
-use Rattle.std.proofs.Common.{◌≡◌, ℕ, ◌+◌, ◌<◌, List, [], ◌∷◌, ◌++◌, length, take, drop, get_or, refl, ap, sym, inl, inr, ◌∙◌, subst, append-nil, append_assoc, arith, Result, Ok, Err, OnOk, ◌⊎◌, sum_by}
+use Rattle.std.proofs.Common.{◌≡◌, ℕ, zero, suc, ◌+◌, ◌<◌, List, [], ◌∷◌, ◌++◌, length, take, drop, get_or, refl, ap, sym, inl, inr, ◌∙◌, subst, append-nil, append_assoc, arith, Result, Ok, Err, OnOk, ◌⊎◌, sum_by}
 use Rattle.std.proofs.lemmas.{Grind.flat_map-append, List.take_more, List.Sums.sum_by-drop_more}
 use Rattle.exectrace.specs.{Sink.Tape, Trace.printed, Trace.printed_line}
 use Rattle.script.specs.declared.event.Event.TheVariants.{Run, Tick}
 use Rattle.script.specs.{Events.event_ticks, File.MachineData, declared.event.Event.Event}
 use Rattle.execmodel.specs.{State.State, State.Outcome, State.andthen, State.booted, Step.starts, Step.steps, Step.ticks, Step.event, Step.events, Step.run}
 use Rattle.execmodel.proofs.Moments.{events_more, run_cut, tick_cut}
-use Rattle.execsim.specs.{Agreement.Seen, Agreement.Agrees, Headline.Acts, Headline.Shown, declared.machine.Flow.Flow, Time.HasTimeFor}
+use Rattle.execsim.specs.{Advancing.Advances, Advancing.IsSilent, Agreement.Seen, Agreement.Agrees, Headline.Acts, Headline.Shown, declared.machine.Flow.Flow, Time.HasTimeFor}
 use Rattle.execsim.proofs.Clock.{time_for_fewer}
 use Rattle.runadvice.specs.Going.{EndsWith, Goes}
 
@@ -85,6 +85,48 @@ goes_one {old} {new} e before kept after cleared wrote acts = record {
   agrees = λ s h. subst (Agrees new.seen) (one_state e s) (acts.agrees s h refl);
   tells = λ s h. subst (λ (text : List ℕ). EndsWith (before ++ text) after) (one_lines e s)
       (ends_written before kept (printed (event e s).lines) after cleared (wrote s h));
+}
+
+-- ---- a step, and those after it that print nothing
+
+run_state : (n : ℕ) (s : State) → (steps n s).state ≡ (events (Run n ∷ []) s).state
+unfolding events event andthen
+run_state n s = refl
+
+no_lines : (s : State) → printed (events (Run 0 ∷ []) s).lines ≡ []
+unfolding events event steps andthen
+no_lines s = refl
+
+cut_lines : (k : ℕ) (s : State) → printed (events (Run k ∷ []) (event (Run 1) s).state).lines ≡ []
+    → printed (events (Run (k + 1) ∷ []) s).lines ≡ printed (event (Run 1) s).lines
+cut_lines k s none =
+    let some = Run 1 ∷ [] in
+    let more = Run k ∷ [] in
+    let turned : k + 1 ≡ 1 + k = omega arith in
+    ap (λ (n : ℕ). printed (events (Run n ∷ []) s).lines) turned
+    ∙ ap (λ (o : Outcome). printed o.lines) (run_cut 1 k [] s ∙ sym (events_more some more s))
+    ∙ more_lines some more s
+    ∙ ap (λ (r : State). printed (events some s).lines ++ printed (events more r).lines) (sym (one_state (Run 1) s))
+    ∙ ap (λ (x : List ℕ). printed (events some s).lines ++ x) none
+    ∙ append-nil (printed (events some s).lines)
+    ∙ sym (one_lines (Run 1) s)
+
+silent_lines : (k : ℕ) (s : State) → IsSilent k s → printed (events (Run k ∷ []) s).lines ≡ []
+silent_lines zero s silent = no_lines s
+silent_lines (suc k) s silent =
+    let more : k + 1 ≡ suc k = omega arith in
+    subst (λ (n : ℕ). printed (events (Run n ∷ []) s).lines ≡ []) more
+    (cut_lines k s (silent_lines k (event (Run 1) s).state silent.1) ∙ silent.0)
+
+pub goes_on : {old new : Shown} {a b : Tape} {more : ℕ} (k : ℕ) (before kept after : List ℕ) → (kept ≡ []) ⊎ (kept ≡ before)
+    → ((s : State) → Agrees old.seen s → after ≡ kept ++ printed (event (Run 1) s).lines) → Advances more old new a b (Ok k)
+    → Goes (Run (k + 1) ∷ []) old.seen new.seen before after
+goes_on {old} {new} k before kept after cleared wrote does = record {
+  agrees = λ s h. subst (Agrees new.seen) (run_state (k + 1) s) (does.agrees s h);
+  tells = λ s h.
+      let none = silent_lines k (event (Run 1) s).state (does.silent s h) in
+      subst (λ (text : List ℕ). EndsWith (before ++ text) after) (sym (cut_lines k s none))
+      (ends_written before kept (printed (event (Run 1) s).lines) after cleared (wrote s h));
 }
 
 -- no step, and no tick

@@ -4,18 +4,19 @@ ghost use Rattle.std.specs.Prelude.{◌≡◌, ◌<◌, ◌≤◌, ◌⊎◌, []
 use crate::bodies::{Begun, after_line, begun_by, begun_likely, command_at, count_of};
 use crate::failing::{Failings, may_fail, overwrites};
 use crate::interrupt_sends::InterruptSends;
-use crate::next::{Next, Part};
+use crate::next::{Next, Part, Way, way_after};
 use crate::page::Spot;
 use crate::past::{Past, TaskPast, Time, is_reached, rank_of};
 use crate::room::Room;
 use crate::scene::Linked;
 use crate::sends::{Act, END, Sends, is_clearing, is_sending, may_finish, number_in};
 use crate::step::{Marks, Site, TaskPlace, When, place_of, prints};
-use crate::value::value_of;
+use crate::value::{value_of, variable_at};
 use crate::words::row_of;
 use execsim::Flow;
 use script::{
-    Argument, Command, Event, LibraryWord, MachineFile, RequestWord, Source, Variable, Word,
+    Argument, Command, Event, LibraryWord, MachineFile, PlainWord, RequestWord, Source, Variable,
+    Word,
 };
 use std::alloc::{AllocError, Global};
 use std::collections::HashMap;
@@ -27,6 +28,9 @@ pub const RECENT: u64 = 1000;
 
 /// How many of the steps of a task that runs without end are noted: the last ones of an event.
 const LONG: u32 = 1000;
+
+/// How many commands are done with the call before them, at most.
+const MOST_JOINED: usize = 8;
 
 /// How many variables are shared.
 const VARIABLES: usize = 64;
@@ -83,8 +87,44 @@ fn no_past(alloc: Global, file: &MachineFile) -> Result<Vec<TaskPast>, AllocErro
     Ok(tasks)
 }
 
-/// What is noted of a command.
-fn marks_of(command: &Command) -> Marks {
+/// Whether a command jumps, or may.
+fn jumps(command: &Command) -> bool {
+    matches!(
+        command.word,
+        Word::Plain(PlainWord::Jump | PlainWord::JumpZ | PlainWord::JumpNZ)
+    )
+}
+
+/// Whether a command that is done after a call prints nothing and asks nothing of Exec, and leaves what the call was made with and what it answered.
+fn is_apart(call: &Command, command: &Command) -> bool {
+    let is_silent = match way_after(command, 0) {
+        Way::To(_) | Way::Either(_, _) => true,
+        Way::Line(_) | Way::Call => false,
+    };
+    let target = command.target;
+    let mut numbers = 0..4usize;
+    is_silent
+        && (target.is_none()
+            || target != call.target && !numbers.any(|number| variable_at(call, number) == target))
+}
+
+/// How many of the commands after a call can be done before what is noted of the call is asked: up to the first that jumps, and some at most.
+fn joined_after(call: &Command, after: &[Command]) -> u32 {
+    let mut joined = 0u32;
+    for command in after.iter().take(MOST_JOINED) {
+        if !is_apart(call, command) {
+            break;
+        }
+        joined = joined.saturating_add(1);
+        if jumps(command) {
+            break;
+        }
+    }
+    joined
+}
+
+/// What is noted of a command that has these after it.
+fn marks_of(command: &Command, after: &[Command]) -> Marks {
     let word = command.word;
     Marks {
         frees: row_of(word).frees,
@@ -94,14 +134,17 @@ fn marks_of(command: &Command) -> Marks {
         sends: is_sending(word),
         is_read: is_sending(word) && overwrites(command),
         finishes: may_finish(word),
+        is_call: matches!(way_after(command, 0), Way::Call),
+        joined: joined_after(command, after),
     }
 }
 
 /// What is noted of the commands of some code.
 fn marks_in(alloc: Global, code: &[Command]) -> Result<Vec<Marks>, AllocError> {
     let mut marks = Vec::new(alloc);
-    for command in code {
-        marks.push(marks_of(command))?;
+    for (place, command) in code.iter().enumerate() {
+        let after = code.get(place.saturating_add(1)..).unwrap_or(&[]);
+        marks.push(marks_of(command, after))?;
     }
     Ok(marks)
 }
@@ -228,6 +271,17 @@ impl<'a> Course<'a> {
         self.marks.get(turn.task)?.get(turn.place).copied()
     }
 
+    /// The call that a task is to make next, if it is to make one and no source asks, whose servers would run after it.
+    pub(crate) fn call_of(&self, next: Next) -> Option<(TaskPlace, Marks)> {
+        match next {
+            Next::Task(turn) if !self.any_asks() => {
+                let marks = self.marks_at(turn)?;
+                marks.is_call.then_some((turn, marks))
+            }
+            _ => None,
+        }
+    }
+
     /// Notes what a command that frees has freed; that of 0 frees nothing.
     fn note_freed(&mut self, machine: &Linked, turn: TaskPlace, command: &Command, site: Site) {
         let address = value_of(machine, Some(turn.task), command, 0).unwrap_or(0);
@@ -279,24 +333,30 @@ impl<'a> Course<'a> {
         if !prints(command.word) {
             return;
         }
+        let is_waiting = self.note_visit(machine, turn);
+        match self.marks_at(turn) {
+            Some(marks) if !is_waiting => self.note_call(machine, turn, command, marks),
+            _ => {}
+        }
+    }
+
+    /// Notes when a command of a task was done, or its task went on to wait in it, and answers whether it waits.
+    fn note_visit(&mut self, machine: &Linked, turn: TaskPlace) -> bool {
         let is_waiting = machine.call(turn.task).is_some();
         let steps = self.steps;
         if let Some(past) = self.tasks.get_mut(turn.task) {
             past.passed = self.passed;
             if is_waiting {
                 past.note_waiting(turn.place, steps);
-                return;
+            } else {
+                past.note_done(turn.place, steps);
             }
-            past.note_done(turn.place, steps);
         }
-        self.note_call(machine, turn, command);
+        is_waiting
     }
 
     /// Notes a call that a task has done: what it has freed or closed, which signals it has cleared, and whether it has failed.
-    fn note_call(&mut self, machine: &Linked, turn: TaskPlace, command: &Command) {
-        let Some(marks) = self.marks_at(turn) else {
-            return;
-        };
+    fn note_call(&mut self, machine: &Linked, turn: TaskPlace, command: &Command, marks: Marks) {
         let site = Site {
             spot: turn.spot(),
             when: When::Step(self.moment()),
@@ -583,6 +643,61 @@ impl<'a> Course<'a> {
             _ => 0,
         };
         self.note_alerted(room, when, skipped);
+    }
+
+    /// Notes what the call of a task has done and sent, if the task does not wait in it, and what it has sent before it waits.
+    fn note_marked(
+        &mut self,
+        machine: &Linked,
+        turn: TaskPlace,
+        marks: Marks,
+        is_waiting: bool,
+        room: &Room,
+    ) {
+        if marks.is_asked() && !is_waiting {
+            if let Some(command) = self.command(turn) {
+                self.note_call(machine, turn, command, marks);
+            }
+        }
+        if marks.may_send() {
+            self.note_alone(machine, turn, room);
+        }
+    }
+
+    /// Notes that so many commands after a call were done in the steps after it.
+    fn note_joined(&mut self, turn: TaskPlace, joined: u32) {
+        let mut place = turn.place;
+        for _command in 0..joined {
+            self.steps = self.steps.saturating_add(1);
+            place = place.saturating_add(1);
+            if let Some(past) = self.tasks.get_mut(turn.task) {
+                past.note_done(place, self.steps);
+            }
+        }
+    }
+
+    /// Notes a call that `call_of` has named, and so many commands after it, which are joined to it. The lines of the call are in the room.
+    pub(crate) fn note_turn(
+        &mut self,
+        machine: &Linked,
+        turn: TaskPlace,
+        marks: Marks,
+        joined: u32,
+        room: &Room,
+    ) {
+        if machine.view().stopped {
+            return self.note(
+                machine,
+                Event::Run(1),
+                Next::Task(turn),
+                Flow::Alerted,
+                room,
+            );
+        }
+        self.steps = self.steps.saturating_add(1);
+        let is_waiting = self.note_visit(machine, turn);
+        self.note_marked(machine, turn, marks, is_waiting, room);
+        self.note_joined(turn, joined);
     }
 
     /// Notes some steps, a tick or a request that are over, whose lines are in the room. Nothing is noted after an alert.

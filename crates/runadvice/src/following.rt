@@ -1,6 +1,6 @@
 //! A run, as many steps at a time as nothing has to be asked between, with what is noted of them. What is asked later is asked of the machine at
 //! the end of that run.
-ghost use Rattle.std.specs.Prelude.{◌≡◌, ◌+◌, ◌∷◌, ℕ, [], false, sum_by, OnOk};
+ghost use Rattle.std.specs.Prelude.{◌≡◌, ◌<◌, ◌≤◌, ◌+◌, ◌∷◌, ℕ, [], false, sum_by, IfOk, OnOk};
 ghost use Rattle.exectrace.specs.{Trace.printed, declared.sinks.SinkState.SinkState};
 ghost use Rattle.script.specs.{Events.event_ticks, File.MachineData, declared.event.Event.Event};
 ghost use Rattle.execmodel.specs.{State.booted, Step.run as run_of, Step.starts};
@@ -11,6 +11,7 @@ use crate::course::Course;
 use crate::next::{Next, next_of};
 use crate::room::Room;
 use crate::scene::{Linked, Scene};
+use crate::step::{Marks, TaskPlace};
 use script::Event;
 use std::alloc::{AllocError, Global};
 
@@ -55,6 +56,56 @@ fn advance(run: &mut Run<'_>, one: Event, next: Next) -> Result<(), AllocError>
     }
 }
 
+/// Does the call of a task, and that many commands after it at most, which are joined to it; notes them, and answers how many these were.
+fn advance_call(
+    run: &mut Run<'_>,
+    turn: TaskPlace,
+    marks: Marks,
+    more: u32,
+) -> Result<u32, AllocError>
+    requires going { run.old.machine.failed ≡ false }
+    requires good { run.old.room.state ≡ SinkState.Good }
+    ensures within { IfOk result (λ joined. joined ≤ more) }
+    ensures goes { IfOk result (λ joined. Goes (Event.Run (joined + 1) ∷ []) run.old.machine.seen run.new.machine.seen run.old.room.bytes.items run.new.room.bytes.items) }
+    ensures going { OnOk result (run.new.machine.failed ≡ false) }
+    ensures good { OnOk result (run.new.room.state ≡ SinkState.Good) }
+    ensures time { OnOk result ((ticks : ℕ) → HasTimeFor ticks run.old.machine.seen → HasTimeFor ticks run.new.machine.seen) }
+{
+    run.course.clear(&mut run.room);
+    match run.machine.advance(more, &mut run.room) {
+        Ok(joined) => {
+            run.course
+                .note_turn(&run.machine, turn, marks, joined, &run.room);
+            Ok(joined)
+        }
+        Err(_) => Err(AllocError),
+    }
+}
+
+/// Does some of the next steps, at most that many, and answers how many.
+fn advance_some(run: &mut Run<'_>, most: u32) -> Result<u32, AllocError>
+    requires some { 0 < most }
+    requires going { run.old.machine.failed ≡ false }
+    requires good { run.old.room.state ≡ SinkState.Good }
+    requires time { HasTimeFor 0 run.old.machine.seen }
+    ensures some { IfOk result (λ steps. 0 < steps) }
+    ensures within { IfOk result (λ steps. steps ≤ most) }
+    ensures goes { IfOk result (λ steps. Goes (Event.Run steps ∷ []) run.old.machine.seen run.new.machine.seen run.old.room.bytes.items run.new.room.bytes.items) }
+    ensures going { OnOk result (run.new.machine.failed ≡ false) }
+    ensures good { OnOk result (run.new.room.state ≡ SinkState.Good) }
+    ensures time { OnOk result ((ticks : ℕ) → HasTimeFor ticks run.old.machine.seen → HasTimeFor ticks run.new.machine.seen) }
+{
+    let next = next_of(&run.machine);
+    if let Some((turn, marks)) = run.course.call_of(next) {
+        let more = marks.joined.min(most - 1);
+        let joined = advance_call(run, turn, marks, more)?;
+        return Ok(joined + 1);
+    }
+    let part = run.course.part(next, most);
+    advance(run, Event::Run(part.steps), part.next)?;
+    Ok(part.steps)
+}
+
 /// Does that many steps.
 fn advance_steps(run: &mut Run<'_>, count: u32) -> Result<(), AllocError>
     requires going { run.old.machine.failed ≡ false }
@@ -67,9 +118,7 @@ fn advance_steps(run: &mut Run<'_>, count: u32) -> Result<(), AllocError>
 {
     let mut done = 0;
     while done < count {
-        let part = run.course.part(next_of(&run.machine), count - done);
-        advance(run, Event::Run(part.steps), part.next)?;
-        done += part.steps;
+        done += advance_some(run, count - done)?;
     }
     Ok(())
 }

@@ -54,6 +54,22 @@ pub struct Marks {
     pub is_read: bool,
     /// Whether it may let the timer finish requests, which only the text of its step says.
     pub finishes: bool,
+    /// Whether it asks Exec for something.
+    pub is_call: bool,
+    /// How many commands after it can be done before what is noted of it is asked.
+    pub joined: u32,
+}
+
+impl Marks {
+    /// Whether something is asked of the machine when it is done.
+    pub(crate) fn is_asked(self) -> bool {
+        self.frees || self.closes || self.clears || self.fails
+    }
+
+    /// Whether it may send something.
+    pub(crate) fn may_send(self) -> bool {
+        self.sends || self.is_read || self.finishes
+    }
 }
 
 /// When something was done, in words.

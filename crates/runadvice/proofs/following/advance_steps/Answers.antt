@@ -1,5 +1,5 @@
 -- The proof of `advance_steps`: does that many steps.
-use Rattle.std.proofs.Common.{◌≡◌, ◌+◌, ◌∷◌, [], ℕ, subst, arith}
+use Rattle.std.proofs.Common.{◌≡◌, ◌∷◌, [], ℕ, subst, arith}
 use Rattle.script.specs.declared.event.Event.TheVariants.{Run}
 use Rattle.execsim.specs.Time.{HasTimeFor}
 use Rattle.runadvice.specs.Going.{Goes}
@@ -15,19 +15,19 @@ loop-done-init c = record {
   time = λ ticks enough. enough;
 }
 
-pub advance-requires-clause-time : goal.advance-requires-clause-time
-advance-requires-clause-time c = c.loop-done.invariant.time 0 c.requires.time
+pub advance_some-requires-clause-time : goal.advance_some-requires-clause-time
+advance_some-requires-clause-time c = c.loop-done.invariant.time 0 c.requires.time
 
 pub loop-done-preserved : goal.loop-done-preserved
-loop-done-preserved c = record {
-  within = omega (arith, c.part-part.ensures.within, c.loop-done-test.true);
-  goes = goes_steps _ _ c.loop-done.invariant.goes c.in_ok-advance.ensures.goes;
-  going = c.in_ok-advance.ensures.going;
-  good = c.in_ok-advance.ensures.good;
-  time = λ ticks enough.
-      let none : ticks ≡ 0 + ticks = omega arith in
-      c.in_ok-advance.ensures.time ticks (subst (λ (n : ℕ). HasTimeFor n c.loop-done.run.machine.seen) none (c.loop-done.invariant.time ticks enough));
-}
+loop-done-preserved c =
+    let some = c.in_ok-advance_some.ensures in
+    record {
+      within = omega (arith, some.within, c.loop-done-test.true);
+      goes = goes_steps _ _ c.loop-done.invariant.goes some.goes;
+      going = some.going;
+      good = some.good;
+      time = λ ticks enough. some.time ticks (c.loop-done.invariant.time ticks enough);
+    }
 
 pub returns-clause-goes : goal.returns-clause-goes
 returns-clause-goes c =
