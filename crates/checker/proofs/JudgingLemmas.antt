@@ -1,9 +1,19 @@
 -- From what is found in the texts to the status.
-use Rattle.std.proofs.Common.{◌≡◌, ◌≢◌, ◌⊎◌, ◌↔◌, ℕ, List, Option, Result, None, Some, Ok, Err, true, inl, inr, refl, sym, subst, IfOk, IsSomeAnd, MatchOption, Bor}
+use Rattle.std.proofs.Common.{◌≡◌, ◌≢◌, ◌⊎◌, ◌↔◌, ℕ, List, Option, Result, None, Some, Ok, Err, true, false, inl, inr, refl, sym, subst, IfOk, IsSome, IsSomeAnd, MatchOption, Bor}
 use Rattle.execrun.specs.Texts.{IsTextAt, TextAt}
-use Rattle.taskscript.specs.{Events.script_of, File.file_of}
+use Rattle.script.specs.{File.MachineData, declared.event.Event.Event}
+use Rattle.taskscript.specs.{Events.script_of, File.file_of, declared.fault.EventFault.EventFault, declared.fault.FileFault.FileFault}
+use Rattle.execadvice.specs.Findings.{fault_of}
 use Rattle.runadvice.specs.Ends.{ends_by_alert}
 use Rattle.checker.specs.{Judging.IsRefusedMachine, Judging.IsRefusedScript, Judging.JudgesTexts, declared.command_line.Paths.Paths}
+
+ends_none : (r : Result MachineData FileFault) (s : Result (List Event) EventFault) → IsSome (fault_of r) → ends_by_alert r s ≡ false
+ends_none (Ok m) s is = absurd is
+ends_none (Err fault) s is = refl
+
+-- no alert ends the run of a machine file that is refused
+pub refused_ends : (machine events : List ℕ) → IsRefusedMachine machine → ends_by_alert (file_of machine) (script_of events) ≡ false
+refused_ends machine events refused = ends_none (file_of machine) (script_of events) refused
 
 -- a machine file alone
 pub judges_alone : {E : Type 0} (text_at : TextAt) (paths : Paths) (machine : List ℕ) (result : Result ℕ E) → IsTextAt text_at paths.machine.now machine

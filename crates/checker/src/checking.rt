@@ -1,5 +1,5 @@
 //! What is found in the texts at the paths, and the status that comes of it.
-ghost use Rattle.std.specs.Prelude.{◌≡◌, ◌≢◌, ◌≤◌, ◌⊎◌, ◌↔◌, [], true, false, IfErr, IfOk};
+ghost use Rattle.std.specs.Prelude.{◌≡◌, ◌≢◌, ◌≤◌, ◌⊎◌, ◌↔◌, [], true, false, Ok, IfErr, IfOk, MatchOption};
 ghost use Rattle.checker.specs.{Failing.IsOfText, Failing.IsUsage, Failing.failure_of, Judging.IsRefusedMachine, Judging.IsRefusedScript, Judging.JudgesTexts};
 ghost use Rattle.execrun.specs.Texts.{IsTextAt};
 ghost use Rattle.runadvice.specs.Ends.{ends_by_alert};
@@ -10,9 +10,9 @@ use crate::failure::Failure;
 use crate::options::Form;
 use crate::serving::check_names;
 use crate::sheet::Sheet;
-use execadvice::{check_events, check_machine};
+use execadvice::{Accepted, check_events, check_machine};
 use execrun::{TextFault, Texts, read_text};
-use runadvice::check_run;
+use runadvice::check_run_of;
 use std::alloc::{AllocError, Global};
 use std::io::Write;
 
@@ -77,19 +77,31 @@ fn status_of(is_refused: bool, is_grave: bool) -> u8
     }
 }
 
-/// Adds to a sheet what is found in a machine file, and answers whether it is refused.
+/// What a machine file comes to.
+#[derive(Drop)]
+struct Judged {
+    is_refused: bool,
+    /// What was read, if it is accepted.
+    accepted: Option<Accepted>,
+}
+
+/// Adds to a sheet what is found in a machine file, and answers whether it is refused, and what was read if it is not.
 fn judge_machine(
     alloc: Global,
     path: &str,
     bytes: &[u8],
     sheet: &mut Sheet,
-) -> Result<bool, AllocError>
-    ensures { IfOk result (λ is_refused. (is_refused ≡ true) ↔ IsRefusedMachine bytes.now) }
+) -> Result<Judged, AllocError>
+    ensures refused { IfOk result (λ judged. (judged.is_refused ≡ true) ↔ IsRefusedMachine bytes.now) }
+    ensures accepted { IfOk result (λ judged. MatchOption judged.accepted (IsRefusedMachine bytes.now) (λ it. file_of bytes.now ≡ Ok it.listed.machine)) }
 {
     let finding = check_machine(alloc, bytes)?;
     let is_refused = finding.fault.is_some();
     sheet.add(alloc, path, finding.found)?;
-    Ok(is_refused)
+    Ok(Judged {
+        is_refused,
+        accepted: finding.accepted,
+    })
 }
 
 /// Adds to a sheet what is found in an event text, and answers whether it is refused.
@@ -107,19 +119,30 @@ fn judge_events(
     Ok(is_refused)
 }
 
-/// Adds to a sheet what is found in the run of two texts, and answers whether an alert ended it.
+/// Adds to a sheet what is found in the run of two texts, of which the machine file was judged, and answers whether an alert ended it.
+#[tactic(auto, using(crate::proofs::JudgingLemmas::refused_ends))]
 fn judge_run(
     alloc: Global,
     path: &str,
     texts: (&[u8], &[u8]),
+    judged: &Judged,
     sheet: &mut Sheet,
 ) -> Result<bool, AllocError>
+    requires read { MatchOption judged.now.accepted (IsRefusedMachine texts.entry.0.now) (λ it. file_of texts.entry.0.now ≡ Ok it.listed.machine) }
     ensures { IfOk result (λ is_alerted. is_alerted ≡ ends_by_alert (file_of texts.entry.0.now) (script_of texts.entry.1.now)) }
 {
-    let report = check_run(alloc, texts.0, texts.1)?;
-    let is_alerted = report.is_alerted;
-    sheet.add(alloc, path, report.found)?;
-    Ok(is_alerted)
+    match &judged.accepted {
+        None => {
+            sheet.add(alloc, path, Vec::new(alloc))?;
+            Ok(false)
+        }
+        Some(accepted) => {
+            let report = check_run_of(alloc, texts.0, accepted, texts.1)?;
+            let is_alerted = report.is_alerted;
+            sheet.add(alloc, path, report.found)?;
+            Ok(is_alerted)
+        }
+    }
 }
 
 /// Whether one of two is.
@@ -165,8 +188,8 @@ pub(crate) fn check_alone<'a, W: Write>(
     ensures usage { IfErr result (λ failure. ¬ IsUsage failure) }
 {
     let mut sheet = sheet;
-    let is_refused = judge_machine(alloc, path, machine, &mut sheet)?;
-    finish(alloc, sheet, is_refused, false, manner, out)
+    let judged = judge_machine(alloc, path, machine, &mut sheet)?;
+    finish(alloc, sheet, judged.is_refused, false, manner, out)
 }
 
 /// Checks a machine file, an event text and their run, writes what was found after what is on a sheet already, and answers the status.
@@ -185,13 +208,13 @@ pub(crate) fn check_both<'a, W: Write>(
     ensures usage { IfErr result (λ failure. ¬ IsUsage failure) }
 {
     let mut sheet = sheet;
-    let of_machine = judge_machine(alloc, paths.0, texts.0, &mut sheet)?;
+    let judged = judge_machine(alloc, paths.0, texts.0, &mut sheet)?;
     let of_events = judge_events(alloc, paths.1, texts.1, &mut sheet)?;
-    let is_alerted = judge_run(alloc, paths.0, texts, &mut sheet)?;
+    let is_alerted = judge_run(alloc, paths.0, texts, &judged, &mut sheet)?;
     finish(
         alloc,
         sheet,
-        either(of_machine, of_events),
+        either(judged.is_refused, of_events),
         is_alerted,
         manner,
         out,

@@ -21,6 +21,11 @@ pub fault_is : (bytes : List ℕ) (r : Result MachineData Refused) → r ≡ pla
 unfolding file_of
 fault_is bytes r h = ap (λ (it : Result MachineData Refused). fault_of (without_place it)) h
 
+-- what a file comes to is what it comes to with the place, without that
+pub file_is : (bytes : List ℕ) (r : Result MachineData Refused) → r ≡ placed_file_of bytes → without_place r ≡ file_of bytes
+unfolding file_of
+file_is bytes r h = ap (λ (it : Result MachineData Refused). without_place it) h
+
 -- what an answer says by one value it says by an equal one, where they are equal under what else the answer says
 pub says : {X E Y A : Type 0} (r : Result X E) (f : X → Y) (one other : Y) → IfOk r (λ _. A) → (A → one ≡ other) → IfOk r (λ x. f x ≡ one) → IfOk r (λ x. f x ≡ other)
 says (Ok x) f one other a h is = is ∙ h a

@@ -1,5 +1,5 @@
 //! What is found in a machine file.
-ghost use Rattle.std.specs.Prelude.{◌≡◌, IfOk, Some};
+ghost use Rattle.std.specs.Prelude.{◌≡◌, IfOk, IsSome, MatchOption, None, Ok, Some};
 ghost use Rattle.toml.specs.{Errors.IsMemory, View.table_view};
 ghost use Rattle.taskscript.specs.File.{file_of, placed_file_of, placed_file_of_document};
 ghost use Rattle.taskscript.specs.Places.{without_place};
@@ -21,11 +21,18 @@ use crate::variables::past_limit_in;
 use crate::warnings::{Warning, warnings_of};
 use crate::written::{Part, Written};
 use std::alloc::{AllocError, Global};
-use taskscript::{FileFault, LinePlace, Place, Refused, TreePlace, read_tree};
+use taskscript::{FileFault, LinePlace, Listed, Place, Refused, TreePlace, read_tree};
 use toml::Table;
 
 /// How many parts of dotted keys a refused file has at most if its tree is looked at again. Each part is a table of its own.
 const MOST_PARTS: usize = 200_000;
+
+/// A machine file that is accepted: its tree, and what was read out of that.
+#[derive(Drop)]
+pub struct Accepted {
+    pub table: Table,
+    pub listed: Listed,
+}
 
 /// What was found in a machine file.
 #[derive(Drop)]
@@ -36,6 +43,8 @@ pub struct Finding {
     pub place: Option<Place>,
     /// What is said of it, or else its warnings; nothing if nothing was found.
     pub found: Vec<Diagnostic>,
+    /// What was read, if the file is accepted.
+    pub accepted: Option<Accepted>,
 }
 
 impl File<'_> {
@@ -184,6 +193,7 @@ fn accepted_found(alloc: Global, bytes: &[u8], table: &Table) -> Made<Vec<Diagno
 fn refusal(alloc: Global, refused: Refused, said: Diagnostic) -> Made<Finding>
     ensures fault { IfOk result (λ finding. finding.fault ≡ Some refused.fault) }
     ensures place { IfOk result (λ finding. finding.place ≡ Some refused.place) }
+    ensures accepted { IfOk result (λ finding. finding.accepted ≡ None) }
 {
     let mut found = Vec::new(alloc);
     found.push(said)?;
@@ -191,6 +201,7 @@ fn refusal(alloc: Global, refused: Refused, said: Diagnostic) -> Made<Finding>
         fault: Some(refused.fault),
         place: Some(refused.place),
         found,
+        accepted: None,
     })
 }
 
@@ -199,6 +210,7 @@ fn unread(alloc: Global, bytes: &[u8], error: &toml::de::Error) -> Made<Finding>
     ensures memory { IfOk result (λ _. ¬ IsMemory error.now) }
     ensures fault { IfOk result (λ finding. finding.fault ≡ Some FileFault.NotToml) }
     ensures place { IfOk result (λ finding. finding.place ≡ Some Place.File) }
+    ensures accepted { IfOk result (λ finding. MatchOption finding.accepted (IsSome finding.fault) (λ _. ⊥)) }
 {
     if error.is_memory() {
         return Err(AllocError);
@@ -216,6 +228,7 @@ fn refused_tree(alloc: Global, bytes: &[u8], table: Table, refused: Refused) -> 
     ensures memory { IfOk result (λ _. ¬ (refused.fault ≡ FileFault.OutOfMemory)) }
     ensures fault { IfOk result (λ finding. finding.fault ≡ Some refused.fault) }
     ensures place { IfOk result (λ finding. finding.place ≡ Some refused.place) }
+    ensures accepted { IfOk result (λ finding. finding.accepted ≡ None) }
 {
     match refused.fault {
         FileFault::OutOfMemory => Err(AllocError),
@@ -230,14 +243,16 @@ fn refused_tree(alloc: Global, bytes: &[u8], table: Table, refused: Refused) -> 
 fn tree_finding(alloc: Global, bytes: &[u8], table: Table) -> Made<Finding>
     ensures fault { IfOk result (λ finding. finding.fault ≡ fault_of (without_place (placed_file_of_document (Some (table_view table))))) }
     ensures place { IfOk result (λ finding. finding.place ≡ place_of (placed_file_of_document (Some (table_view table)))) }
+    ensures accepted { IfOk result (λ finding. MatchOption finding.accepted (IsSome finding.fault) (λ it. without_place (placed_file_of_document (Some (table_view table))) ≡ Ok it.listed.machine)) }
 {
     match read_tree(alloc, &table) {
-        Ok(_) => {
+        Ok(listed) => {
             let found = accepted_found(alloc, bytes, &table)?;
             Ok(Finding {
                 fault: None,
                 place: None,
                 found,
+                accepted: Some(Accepted { table, listed }),
             })
         }
         Err(refused) => refused_tree(alloc, bytes, table, refused),
@@ -256,6 +271,7 @@ fn tree_finding(alloc: Global, bytes: &[u8], table: Table) -> Made<Finding>
 pub fn check_machine(alloc: Global, bytes: &[u8]) -> Result<Finding, AllocError>
     ensures fault { IfOk result (λ finding. finding.fault ≡ fault_of (file_of bytes.now)) }
     ensures place { IfOk result (λ finding. finding.place ≡ place_of (placed_file_of bytes.now)) }
+    ensures accepted { IfOk result (λ finding. MatchOption finding.accepted (IsSome finding.fault) (λ it. file_of bytes.now ≡ Ok it.listed.machine)) }
 {
     match toml::table_from_slice(alloc, bytes) {
         Ok(table) => tree_finding(alloc, bytes, table),

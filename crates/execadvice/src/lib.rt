@@ -49,7 +49,7 @@ pub use bodies::line_at;
 pub use diagnostic::{Bearer, Diagnostic, Edit, FileSpan, Related, Severity, Shown, are_grave};
 pub use events::{EventsFinding, check_events};
 pub use file::{line_found, span_in};
-pub use finding::{Finding, check_machine};
+pub use finding::{Accepted, Finding, check_machine};
 pub use near::nearest;
 pub use render::{Look, rendered};
 pub use said::{Said, said_by};

@@ -1,7 +1,7 @@
 //! What the run of two texts comes to.
-ghost use Rattle.std.specs.Prelude.{◌≡◌, [], false, None, IfOk, IfSome};
+ghost use Rattle.std.specs.Prelude.{◌≡◌, [], false, None, Ok, Some, IfOk, IfSome};
 ghost use Rattle.exectrace.specs.{Trace.printed, declared.sinks.SinkState.SinkState};
-ghost use Rattle.taskscript.specs.{Events.script_of, File.file_of};
+ghost use Rattle.taskscript.specs.{Events.script_of, File.file_of, Listings.listing_in};
 ghost use Rattle.execmodel.specs.Step.{run as run_of};
 ghost use Rattle.execsim.specs.{Agreement.Agrees, Time.HasTimeFor};
 ghost use Rattle.runadvice.specs.{Alerts.EndsRun, Alerts.EndsRunOf, Alerts.Stops, Ends.ends_by_alert, Going.EndsWith};
@@ -14,7 +14,7 @@ use crate::lap::lap_of;
 use crate::page::{Page, Spot};
 use crate::room::Room;
 use crate::running::Running;
-use execadvice::Diagnostic;
+use execadvice::{Accepted, Diagnostic};
 use execlist::link::LinkSpace;
 use execsim::Machine;
 use script::{Events, MachineFile, Word};
@@ -174,6 +174,30 @@ fn no_report(alloc: Global) -> Report
     }
 }
 
+/// What the run of a machine file and an event text comes to, as `check_run` says it, where the file is accepted and was read. These are its bytes.
+///
+/// # Errors
+///
+/// When memory is refused.
+pub fn check_run_of(
+    alloc: Global,
+    machine: &[u8],
+    accepted: &Accepted,
+    events: &[u8],
+) -> Result<Report, AllocError>
+    ensures alerted { IfOk result (λ report. report.is_alerted ≡ ends_by_alert (Ok accepted.now.listed.machine) (script_of events.now)) }
+    ensures alert { file_of machine.now ≡ Ok accepted.now.listed.machine → listing_in machine.now ≡ Some accepted.now.listed.listing → IfOk result (λ report. IfSome report.alert (EndsRunOf machine.now events.now)) }
+{
+    let events = match read_events(alloc, events) {
+        Ok(events) => events,
+        Err(EventFault::OutOfMemory) => return Err(AllocError),
+        Err(_) => return Ok(no_report(alloc)),
+    };
+    let text = from_utf8(machine).unwrap_or("");
+    let page = Page::new(alloc, text, &accepted.table, &accepted.listed)?;
+    report_on(page, &accepted.listed, &events)
+}
+
 /// What the run of a machine file and an event text comes to: the alert that ended it, each task that waits at its end, a deadlock, a task
 /// that runs without end, and events that end too early. Nothing is found if a text is refused. Each place is one of the machine file.
 ///
@@ -189,17 +213,8 @@ pub fn check_run(alloc: Global, machine: &[u8], events: &[u8]) -> Result<Report,
         Err(FileFault::OutOfMemory) => return Err(AllocError),
         Err(_) => return Ok(no_report(alloc)),
     };
-    let events = match read_events(alloc, events) {
-        Ok(events) => events,
-        Err(EventFault::OutOfMemory) => return Err(AllocError),
-        Err(_) => return Ok(no_report(alloc)),
-    };
     match toml::table_from_slice(alloc, machine) {
         Err(_) => Err(AllocError),
-        Ok(table) => {
-            let text = from_utf8(machine).unwrap_or("");
-            let page = Page::new(alloc, text, &table, &listed)?;
-            report_on(page, &listed, &events)
-        }
+        Ok(table) => check_run_of(alloc, machine, &Accepted { table, listed }, events),
     }
 }

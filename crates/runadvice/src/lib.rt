@@ -41,5 +41,5 @@ mod wakers;
 mod why;
 mod words;
 
-pub use check::{Alert, Report, check_run};
+pub use check::{Alert, Report, check_run, check_run_of};
 pub use page::Spot;
