@@ -73,22 +73,25 @@ impl<'a> Said<'a> {
         Some((self.place_of(number), name))
     }
 
-    /// The arguments that may be variables, each with the number of its field: what the line reads.
-    pub fn read_values(&self, alloc: Global) -> Made<Vec<(usize, &'a str)>> {
-        let mut values = Vec::new(alloc);
-        for (i, field) in self.arguments.iter().enumerate() {
-            if self.word.kinds().get(i).copied() == Some(Kind::Value) {
-                values.push((self.place_of(i), *field))?;
-            }
+    /// The argument of a number, if it may be a variable, which the line reads then.
+    pub fn read_at(&self, number: usize) -> Option<&'a str> {
+        let field = self.arguments.get(number).copied()?;
+        match self.word.kinds().get(number).copied() {
+            Some(Kind::Value) => Some(field),
+            _ => None,
         }
-        Ok(values)
     }
 
     /// The target, if it is there, and the arguments that may be variables, each with the number of its field.
     pub fn values(&self, alloc: Global) -> Made<Vec<(usize, &'a str)>> {
-        let mut values = self.read_values(alloc)?;
+        let mut values = Vec::new(alloc);
         if let Some(field) = self.target {
-            values.insert(0, (0, field))?;
+            values.push((0, field))?;
+        }
+        for number in 0..self.arguments.len() {
+            if let Some(field) = self.read_at(number) {
+                values.push((self.place_of(number), field))?;
+            }
         }
         Ok(values)
     }

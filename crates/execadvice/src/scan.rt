@@ -80,9 +80,27 @@ fn after_token<T: Drop>(read: Result<(T, &str), ParseError>) -> Made<Option<&str
     }
 }
 
+/// What is after a string of one line that has no escapes and is not empty; none if it may be another value.
+fn after_plain(from: &str) -> Option<&str> {
+    let quote = first(from);
+    if quote != b'"' && quote != b'\'' {
+        return None;
+    }
+    let inside = after_one(from);
+    let end = inside.as_bytes().iter().position(|byte| *byte == quote
+        || *byte < b' '
+        || *byte == b'\\'
+        || *byte == 0x7F)?;
+    let rest = inside.get(end..)?;
+    (end > 0 && first(rest) == quote).then_some(after_one(rest))
+}
+
 /// What is after a value that is no array and no table.
 fn after_scalar(alloc: Global, from: &str) -> Made<Option<&str>> {
-    if starts_string(from) {
+    let plain = after_plain(from);
+    if plain.is_some() {
+        Ok(plain)
+    } else if starts_string(from) {
         after_token(quoted(alloc, from))
     } else {
         after_token(unquoted(alloc, from))

@@ -5,18 +5,13 @@ use crate::made::Made;
 use crate::show::Advice;
 use crate::variables::{Variables, is_shared, is_variable};
 use crate::warnings::Warnings;
-use std::alloc::Global;
 
 /// Adds the variables that a line reads: all, or those that are shared alone.
-fn add_read<'a>(
-    alloc: Global,
-    read: &mut Variables<'a>,
-    one: &Spoken<'a>,
-    is_whole: bool,
-) -> Made<()> {
-    for (_, name) in &one.said.read_values(alloc)? {
-        if is_whole || is_shared(*name) {
-            read.add(*name)?;
+fn add_read<'a>(read: &mut Variables<'a>, one: &Spoken<'a>, is_whole: bool) -> Made<()> {
+    for number in 0..one.said.arguments.len() {
+        match one.said.read_at(number) {
+            Some(name) if is_whole || is_shared(name) => read.add(name)?,
+            _ => {}
         }
     }
     Ok(())
@@ -42,13 +37,13 @@ pub(crate) fn add_unread<'a>(out: &mut Warnings, bodies: &[Body<'a>]) -> Made<()
     let mut read = Variables::new(out.alloc);
     for body in bodies {
         for one in &body.spoken {
-            add_read(out.alloc, &mut read, one, false)?;
+            add_read(&mut read, one, false)?;
         }
     }
     for body in bodies {
         read.leave_body(out.alloc);
         for one in &body.spoken {
-            add_read(out.alloc, &mut read, one, true)?;
+            add_read(&mut read, one, true)?;
         }
         for one in &body.spoken {
             add_unread_at(out, one, &mut read)?;

@@ -79,12 +79,15 @@ fn add_targets<'a>(set: &mut Variables<'a>, body: &Body<'a>) -> Made<()> {
 
 /// Adds a warning for each variable that a line reads and that is none of those that are set, and takes it as set from then on.
 fn add_unset_at<'a>(out: &mut Warnings, one: &Spoken<'a>, set: &mut Variables<'a>) -> Made<()> {
-    for (part, field) in &one.said.read_values(out.alloc)? {
-        let name = *field;
+    for number in 0..one.said.arguments.len() {
+        let Some(name) = one.said.read_at(number) else {
+            continue;
+        };
         if is_variable(name) && !set.has(name) {
             set.add(name)?;
             let reason = format!(in out.alloc; "{name} is read and never set, so it is 0")?;
-            let advice = Advice::of_field(one.line, *part, reason, None);
+            let part = one.said.place_of(number);
+            let advice = Advice::of_field(one.line, part, reason, None);
             out.push(one.place, "unset", advice)?;
         }
     }

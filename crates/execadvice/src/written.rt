@@ -7,6 +7,11 @@ use std::alloc::{AllocError, Global};
 use taskscript::{Array, LinePlace, TablePlace};
 use toml_parser::{Key, dotted_key};
 
+/// Whether a byte of a text is the first of a character.
+fn begins_character(byte: u8) -> bool {
+    byte & 0xC0 != 0x80
+}
+
 /// A character of a file.
 #[derive(Clone, Copy, PartialEq, Eq)]
 pub struct FilePlace {
@@ -20,11 +25,12 @@ impl FilePlace {
     /// The place after a text that begins at this one.
     pub fn after(self, text: &str) -> FilePlace {
         let mut place = self;
-        for c in text.chars() {
-            place.column = place.column.saturating_add(1);
-            if c == '\n' {
+        for byte in text.as_bytes() {
+            if *byte == b'\n' {
                 place.line = place.line.saturating_add(1);
                 place.column = 1;
+            } else if begins_character(*byte) {
+                place.column = place.column.saturating_add(1);
             }
         }
         place
