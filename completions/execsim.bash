@@ -19,7 +19,7 @@ _execsim_names() {
 # What execcheck may find, by name.
 _execsim_found='NotToml UnknownKey MissingKey BadValue NameTwice BadRegions BadCommand BadLabel NotInInterrupt TooMany BadLine TooLong OutOfMemory HANDLE MASK VALUE MEM NEST
 LINK PORT SEM LIB IO unset unused-variable unused-label unreachable never-added unknown-port unknown-task unknown-library no-memory waits
-lost-wakeup unread owner-gone deadlock busy ends-early late'
+lost-wakeup unread owner-gone deadlock busy starvation ends-early late'
 
 # Puts the words of a list, one a line, that begin with what is typed into COMPREPLY.
 _execsim_offer() {

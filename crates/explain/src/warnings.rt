@@ -3,7 +3,7 @@
 use crate::section::{Example, Section};
 
 /// A section for each.
-pub(crate) static WARNINGS: [Section; 17] = [
+pub(crate) static WARNINGS: [Section; 18] = [
     Section {
         name: "unset",
         title: "a variable is read and never set",
@@ -614,6 +614,61 @@ code = [
 ",
             events: Some(
                 "run 2000
+",
+            ),
+        }),
+    },
+    Section {
+        name: "starvation",
+        title: "a task that is ready does not run for ten quanta",
+        text: "Another task runs that has a higher priority, or that has called Forbid or
+Disable, and never waits. Ticks change nothing in that: they let tasks of one
+priority take turns. Let the other one Wait for what it looks for, give both one
+priority, or let Permit or Enable come soon after Forbid or Disable.",
+        shows: Some(Example {
+            machine: "quantum = 2
+
+[[task]]
+name = 'a'
+pri = 1
+code = [
+  'again:',
+  'x = Add x 1',
+  'Jump again',
+]
+
+[[task]]
+name = 'b'
+code = [
+  'Print 1',
+]
+",
+            events: Some(
+                "tick 22
+run 10
+",
+            ),
+        }),
+        mended: Some(Example {
+            machine: "quantum = 2
+
+[[task]]
+name = 'a'
+code = [
+  'again:',
+  'x = Add x 1',
+  'Jump again',
+]
+
+[[task]]
+name = 'b'
+code = [
+  'Print 1',
+]
+",
+            events: Some(
+                "tick 22
+run 10
 ",
             ),
         }),

@@ -89,6 +89,7 @@ fn add_end<'a>(page: &mut Page<'a>, run: &mut Run<'_>) -> Result<(), AllocError>
     requires time { HasTimeFor 0 run.old.machine.seen }
 {
     run.scene(page.alloc).add_waits(page)?;
+    run.scene(page.alloc).add_starving(page)?;
     match run.scene(page.alloc).running_at_end()? {
         None => Ok(()),
         Some(running) => add_running(page, run, &running),

@@ -21,6 +21,7 @@ use script::{
 use std::alloc::{AllocError, Global};
 use std::collections::HashMap;
 use std::str::from_utf8;
+use taskq::TaskState;
 use taskscript::Owner;
 
 /// How many of the last steps are looked at.
@@ -73,6 +74,8 @@ pub struct Course<'a> {
     fresh: u64,
     /// The last step that did no command of a task.
     pub other: u64,
+    /// The same, by its number among steps, ticks and requests.
+    pub other_seen: u64,
     /// The event in which an alert stopped the machine.
     pub stopped_in: Option<Event>,
     /// Whether nothing was lost when memory was refused.
@@ -172,6 +175,19 @@ fn value_in(command: &Command, number: usize, line: &str) -> u32 {
     }
 }
 
+/// Whether a quantum has passed since one ended, or since the start, after that many ticks.
+fn ends_quantum(ticks: u64, quantum: u8) -> bool {
+    let length = u64::from(quantum);
+    length != 0 && ticks % length == 0
+}
+
+/// Whether a task is ready, and does not run.
+fn is_ready(machine: &Linked, task: usize) -> bool {
+    machine
+        .task(task)
+        .is_some_and(|view| view.state == TaskState::Ready)
+}
+
 /// Whether a word closes a library or a request.
 fn is_closing(word: Word) -> bool {
     matches!(
@@ -203,6 +219,7 @@ impl<'a> Course<'a> {
             passed: 0,
             fresh: 0,
             other: 0,
+            other_seen: 0,
             stopped_in: None,
             is_whole: true,
         })
@@ -236,6 +253,7 @@ impl<'a> Course<'a> {
             (Some(task), Some(past)) => {
                 let steps = self.steps;
                 past.passed = self.passed;
+                past.kept = 0;
                 if most > LONG && past.is_endless(&task.code, turn.place, steps, RECENT) {
                     return Part::new(most - LONG, Next::Noted);
                 }
@@ -323,11 +341,34 @@ impl<'a> Course<'a> {
         }
     }
 
+    /// Notes a step that did no command of a task.
+    fn note_other(&mut self) {
+        self.other = self.steps;
+        self.other_seen = self.moment();
+    }
+
+    /// Notes at the end of a quantum which tasks are ready and do not run.
+    fn note_kept(&mut self, machine: &Linked) {
+        if !ends_quantum(self.ticks, self.file.quantum()) {
+            return;
+        }
+        for task in 0..self.tasks.len() {
+            let is_ready = is_ready(machine, task);
+            if let Some(past) = self.tasks.get_mut(task) {
+                past.kept = if is_ready {
+                    past.kept.saturating_add(1)
+                } else {
+                    0
+                };
+            }
+        }
+    }
+
     /// Notes the step of a task, unless it was of plain words, which are noted before.
     fn note_task(&mut self, machine: &Linked, turn: TaskPlace) {
         let Some(command) = self.command(turn) else {
             self.fresh = self.steps;
-            self.other = self.steps;
+            self.note_other();
             return;
         };
         if !prints(command.word) {
@@ -549,7 +590,7 @@ impl<'a> Course<'a> {
             }
             _ => {}
         }
-        self.other = self.steps;
+        self.note_other();
         if machine.view().running.is_none() {
             self.fresh = self.steps;
         }
@@ -616,13 +657,12 @@ impl<'a> Course<'a> {
                 self.ticks = self.ticks.saturating_add(1);
                 self.passed = self.passed.saturating_add(1);
                 self.asking[place_of(Source::Vertb)] = true;
-                When::Tick(self.ticks)
+                When::Tick(self.moment())
             }
             Event::Irq(source) => {
-                let before = self.moment();
                 self.passed = self.passed.saturating_add(1);
                 self.asking[place_of(source)] = true;
-                When::Request(before)
+                When::Request(self.moment())
             }
         }
     }
@@ -712,8 +752,10 @@ impl<'a> Course<'a> {
         if flow == Flow::Alerted {
             return self.note_stop(machine, one, next, when, room);
         }
-        if matches!(one, Event::Run(_)) {
-            self.note_step(machine, next, when);
+        match one {
+            Event::Run(_) => self.note_step(machine, next, when),
+            Event::Tick(_) => self.note_kept(machine),
+            Event::Irq(_) => {}
         }
         let has_asked = self.any_asks();
         let served = self.note_served(machine, when);

@@ -6,6 +6,7 @@ use crate::following::Run;
 use crate::handles::Asking;
 use crate::page::{Page, Spot, argument_text};
 use crate::rules::Fault;
+use crate::step::{When, when_text};
 use crate::value::variable_at;
 use crate::words::{Flaw, row_of};
 use execadvice::Severity;
@@ -14,15 +15,15 @@ use std::alloc::{AllocError, Global};
 
 /// When the alert came.
 fn when(alloc: Global, course: &Course<'_>) -> Result<String, AllocError> {
-    let (moment, ticks) = (course.moment(), course.ticks);
-    let before = moment.saturating_sub(1);
-    match course.stopped_in {
-        Some(Event::Tick(_)) => format!(in alloc; "at tick {ticks}, after step {before}"),
-        Some(Event::Irq(_)) => {
-            format!(in alloc; "at a request of an interrupt, after step {before}")
-        }
-        _ => format!(in alloc; "at step {moment}"),
-    }
+    let moment = course.moment();
+    when_text(
+        alloc,
+        match course.stopped_in {
+            Some(Event::Tick(_)) => When::Tick(moment),
+            Some(Event::Irq(_)) => When::Request(moment),
+            _ => When::Step(moment),
+        },
+    )
 }
 
 /// Whether what is at fault is a mask or a set of attributes.

@@ -30,6 +30,7 @@ mod scene;
 mod sends;
 mod shut;
 mod snapshot;
+mod starving;
 mod step;
 mod ties;
 mod unreplied;

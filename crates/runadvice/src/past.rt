@@ -14,6 +14,8 @@ const LONGEST: u32 = 1000;
 pub struct Past {
     /// In which it was done, or its task went on to wait in it.
     pub visited: u64,
+    /// The same, by its number among steps, ticks and requests.
+    pub seen: u64,
     /// In which it was done.
     pub done: u64,
     /// The same, by its number among steps, ticks and requests.
@@ -24,6 +26,7 @@ impl Past {
     /// No step.
     pub const NONE: Past = Past {
         visited: 0,
+        seen: 0,
         done: 0,
         moment: 0,
     };
@@ -40,6 +43,8 @@ pub struct TaskPast {
     asks_at: u64,
     /// How many ticks and requests there were before the step that is noted.
     pub passed: u64,
+    /// At how many ends of a quantum, one after the other, the task was ready, since it ran last.
+    pub kept: u64,
 }
 
 impl TaskPast {
@@ -50,6 +55,7 @@ impl TaskPast {
             fresh: 0,
             asks_at: 0,
             passed: 0,
+            kept: 0,
         })
     }
 
@@ -59,10 +65,12 @@ impl TaskPast {
             if past.done == 0 {
                 self.fresh = step;
             }
+            let moment = step.saturating_add(self.passed);
             *past = Past {
                 visited: step,
+                seen: moment,
                 done: step,
-                moment: step.saturating_add(self.passed),
+                moment,
             };
         }
     }
@@ -71,6 +79,7 @@ impl TaskPast {
     pub fn note_waiting(&mut self, place: usize, step: u64) {
         if let Some(past) = self.commands.get_mut(place) {
             past.visited = step;
+            past.seen = step.saturating_add(self.passed);
         }
     }
 

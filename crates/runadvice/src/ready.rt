@@ -40,7 +40,7 @@ impl Scene<'_, '_> {
         let most = self.machine.view().tasks;
         let mut found = 0_usize;
         for task in queued(self.alloc, most, |at| self.machine.ready_after(at))?.iter() {
-            if !self.has_run(*task) {
+            if !self.has_run(*task) && self.keeper_of(*task).is_none() {
                 if found < NAMED {
                     let (name, why) = (self.name(*task), self.idle_reason(*task, running));
                     write!(text, "; \"{name}\" is ready but never ran: {why}")?;

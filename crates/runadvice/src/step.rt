@@ -10,9 +10,9 @@ use std::alloc::{AllocError, Global};
 pub enum When {
     /// In the step of this number, from 1. Ticks and requests of interrupts count too.
     Step(u64),
-    /// In the tick of this number, from 1.
+    /// In the tick that has this number among steps, ticks and requests.
     Tick(u64),
-    /// In a request of an interrupt, after the step of this number.
+    /// In the request of an interrupt that has this number among steps, ticks and requests.
     Request(u64),
 }
 
@@ -76,8 +76,8 @@ impl Marks {
 pub fn when_text(alloc: Global, when: When) -> Result<String, AllocError> {
     match when {
         When::Step(step) => format!(in alloc; "at step {step}"),
-        When::Tick(tick) => format!(in alloc; "at tick {tick}"),
-        When::Request(step) => format!(in alloc; "at a request of an interrupt after step {step}"),
+        When::Tick(step) => format!(in alloc; "at step {step}, a tick"),
+        When::Request(step) => format!(in alloc; "at step {step}, a request of an interrupt"),
     }
 }
 
