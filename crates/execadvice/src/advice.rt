@@ -5,7 +5,8 @@ use crate::branches::{branch_meant, compared_reason, compares};
 use crate::calculations::{Wordless, asks, is_operator, name_of_operator, without_word};
 use crate::escaped::shown_name;
 use crate::events::is_event;
-use crate::foreign::{Instead, instead_of, is_type, number_of_constants, place_of};
+use crate::foreign::{Instead, instead_of, is_listed, is_type, number_of_constants, place_of};
+use crate::habits::other_meaning;
 use crate::interrupt_lines::lacked_in_interrupt;
 use crate::made::Made;
 use crate::members::position_named;
@@ -13,15 +14,18 @@ use crate::mending::{Mending, is_store, takes_task};
 use crate::near::are_digits;
 use crate::plain::{plain_line, without_quotes};
 use crate::proposal::fix_of_line;
-use crate::reads::is_number;
-use crate::roles::roles_of;
+use crate::reads::{is_number, says_something};
+use crate::roles::{role_at, roles_of, text_reason};
 use crate::said::cut;
 use crate::show::{Advice, Fix, Span, field_span, width_of};
-use crate::spacing::spacing_advice;
+use crate::spacing::{SEMICOLON, spacing_advice};
 use crate::topics::topic_of;
-use crate::values::{base_sixteen, has_point, is_constant, is_value, number_meant, shell_variable};
+use crate::values::{
+    base_sixteen, has_point, is_begun_by_digit, is_constant, is_value, name_within, number_meant,
+    number_of_role, shell_variable, unquoted, without_quoted_number,
+};
 use crate::variables::is_variable;
-use crate::words::{word_meant, word_near, words_begun};
+use crate::words::{word_in_any_case, word_meant, word_near, words_begun};
 use escape::is_hidden;
 use script::{Kind, PortWord, Word, is_name, is_word_of_interrupt, word_of};
 use std::alloc::Global;
@@ -156,6 +160,22 @@ const SIZES: &str =
 /// What is said of a text that is to be printed.
 const SHOWN: &str = "Print shows a number; there are no texts";
 
+/// What is said of a value that is a line of its own.
+const VALUE_ALONE: &str = "a value alone is not a command, as x = Set 1 is";
+
+/// What is said of a variable that is a line of its own.
+const VARIABLE_ALONE: &str = "a variable alone is not a command, as x = Set 1 is";
+
+/// What is said of a choice that asks for the answer of a call.
+const CALL_ASKED: &str =
+    "a call has a line of its own, as x = GetMsg p; JumpZ x LABEL then asks whether it answered 0";
+
+/// What is said of `==` in a line that sets a variable.
+const EQUALS: &str = "a word is missing, and one = sets a variable";
+
+/// What is said of a number between quotes.
+const QUOTED_NUMBER: &str = "a number has no quotes around it";
+
 /// What is said of a number as the name of a task.
 const FOUND: &str = "FindTask takes the name of a task and answers its number, which this is";
 
@@ -185,10 +205,14 @@ fn is_endless(line: &str) -> bool {
 /// What is said of a name of another system with which a line begins that shows a text, or is a loop that nothing ends; or
 /// else what is said of it in any line.
 fn instead_in(line: &str, name: &str) -> Option<Instead> {
-    let instead = instead_of(name)?;
-    if is_endless(line) {
+    if is_endless(line) && instead_of(name).is_some() {
         return Some(Instead::Write(ENDLESS));
     }
+    let other = other_meaning(line, name);
+    if other.is_some() {
+        return other;
+    }
+    let instead = instead_of(name)?;
     match instead {
         Instead::Write("Print x") if line.contains('"') && !line.contains('%') => {
             Some(Instead::Nothing(SHOWN))
@@ -237,6 +261,17 @@ fn calculation_reason(after: &[&str]) -> Option<&'static str> {
     }
 }
 
+/// Whether a plain line is a choice whose condition has a word: it asks for the answer of a call.
+fn asks_for_call(alloc: Global, plain: &str) -> Made<bool> {
+    let parts = fields_of(alloc, plain)?;
+    let first = parts.first().copied().unwrap_or("");
+    let is_choice = first.eq_ignore_ascii_case("if") || first.eq_ignore_ascii_case("elif");
+    let has_word = parts.iter().any(|part| word_of(part.trim_start_matches('!')).is_some_and(
+        |word| word.answers(),
+    ));
+    Ok(is_choice && has_word)
+}
+
 /// Whether a part is the field of a structure, as `msg.value`, and no name of another system.
 fn is_field(part: &str) -> bool {
     match part.split_once(".") {
@@ -254,6 +289,14 @@ fn has_field(line: &str) -> bool {
     match line.split_once(" = ") {
         None => false,
         Some((target, value)) => is_field(target) || is_field(value),
+    }
+}
+
+/// Whether a line has a word before its `=`, in place of a variable.
+fn has_word_before_equals(line: &str) -> bool {
+    match line.split_once("=") {
+        None => false,
+        Some((before, _)) => word_of(before.trim()).is_some(),
     }
 }
 
@@ -348,6 +391,9 @@ fn label_reason(alloc: Global, name: &str, wanted: &'static str) -> Made<&'stati
 /// What is said of the name of another language with which the parts of a line begin that ends with a colon.
 fn instead_before_colon(line: &str, parts: &[&str]) -> Option<Instead> {
     match parts {
+        [first, next, ..] if first.ends_with(":") && word_of(next).is_none() => {
+            instead_in(line, first.trim_end_matches(':'))
+        }
         [first, _, ..] if parts.last().copied().unwrap_or("").ends_with(":") => {
             instead_in(line, *first)
         }
@@ -380,6 +426,8 @@ fn value_in_place(alloc: Global, text: &str, count: usize) -> Made<Option<&'stat
 fn lone_reason(text: &str, count: usize) -> Option<&'static str> {
     if text.starts_with(":") {
         Some("a label has its colon after its name")
+    } else if count == 1 && text.starts_with(".") {
+        Some("a label has no dot before its name, and a colon after it")
     } else if count == 1 && text.starts_with("@") && is_variable(text) {
         Some("a variable alone is not a command, as @x = Set 1 is")
     } else {
@@ -401,6 +449,8 @@ fn dialect_reason(text: &str, fields: &[&str]) -> Option<&'static str> {
         Some(NOT_DRAWN)
     } else if text.starts_with("\"") {
         Some(TEXT_ALONE)
+    } else if next == "is" && instead_of(text).is_none() {
+        Some(compared_reason(text))
     } else if asks(next) && instead_of(text).is_none() {
         Some(CHOICES)
     } else if has_joined_label(text) {
@@ -432,6 +482,8 @@ fn joint_reason(text: &str, fields: &[&str], at: usize) -> Option<&'static str> 
         } else {
             "one = is enough"
         })
+    } else if at == 0 && is_variable(text) && next == "==" {
+        Some("one = is enough")
     } else if at == 0 && (is_assignment(text) || is_variable(text) && next.starts_with("=")) {
         Some("put one space before and one after the =")
     } else if at == 0 && is_variable(text) && next == ":=" {
@@ -440,10 +492,12 @@ fn joint_reason(text: &str, fields: &[&str], at: usize) -> Option<&'static str> 
         Some("put = in place of <-")
     } else if at == 0 && text.eq_ignore_ascii_case("end") && next.eq_ignore_ascii_case("if") {
         Some("a choice has no end; a label is where a jump goes on")
-    } else if at == 0 && is_variable(text) && word_of(next).is_some() {
+    } else if at == 0 && is_variable(text) && word_of(next).is_some() && !is_listed(text) {
         Some("a = is missing after the variable")
     } else if at == 2 && fields.get(3).copied().unwrap_or("") == "=" {
         Some("a line has one variable before its word")
+    } else if text.ends_with(":") && word_of(text.trim_end_matches(':')).is_some() {
+        Some("a word has no colon after it")
     } else if text.ends_with(":") {
         Some("a label has a line of its own")
     } else if fields.last().copied().unwrap_or("").ends_with(":") {
@@ -564,14 +618,29 @@ fn foreign_number_reason(field: &str) -> &'static str {
     }
 }
 
+/// Whether a part has an operator of C in it, or the minus before a variable.
+fn calculates(field: &str) -> bool {
+    let rest = field.trim_start_matches('-');
+    let is_negative = rest.len() < field.len() && is_variable(rest);
+    let has_minus = rest.contains('-') && is_variable(rest.split('-').next().unwrap_or(""));
+    let signs = ["+", "*", "/", "|", "^"];
+    is_negative || has_minus || signs.iter().any(|sign| field.contains(*sign))
+}
+
 /// What is said of a part with a comma, with brackets, or with an operator of C in it.
 fn sign_within(field: &str) -> Option<&'static str> {
-    if field.contains(',') {
+    if field.starts_with("+") && is_number(field.trim_start_matches('+')) {
+        Some("a number has no plus before it")
+    } else if field.contains(',') {
         Some("there is no comma between arguments, and none in a number")
     } else if field.starts_with("[") || field.starts_with("{") {
         Some("an argument has no brackets around it")
-    } else if field.contains('+') || field.contains('*') || field.contains('/') {
+    } else if field.contains('[') {
+        Some(NO_ELEMENTS)
+    } else if calculates(field) {
         Some(ONE_VALUE)
+    } else if is_field(field) {
+        Some(FIELDS)
     } else {
         None
     }
@@ -585,7 +654,7 @@ fn shape_reason(field: &str) -> Option<&'static str> {
         Some("there is no = between arguments")
     } else if field.starts_with("\"") || field.starts_with("'") {
         Some("expected a number or a variable here, not a name")
-    } else if field.starts_with("&") || field.starts_with("*") {
+    } else if field.starts_with("&") && !field.starts_with("&H") || field.starts_with("*") {
         Some("a variable has no & and no * before it")
     } else if has_point(field) {
         Some("a number is whole: it has no point")
@@ -621,6 +690,10 @@ fn value_reason(alloc: Global, field: &str) -> Made<&'static str> {
     let first = field.get(..16).unwrap_or("").to_ascii_lowercase(alloc)?;
     let wanted = if field.len() > 16 && is_identifier(first.as_str().as_bytes()) {
         "expected a number or a variable here; a variable has at most 16 characters"
+    } else if is_begun_by_digit(field) {
+        "a number has digits alone, and no unit after it"
+    } else if field.starts_with("_") {
+        "expected a number or a variable here; a variable begins with a letter a to z"
     } else {
         "expected a number or a variable here"
     };
@@ -642,8 +715,7 @@ fn label_argument_reason(alloc: Global, field: &str) -> Made<&'static str> {
 
 /// Why a part is no name between double quotes.
 fn quoted_reason(field: &str, wanted: &'static str) -> &'static str {
-    let inside = field.trim_matches('\'');
-    if inside.len() < field.len() && is_name(inside.as_bytes()) {
+    if !field.starts_with("\"") && name_within(field).is_some() {
         return "put a name between double quotes";
     }
     if !field.starts_with("\"") {
@@ -667,7 +739,9 @@ const NAME_OR_NONE: &str = "expected a name between double quotes, or 0, here";
 
 /// Why a name is none of the file's software interrupts.
 fn softint_reason(softints: &[Value], field: &str) -> &'static str {
-    if quoted_in(field).is_none() {
+    if is_number(field) {
+        "a software interrupt has a name here, between double quotes, and no number"
+    } else if quoted_in(field).is_none() {
         quoted_reason(field, NAME)
     } else if softints.is_empty() {
         "the file has no software interrupt; a [[softint]] table makes one"
@@ -810,6 +884,20 @@ fn said_of_argument(word: Word, field: &str) -> Option<&'static str> {
     }
 }
 
+/// What is said of a text for a word that takes a value: of a number between quotes, and of a name.
+fn said_of_value(word: Word, number: usize, kind: Kind, field: &str) -> Option<&'static str> {
+    if kind != Kind::Value || !begins_as_text(field) {
+        return None;
+    }
+    if without_quoted_number(field).len() < field.len() {
+        return Some(QUOTED_NUMBER);
+    }
+    match word {
+        Word::Plain(_) => Some(ONE_NUMBER_NO_TEXT),
+        _ => text_reason(role_at(word.text(), number)),
+    }
+}
+
 /// Whether a word takes the address of a semaphore.
 fn takes_semaphore(word: Word) -> bool {
     match word {
@@ -844,6 +932,7 @@ struct Mistake {
 #[derive(Clone, Copy)]
 struct Line<'a, 'b, 'c> {
     alloc: Global,
+    body: Mending<'a>,
     table: &'a Table,
     text: &'b str,
     meant: Option<&'c str>,
@@ -893,7 +982,7 @@ impl Line<'_, '_, '_> {
 
     /// Why a name between double quotes is no task, with the number of the task of that name.
     fn task_reason(&self, field: &str) -> Made<String> {
-        let name = field.trim_matches('"');
+        let name = unquoted(field);
         match position_named(items_at(self.table, "task"), name) {
             None => String::from_str(self.alloc, NO_TASK),
             Some(item) => {
@@ -921,7 +1010,7 @@ impl Line<'_, '_, '_> {
 
     /// Why a field is not the argument of that number, from 0, and of that kind, of a word.
     fn argument_reason(&self, word: Word, number: usize, kind: Kind, field: &str) -> Made<String> {
-        let is_name = number == 0 && quoted_in(field).is_some();
+        let is_name = number == 0 && name_within(field).is_some();
         if is_name && takes_task(word) {
             return self.task_reason(field);
         }
@@ -929,23 +1018,68 @@ impl Line<'_, '_, '_> {
             return String::from_str(self.alloc, NAMELESS);
         }
         if is_name && takes_port(word) {
+            let name = unquoted(field);
             return format!(in self.alloc;
-                "a port is named by its address here, which p = FindPort {field} finds"
+                "a port is named by its address here, which p = FindPort \"{name}\" finds"
             );
         }
         if word_of(field).is_some() {
             return String::from_str(self.alloc, CALL_WITHIN);
         }
-        match said_of_argument(word, field) {
-            Some(reason) => String::from_str(self.alloc, reason),
-            None => String::from_str(self.alloc, self.kind_reason(kind, field)?),
+        let reason = match said_of_argument(word, field).or(said_of_value(
+            word, number, kind, field,
+        )) {
+            Some(reason) => reason,
+            None => self.value_or_name_reason(word, number, kind, field)?,
+        };
+        String::from_str(self.alloc, reason)
+    }
+
+    /// Why a field is not the argument of that number and kind of a word, if it is no text.
+    fn value_or_name_reason(
+        &self,
+        word: Word,
+        number: usize,
+        kind: Kind,
+        field: &str,
+    ) -> Made<&'static str> {
+        let role = role_at(word.text(), number);
+        if number_of_role(self.alloc, role, field)?.is_some() {
+            return Ok("constants are written as numbers");
         }
+        self.kind_reason(kind, field)
+    }
+
+    /// The number of the first argument of a word that has too few if it is not right there, but would be one place
+    /// later: an argument is missing before it.
+    fn lacked_before(&self, word: Word, after: &[&str]) -> Option<usize> {
+        let kinds = word.kinds();
+        if after.len() >= kinds.len() {
+            return None;
+        }
+        for (i, field) in after.iter().enumerate() {
+            let here = kinds.get(i).copied()?;
+            let next = kinds.get(i.saturating_add(1)).copied()?;
+            if !self.is_right(here, *field) {
+                return if self.is_right(next, *field) {
+                    Some(i)
+                } else {
+                    None
+                };
+            }
+        }
+        None
     }
 
     /// The first argument of a word that is not right: it is of another kind, or there is none, or it is one too many. `first` is the number of
     /// the part that is the first argument.
     fn argument_mistake(&self, word: Word, after: &[&str], first: usize) -> Made<Option<Mistake>> {
         let count = word.kinds().len();
+        if let Some(place) = self.lacked_before(word, after) {
+            let part = first.saturating_add(place);
+            let sentence = count_reason(self.alloc, word, after.len(), self.gains_target())?;
+            return Ok(Some(Mistake { part, sentence }));
+        }
         for (i, kind) in word.kinds().iter().enumerate() {
             if let Some(field) = after.get(i).copied() {
                 if !self.is_right(*kind, field) {
@@ -1020,7 +1154,8 @@ impl Line<'_, '_, '_> {
         let is_wordless = self.meant.is_some()
             && without_word(alloc, self.text)? != Wordless::Never;
         if is_wordless || self.gains_set(fields) {
-            return String::from_str(alloc, "a word is missing");
+            let has_two = self.text.contains(" == ");
+            return String::from_str(alloc, if has_two { EQUALS } else { "a word is missing" });
         }
         if at == 0 && is_event(self.text) {
             return String::from_str(alloc, EVENT);
@@ -1031,6 +1166,9 @@ impl Line<'_, '_, '_> {
             }
         }
         if fields.len() == 1 {
+            if let Some(reason) = self.lone_value_reason(text) {
+                return String::from_str(alloc, reason);
+            }
             if let Some(reason) = self.label_line_reason(text)? {
                 return Ok(reason);
             }
@@ -1041,6 +1179,17 @@ impl Line<'_, '_, '_> {
         }
     }
 
+    /// Why a line that is one part is no word, if it is a value, or a variable that the body sets.
+    fn lone_value_reason(&self, text: &str) -> Option<&'static str> {
+        if is_number(text) || number_of_constants(text).is_some() {
+            Some(VALUE_ALONE)
+        } else if self.meant.is_none() && is_variable(text) && self.body.is_set(text) {
+            Some(VARIABLE_ALONE)
+        } else {
+            None
+        }
+    }
+
     /// Why a line that is one part is no word, if it is the name of a label, or may be one.
     fn label_line_reason(&self, text: &str) -> Made<Option<String>> {
         let alloc = self.alloc;
@@ -1048,7 +1197,7 @@ impl Line<'_, '_, '_> {
             Some(meant) if meant.ends_with(":") => {
                 unknown_text(alloc, text, "a label ends with a colon")?
             }
-            Some(meant) if meant.starts_with("Jump ") && instead_of(text).is_none() => {
+            Some(meant) if meant.starts_with("Jump ") && !is_listed(text) => {
                 String::from_str(alloc, "this is the name of a label, which Jump goes on at")?
             }
             None
@@ -1144,8 +1293,12 @@ impl Line<'_, '_, '_> {
         if let Some(reason) = memory_reason(self.text) {
             return Ok(Some(reason));
         }
-        if self.text.contains("->") || has_field(self.text.trim_end_matches(';')) {
+        let has_arrow = self.text.contains("->") && !self.text.contains("IExec->");
+        if has_arrow || has_field(self.text.trim_end_matches(';')) {
             return Ok(Some(FIELDS));
+        }
+        if has_word_before_equals(self.text) {
+            return Ok(Some("there is no = after a word"));
         }
         if self.text.ends_with("{") || self.text.starts_with("}") {
             return Ok(Some(braces_reason(self.text)));
@@ -1161,6 +1314,9 @@ impl Line<'_, '_, '_> {
         }
         if without_quotes(self.text).len() < self.text.len() && self.meant.is_some() {
             return Ok(Some(QUOTES));
+        }
+        if self.meant.is_none() && asks_for_call(self.alloc, plain)? {
+            return Ok(Some(CALL_ASKED));
         }
         if self.meant.is_none() && compares(self.alloc, plain)? && !begins_foreign(plain) {
             return Ok(Some(compared_reason(plain)));
@@ -1202,17 +1358,21 @@ impl Line<'_, '_, '_> {
     }
 
     /// What is wrong with a word and its arguments, if there are more than it takes, with commas between them.
-    fn listed_reason(&self, after: &[&str]) -> Option<&'static str> {
+    fn listed_reason(&self, after: &[&str]) -> Made<Option<&'static str>> {
         let [first, arguments @ ..] = after else {
-            return None;
+            return Ok(None);
         };
-        let word = word_of(first)?;
-        let is_listed = self.meant.is_none() && self.text.contains(',') && !self.text.contains('(');
-        if is_listed && arguments.len() > word.kinds().len() {
+        let Some(word) = word_in_any_case(self.alloc, first)? else {
+            return Ok(None);
+        };
+        let is_call = self.text.contains('(') && word_of(first).is_some();
+        let has_sign = self.text.contains(',') || self.text.contains("; ");
+        let is_listed = self.meant.is_none() && has_sign && !is_call;
+        Ok(if is_listed && arguments.len() > word.kinds().len() {
             extra_value_reason(word)
         } else {
             None
-        }
+        })
     }
 
     /// What is wrong with a line that has no word, or a call in the manner of C. `plain` is its plain form, which has
@@ -1227,7 +1387,7 @@ impl Line<'_, '_, '_> {
         if foreign.is_some() {
             return Ok(foreign);
         }
-        if let Some(reason) = self.listed_reason(after) {
+        if let Some(reason) = self.listed_reason(after)? {
             return Ok(Some(String::from_str(self.alloc, reason)?));
         }
         if self.meant.is_some() && without_word(self.alloc, plain)? == Wordless::Sets {
@@ -1324,6 +1484,22 @@ impl Line<'_, '_, '_> {
         Ok(Advice::of_field(self.text, part, sentence, fix))
     }
 
+    /// What is wrong with a line that has a semicolon at its end, of which `advice` is all that was said: what is wrong
+    /// with it without that, if something is.
+    fn without_semicolon(&self, advice: Advice) -> Made<Advice> {
+        let text = self.text.trim_end_matches(';').trim_end();
+        if says_something(self.alloc, text)? {
+            return Ok(advice);
+        }
+        let Advice { span, reason, .. } = Line { text, ..*self }.advice()?;
+        let fix = advice.fix;
+        if fix.is_some() {
+            return Ok(Advice { span, reason, fix });
+        }
+        let reason = format!(in self.alloc; "{SEMICOLON}; {}", reason.as_str())?;
+        Ok(Advice { span, reason, fix })
+    }
+
     /// What is wrong with the line.
     fn advice(&self) -> Made<Advice> {
         let parts = fields_of(self.alloc, self.text)?;
@@ -1363,10 +1539,16 @@ pub fn line_advice(body: Mending<'_>, text: &str) -> Made<Advice> {
     };
     let line = Line {
         alloc,
+        body,
         table,
         text,
         meant,
         is_interrupt,
     };
-    line.advice()
+    let advice = line.advice()?;
+    if advice.reason.as_str() == SEMICOLON {
+        line.without_semicolon(advice)
+    } else {
+        Ok(advice)
+    }
 }

@@ -69,7 +69,10 @@ fn without_operators(before: &str) -> &str {
 fn plain_target(before: &str) -> &str {
     let target = before.trim_end_matches(':').trim();
     let target = target.trim_end_matches('%').trim_end_matches('$');
-    let target = target.strip_prefix("Set ").unwrap_or(target);
+    let target = match target.split_once(" ") {
+        Some((word, rest)) if word.eq_ignore_ascii_case("Set") => rest,
+        _ => target,
+    };
     target.trim_start_matches('*').trim_start_matches('#')
 }
 

@@ -71,6 +71,8 @@ fn character_likely(c: char) -> Option<&'static str> {
         ':' => Some("TOML has = between a key and its value"),
         '(' | ')' | '}' => Some("an array is between [ and ]"),
         '*' | '+' | '|' => Some(CALCULATED),
+        '=' => Some("one = is between a key and its value"),
+        ']' => Some("there is one ] too many"),
         _ => None,
     }
 }
@@ -154,7 +156,8 @@ fn value_in(alloc: Global, line: &str, message: &str) -> Made<Option<(Key, Optio
     let Some((of, key)) = table_with(name) else {
         return Ok(None);
     };
-    let plain = value.trim_end_matches(',').trim_end_matches(';');
+    let plain = value.trim_start_matches('=').trim_start();
+    let plain = plain.trim_end_matches(',').trim_end_matches(';');
     Ok(match value_held(alloc, of, key, plain)? {
         Some(held) if held.as_str() != value || !line.contains('=') => Some((key, Some(held))),
         _ => Some((key, None)),
@@ -170,6 +173,7 @@ fn lacks_equals(line: &str, message: &str) -> bool {
 fn value_reason(key: Key) -> Option<&'static str> {
     match key {
         Key::Claim | Key::Start => Some("the value is true or false"),
+        Key::TickMicros => Some("a number of microseconds is in decimal digits"),
         Key::Name | Key::Source | Key::Code => None,
         _ => Some("a number is in decimal digits, or in base 16 after 0x"),
     }
@@ -189,13 +193,23 @@ fn other_text_reason(alloc: Global, line: &str) -> Made<Option<&'static str>> {
     Ok(other_language_reason(line))
 }
 
+/// Whether a character is a bracket or a space before the kind of a head.
+fn is_before_kind(c: char) -> bool {
+    c == ' ' || c == '['
+}
+
 /// Whether a line begins as the head of a table does, or with parentheses in its place, and has no comma as an array
 /// has.
 fn begins_as_head(line: &str) -> bool {
     let inside = line.trim_start_matches('[').trim_start_matches('(');
-    let first = inside.as_bytes().first().copied().unwrap_or(b' ');
+    let first = inside
+        .trim_start_matches(is_before_kind)
+        .as_bytes()
+        .first()
+        .copied();
+    let is_name = first.unwrap_or(b' ').is_ascii_alphabetic();
     let is_whole = !line.contains(',') && !line.contains('\r');
-    inside.len() < line.len() && first.is_ascii_alphabetic() && is_whole
+    inside.len() < line.len() && is_name && is_whole
 }
 
 /// Whether a line sets a kind of tables to what is no array.

@@ -11,6 +11,7 @@ use crate::near::{are_digits, nearest};
 use crate::proposal::change;
 use crate::reads::says_something;
 use crate::show::{Advice, Fix, Span, field_span, width_of};
+use crate::sources::source_named;
 use crate::spacing::hidden_advice;
 use crate::text::{Text, is_line_feed, text_or_nothing};
 use crate::values::number_meant;
@@ -62,16 +63,20 @@ fn number_advice(alloc: Global, line: &str, digits: &str) -> Made<Advice> {
     part_advice(alloc, line, 1, reason)
 }
 
-/// Whether a name is that of the source that comes with ticks.
-fn is_blank(name: &str) -> bool {
-    ["VERTB", "VBLANK", "VBL"]
-        .iter()
-        .any(|source| name.eq_ignore_ascii_case(*source))
-}
+/// What is said of a name of software interrupts, and of one of an interrupt.
+const SOFTINTS: &str =
+    "a software interrupt is caused by code: Cause \"NAME\" in a task or in a server";
+
+const REQUESTS: &str = "irq PORTS and irq EXTER are requests of interrupts";
 
 /// Why a name is none of a source that is asked for.
 fn source_advice(alloc: Global, line: &str, name: &str) -> Made<Advice> {
-    let reason = if is_blank(name) {
+    let is_soft = ["soft", "softint"]
+        .iter()
+        .any(|soft| name.eq_ignore_ascii_case(*soft));
+    let reason = if is_soft {
+        SOFTINTS
+    } else if source_named(name) == Some("VERTB") && !are_digits(name) {
         "VERTB comes with each tick; PORTS and EXTER are asked for by irq"
     } else if !name.is_empty() && are_digits(name) {
         "a source has a name here: PORTS, of level 2, or EXTER, of level 6; VERTB, of level 3, comes with each tick"
@@ -101,12 +106,19 @@ const STATES: &str = "execlog shows a run, and with --state N the machine after 
 const COMMANDS: &str =
     "a command is a line of code in a machine file; here a line is run N, tick N or irq S";
 
+const STEPS: &str = "run N makes N steps";
+
 const BLANKS: &str = "tick N is N vertical blanks";
 
 const SMALL: &str = "its word is in small letters, with one argument: run N, tick N or irq S";
 
+const ORDER: &str = "events come in the order of the lines: run N before one lets N steps be made";
+
+const SCHEDULES: &str =
+    "the machine chooses the task that runs, by its priority; run N makes N steps";
+
 /// Words that begin no event, each with what has its place.
-const HABITS: [(&str, &str); 53] = [
+const HABITS: [(&str, &str); 70] = [
     ("wait", WAITS),
     ("sleep", WAITS),
     ("delay", WAITS),
@@ -139,13 +151,30 @@ const HABITS: [(&str, &str); 53] = [
     ("init", BEGINS),
     ("reset", BEGINS),
     ("go", BEGINS),
-    ("step", "run N makes N steps"),
-    ("steps", "run N makes N steps"),
-    ("next", "run N makes N steps"),
-    ("continue", "run N makes N steps"),
+    ("step", STEPS),
+    ("steps", STEPS),
+    ("next", STEPS),
+    ("continue", STEPS),
     ("signal", SIGNALS),
     ("send", SIGNALS),
-    ("nmi", "irq PORTS and irq EXTER are requests of interrupts"),
+    ("nmi", REQUESTS),
+    ("interrupt", REQUESTS),
+    ("int", REQUESTS),
+    ("key", REQUESTS),
+    ("keypress", REQUESTS),
+    ("advance", STEPS),
+    ("cont", STEPS),
+    ("resume", STEPS),
+    ("proceed", STEPS),
+    ("assert", STATES),
+    ("expect", STATES),
+    ("check", STATES),
+    ("softint", SOFTINTS),
+    ("task", SCHEDULES),
+    ("at", ORDER),
+    ("after", ORDER),
+    ("when", ORDER),
+    ("then", ORDER),
     ("state", STATES),
     ("trace", STATES),
     ("show", STATES),
@@ -168,7 +197,16 @@ const HABITS: [(&str, &str); 53] = [
 /// Why the first word of a line begins no event.
 fn word_advice(alloc: Global, line: &str) -> Made<Advice> {
     let (word, _) = line.split_once(" ").unwrap_or((line, ""));
-    part_advice(alloc, line, 0, row_of(&HABITS, word).unwrap_or(LINES))
+    let habit = match row_of(&HABITS, word) {
+        Some(reason) => Some(reason),
+        None => row_of(&HABITS, word.trim_end_matches('s')),
+    };
+    let reason = match (habit, source_named(word)) {
+        (Some(reason), _) => reason,
+        (None, Some(_)) if !are_digits(word) => REQUESTS,
+        _ => LINES,
+    };
+    part_advice(alloc, line, 0, reason)
 }
 
 /// Whether a text is the name of a source of interrupts.
@@ -283,10 +321,10 @@ fn plain_event(alloc: Global, line: &str) -> Made<String> {
 
 /// The source of interrupts that is meant by a name or by the number of its level.
 fn source_meant(alloc: Global, name: &str) -> Made<Option<&'static str>> {
-    match name {
-        "2" => Ok(Some("PORTS")),
-        "6" => Ok(Some("EXTER")),
-        _ => nearest(alloc, name, &["PORTS", "EXTER"]),
+    match source_named(name) {
+        Some("VERTB") => Ok(None),
+        Some(source) => Ok(Some(source)),
+        None => nearest(alloc, name, &["PORTS", "EXTER"]),
     }
 }
 
@@ -298,6 +336,7 @@ fn argument_meant(alloc: Global, word: &str, argument: &str) -> Made<Option<Stri
             Some(source) => Ok(Some(String::from_str(alloc, source)?)),
         };
     }
+    let argument = argument.trim_end_matches('.');
     let short = argument.trim_start_matches('+').trim_start_matches('0');
     if argument.ends_with("k") || argument.ends_with("K") || argument.ends_with("M") {
         return Ok(None);
@@ -315,14 +354,59 @@ fn argument_meant(alloc: Global, word: &str, argument: &str) -> Made<Option<Stri
     }
 }
 
+/// Whether a text is the name of what an event of that word counts.
+fn is_unit(word: &str, text: &str) -> bool {
+    let units = if word == "run" {
+        ["step", "steps", "command", "commands", "time", "times"]
+    } else {
+        ["tick", "ticks", "frame", "frames", "time", "times"]
+    };
+    units.iter().any(|unit| text == *unit)
+}
+
+/// The argument of an event of that word without the name of what it counts after it, as `10 steps`.
+fn without_unit<'a>(word: &str, argument: &'a str) -> &'a str {
+    match argument.split_once(" ") {
+        Some((number, unit)) if is_unit(word, unit) => number,
+        _ => argument,
+    }
+}
+
 /// The event that is meant by a word and an argument.
 fn event_of(alloc: Global, word: &str, argument: &str) -> Made<Option<String>> {
     let Some(word) = word_meant(alloc, word)? else {
         return Ok(None);
     };
-    match argument_meant(alloc, word, argument)? {
+    match argument_meant(alloc, word, without_unit(word, argument))? {
         None => Ok(None),
         Some(argument) => Ok(Some(format!(in alloc; "{word} {argument}")?)),
+    }
+}
+
+/// A line without the sign that is before each item of a list, or before what is typed, in other texts.
+fn without_bullet(line: &str) -> &str {
+    match line.split_once(" ") {
+        Some((bullet, rest)) if is_bullet(bullet) => rest,
+        _ => line,
+    }
+}
+
+/// Whether a text is before each item of a list in other texts: a sign, or a number with one.
+fn is_bullet(text: &str) -> bool {
+    let number = text
+        .trim_end_matches(':')
+        .trim_end_matches('.')
+        .trim_end_matches(')');
+    let is_sign = ["-", "*", ">", "$"].iter().any(|sign| text == *sign);
+    is_sign || number.len() < text.len() && !number.is_empty() && are_digits(number)
+}
+
+/// The event that is meant by a line of one part: a word with its number right after it, or the name of a source of
+/// interrupts.
+fn event_of_part(alloc: Global, text: &str) -> Made<Option<String>> {
+    match source_named(text) {
+        Some(source) if source != "VERTB" => event_of(alloc, "irq", source),
+        _ => joined_event(alloc, text),
     }
 }
 
@@ -337,10 +421,11 @@ fn is_accepted(alloc: Global, text: &str) -> Made<bool> {
 
 /// The event that is meant by a word with a number right after it, as `run10`.
 fn joined_event(alloc: Global, text: &str) -> Made<Option<String>> {
-    for word in ["run", "tick"] {
-        if let Some(digits) = text.strip_prefix(word) {
-            if are_digits(digits) && !digits.is_empty() {
-                return event_of(alloc, word, digits);
+    for word in ["run", "tick", "irq"] {
+        if let Some(rest) = text.strip_prefix(word) {
+            let is_number = are_digits(rest) && word != "irq";
+            if !rest.is_empty() && (is_number || source_named(rest).is_some()) {
+                return event_of(alloc, word, rest);
             }
         }
     }
@@ -349,11 +434,11 @@ fn joined_event(alloc: Global, text: &str) -> Made<Option<String>> {
 
 /// The event that is meant by a line, if that can be told: a line that the reader of events accepts.
 fn event_meant(alloc: Global, line: &str) -> Made<Option<String>> {
-    let plain = plain_event(alloc, line)?;
+    let plain = plain_event(alloc, without_bullet(line))?;
     let plain = plain.as_str();
     let found = match plain.split_once(" ") {
         None if are_digits(plain) => event_of(alloc, "run", plain)?,
-        None => joined_event(alloc, plain)?,
+        None => event_of_part(alloc, plain)?,
         Some((number, word)) if are_digits(number) => event_of(alloc, word, number)?,
         Some((word, argument)) => event_of(alloc, word, argument)?,
     };
@@ -396,7 +481,7 @@ fn rest_reason(word: &str, rest: &str) -> &'static str {
 /// Why the parts of a line are no event, and which of them.
 fn parts_advice(alloc: Global, line: &str) -> Made<Advice> {
     let (word, rest) = line.split_once(" ").unwrap_or((line, ""));
-    if ["//", ";", "REM ", "--", "'"]
+    if ["//", "/*", ";", "REM ", "--", "'"]
         .iter()
         .any(|mark| line.starts_with(*mark))
     {
@@ -405,7 +490,10 @@ fn parts_advice(alloc: Global, line: &str) -> Made<Advice> {
     if !is_event_word(word) {
         return word_advice(alloc, line);
     }
-    if rest.contains("#") {
+    if ["#", " //", " /*", " --", " ;"]
+        .iter()
+        .any(|mark| rest.contains(*mark))
+    {
         return part_advice(alloc, line, 1, "a comment has a line of its own");
     }
     if rest.contains(" ") {

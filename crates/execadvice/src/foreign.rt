@@ -1,5 +1,6 @@
 //! Names of other systems and of Exec's headers, with what has their place in a machine file.
 
+use crate::deeds::place_of_deed;
 use crate::elsewhere::{lack_elsewhere, place_elsewhere, place_of_capitals, row_of};
 use crate::made::Made;
 use std::alloc::Global;
@@ -338,6 +339,10 @@ pub(crate) fn is_type(part: &str) -> bool {
 /// `#` of C.
 pub(crate) fn undotted(name: &str) -> &str {
     let name = name.trim_start_matches('#');
+    let name = match name.split_once("_") {
+        Some((library, short)) if library.eq_ignore_ascii_case("exec") => short,
+        _ => name,
+    };
     match name.rsplit_once(".") {
         Some((before, after)) if after.len() < 2 => before,
         Some((_, after)) => after,
@@ -354,9 +359,8 @@ pub(crate) enum Instead {
     Nothing(&'static str),
 }
 
-/// What has the place of a name of Exec, of another system or of another language, as text.
-pub(crate) fn place_of(name: &str) -> Option<&'static str> {
-    let name = undotted(name);
+/// What has the place of a name that a table has. It is undotted.
+fn place_of_row(name: &str) -> Option<&'static str> {
     let found = place_of_capitals(name);
     if found.is_some() {
         return found;
@@ -364,6 +368,17 @@ pub(crate) fn place_of(name: &str) -> Option<&'static str> {
     match row_of(&NAMES, name) {
         Some(text) => Some(text),
         None => place_elsewhere(name),
+    }
+}
+
+/// What has the place of a name of Exec, of another system or of another language, as text: what a table has, or else
+/// what is said of its verb and what that is done to.
+pub(crate) fn place_of(name: &str) -> Option<&'static str> {
+    let short = undotted(name);
+    match place_of_row(short) {
+        Some(text) => Some(text),
+        None if lack_of(name).is_some() => None,
+        None => place_of_deed(short),
     }
 }
 
@@ -381,6 +396,11 @@ pub(crate) fn instead_of(name: &str) -> Option<Instead> {
         Some(text) => Some(Instead::Write(text)),
         None => Some(Instead::Nothing(lack_of(name)?)),
     }
+}
+
+/// Whether a table has a name, which is then likely no name of a label.
+pub(crate) fn is_listed(name: &str) -> bool {
+    place_of_row(undotted(name)).is_some() || lack_of(name).is_some()
 }
 
 /// The number of a constant of Exec's headers, or of several with `|` between them.

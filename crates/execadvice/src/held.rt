@@ -4,6 +4,7 @@ use crate::foreign::number_of_constants;
 use crate::keys::keys_of;
 use crate::made::Made;
 use crate::near::nearest;
+use crate::sources::source_named;
 use crate::values::{has_point, number_meant};
 use script::is_name;
 use std::alloc::Global;
@@ -52,15 +53,60 @@ fn without_point(text: &str) -> &str {
     }
 }
 
-/// The attributes of a region that are meant by a name as `chip`, without what is before it in Exec's header.
+/// The attributes of a region that are meant by a name as `chip`, with or without what is before it in Exec's header, or
+/// by several.
 fn attributes_named(alloc: Global, key: Key, text: &str) -> Made<Option<String>> {
     if key != Key::Attrs {
         return Ok(None);
     }
-    let upper = inside(text).to_ascii_uppercase(alloc)?;
-    let name = format!(in alloc; "MEMF_{}", upper.as_str())?;
-    match number_of_constants(name.as_str()) {
-        Some(number) if number <= 7 => Ok(Some(format!(in alloc; "{number}")?)),
+    let upper = text.to_ascii_uppercase(alloc)?;
+    let mut sum = 0u32;
+    let mut count = 0usize;
+    for name in upper.as_str().split(is_between_names) {
+        if !name.is_empty() {
+            let short = name.strip_prefix("MEMF_").unwrap_or(name);
+            let whole = format!(in alloc; "MEMF_{short}")?;
+            sum |= number_of_constants(whole.as_str()).unwrap_or(u32::MAX);
+            count = count.saturating_add(1);
+        }
+    }
+    if count > 0 && sum <= 7 {
+        return Ok(Some(format!(in alloc; "{sum}")?));
+    }
+    Ok(None)
+}
+
+/// Whether a character is none of a name of attributes.
+fn is_between_names(c: char) -> bool {
+    !c.is_ascii_alphanumeric() && c != '_'
+}
+
+/// How many microseconds the unit after a number is. It is in small letters.
+fn unit_of_time(text: &str) -> Option<(&str, u32)> {
+    for (unit, micros) in [("us", 1), ("ms", 1000), ("s", 1_000_000)] {
+        if let Some(digits) = text.strip_suffix(unit) {
+            return Some((digits.trim_end(), micros));
+        }
+    }
+    None
+}
+
+/// The microseconds of a tick that are meant by a number with its unit, as `20ms`.
+fn micros_of(text: &str) -> Option<u32> {
+    let (digits, micros) = unit_of_time(text)?;
+    u32::from_str_radix(digits, 10).ok()?.checked_mul(micros)
+}
+
+/// The number that is meant by a name of attributes, or by a number with a unit of time, if a key of a table may hold it.
+fn named_number(alloc: Global, of: TablePlace, key: Key, text: &str) -> Made<Option<String>> {
+    if key != Key::TickMicros {
+        return attributes_named(alloc, key, text);
+    }
+    let lower = inside(text).to_ascii_lowercase(alloc)?;
+    match micros_of(lower.as_str()) {
+        Some(micros) if may_hold(of, key, i64::from(micros)) => {
+            Ok(Some(format!(in alloc; "{micros}")?))
+        }
         _ => Ok(None),
     }
 }
@@ -71,7 +117,7 @@ fn number_held(alloc: Global, of: TablePlace, key: Key, text: &str) -> Made<Opti
     let plain = without_point(plain.as_str());
     let digits = plain.trim_start_matches('-').trim_start_matches('+');
     let Some(number) = number_meant(alloc, digits)? else {
-        return attributes_named(alloc, key, text);
+        return named_number(alloc, of, key, text);
     };
     let magnitude = i64::from(number);
     let number = if plain.starts_with("-") {
@@ -99,7 +145,11 @@ fn truth_held(alloc: Global, text: &str) -> Made<Option<String>> {
 
 /// The source that is meant by a value.
 fn source_held(alloc: Global, text: &str) -> Made<Option<String>> {
-    match nearest(alloc, inside(text), &["PORTS", "VERTB", "EXTER"])? {
+    let found = match source_named(inside(text)) {
+        Some(name) => Some(name),
+        None => nearest(alloc, inside(text), &["PORTS", "VERTB", "EXTER"])?,
+    };
+    match found {
         None => Ok(None),
         Some(name) => Ok(Some(format!(in alloc; "\"{name}\"")?)),
     }

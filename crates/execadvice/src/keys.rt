@@ -117,7 +117,7 @@ const OTHER_KEYS: [(&str, &str); 42] = [
 ];
 
 /// Names of what is in no machine file, each with what has its place.
-const ELSEWHERE: [(&str, &str); 38] = [
+const ELSEWHERE: [(&str, &str); 42] = [
     ("port", PORTS),
     ("ports", PORTS),
     ("msgport", PORTS),
@@ -156,6 +156,10 @@ const ELSEWHERE: [(&str, &str); 38] = [
     ("stack", "tasks have no stacks"),
     ("stack_size", "tasks have no stacks"),
     ("stacksize", "tasks have no stacks"),
+    ("vars", VARIABLES),
+    ("variables", VARIABLES),
+    ("locals", VARIABLES),
+    ("data", VARIABLES),
 ];
 
 /// What has the place of objects and of events in a machine file.
@@ -169,6 +173,8 @@ const SIGNALS: &str = "a task allocates a signal by x = AllocSignal -1";
 
 const SOURCES: &str =
     "a [[server]] table has its source by name: source = \"PORTS\", \"VERTB\" or \"EXTER\"";
+
+const VARIABLES: &str = "a line sets a variable, as x = Set 1, and none is declared";
 
 const TOP: &str = "the keys of the whole machine are at the top of the file, without a head";
 

@@ -4,7 +4,8 @@
 use crate::assembler::assembled;
 use crate::branches::branch_meant;
 use crate::calculations::{calculated, counted, idiom, target_of};
-use crate::foreign::{instead_of, is_type};
+use crate::foreign::{instead_of, is_listed, is_type, written_number};
+use crate::habits::{has_other_meaning, number_of_no_mask};
 use crate::interrupt_lines::may_be_in_interrupt;
 use crate::labels::labels_of;
 use crate::made::Made;
@@ -12,12 +13,16 @@ use crate::members::{name_of, position_named};
 use crate::near::nearest;
 use crate::plain::{plain_line, without_groups, without_quotes};
 use crate::reads::says_something;
-use crate::values::{quoted_meant, quoted_or_none_meant, unquoted, value_meant};
+use crate::roles::role_at;
+use crate::values::{
+    name_within, number_of_role, quoted_meant, quoted_or_none_meant, unquoted, value_meant,
+    without_quoted_number,
+};
 use crate::variables::{is_shared, is_variable};
 use crate::words::word_meant;
 use script::{Kind, Word, word_of};
 use std::alloc::Global;
-use taskscript::{fields_of, is_identifier, items_at, line_in, quoted_in};
+use taskscript::{fields_of, is_identifier, items_at, line_in, number_of, quoted_in};
 use toml::{Table, Value};
 
 /// A part without the `&` of C.
@@ -34,7 +39,8 @@ fn begins_with_object(word: Word) -> bool {
 /// The number of the part after a word that answers which is the variable for its answer, if there is one part too
 /// many. After a word that calculates it is the first part if it can be, and after another the last.
 fn target_place(word: Word, fields: &[&str]) -> Option<usize> {
-    if !word.answers() || fields.len() != word.kinds().len().saturating_add(1) {
+    let has_one_more = fields.len() == word.kinds().len().saturating_add(1);
+    if !word.answers() || !has_one_more || word.text() == "Wait" {
         return None;
     }
     let is_first = is_variable(without_address(fields.first().copied().unwrap_or("")));
@@ -74,6 +80,13 @@ fn moved<'a>(alloc: Global, fields: &[&'a str], from: usize, to: usize) -> Made<
         out.push(one)?;
     }
     Ok(out)
+}
+
+/// Whether an argument of a word that is a mask is a number that can be none.
+fn has_no_mask(word: Word, fields: &[&str]) -> bool {
+    fields.iter().enumerate().any(|(i, field)| {
+        role_at(word.text(), i) == "mask" && number_of_no_mask(*field).is_some()
+    })
 }
 
 /// The number of the argument of a word that is a name, if it takes one.
@@ -172,7 +185,7 @@ impl Mending<'_> {
     /// The number of the task of a name between double quotes, as text.
     fn task_meant(self, field: &str) -> Made<Option<String>> {
         let tasks = items_at(self.table, "task");
-        match position_named(tasks, field.trim_matches('"')) {
+        match position_named(tasks, unquoted(field)) {
             None => Ok(None),
             Some(item) => {
                 let number = item.saturating_add(1);
@@ -181,11 +194,16 @@ impl Mending<'_> {
         }
     }
 
-    /// The software interrupt of the file that a part is meant to be, between double quotes.
+    /// The software interrupt of the file that a part is meant to be, between double quotes: the one that is near, or
+    /// that has the number, from 1.
     fn softint_meant(self, field: &str) -> Made<Option<String>> {
         let softints = items_at(self.table, "softint");
         let names: Vec<&str> = softints.iter().map(name_of).collect(self.alloc)?;
-        match nearest(self.alloc, unquoted(field), &names)? {
+        let name = match number_of(field.as_bytes()) {
+            None => nearest(self.alloc, unquoted(field), &names)?,
+            Some(number) => names.get((number as usize).wrapping_sub(1)).copied(),
+        };
+        match name {
             None => Ok(None),
             Some(name) => quoted_meant(self.alloc, name),
         }
@@ -209,19 +227,29 @@ impl Mending<'_> {
         Ok(value)
     }
 
-    /// The number or the variable that a part is meant to be.
-    fn value_meant(self, field: &str) -> Made<Option<String>> {
-        match value_meant(self.alloc, field)? {
+    /// The number or the variable that a part is meant to be, which is an argument of that role.
+    fn value_meant(self, role: &str, field: &str) -> Made<Option<String>> {
+        if let Some(number) = number_of_role(self.alloc, role, field)? {
+            return Ok(Some(written_number(self.alloc, number)?));
+        }
+        match value_meant(self.alloc, without_quoted_number(field))? {
             None => Ok(None),
             Some(value) => Ok(Some(self.in_body(value)?)),
         }
     }
 
-    /// The argument that a part is meant to be. `is_task` says whether it is the number of a task.
-    fn argument_meant(self, kind: Kind, field: &str, is_task: bool) -> Made<Option<String>> {
+    /// The argument of that number, and of that kind, of a word that a part is meant to be.
+    fn argument_meant(
+        self,
+        word: Word,
+        number: usize,
+        kind: Kind,
+        field: &str,
+    ) -> Made<Option<String>> {
+        let is_task = number == 0 && takes_task(word);
         match kind {
-            Kind::Value if is_task && quoted_in(field).is_some() => self.task_meant(field),
-            Kind::Value => self.value_meant(field),
+            Kind::Value if is_task && name_within(field).is_some() => self.task_meant(field),
+            Kind::Value => self.value_meant(role_at(word.text(), number), field),
             Kind::Label => self.label_meant(field),
             Kind::Name => quoted_meant(self.alloc, field),
             Kind::NameOrNone => quoted_or_none_meant(self.alloc, field),
@@ -234,8 +262,7 @@ impl Mending<'_> {
         let Some(kind) = word.kinds().get(number).copied() else {
             return Ok(false);
         };
-        let is_task = number == 0 && takes_task(word);
-        let Some(meant) = self.argument_meant(kind, field, is_task)? else {
+        let Some(meant) = self.argument_meant(word, number, kind, field)? else {
             return Ok(false);
         };
         out.push(' ')?;
@@ -311,6 +338,7 @@ impl Mending<'_> {
         };
         match word_meant(self.alloc, *text)? {
             None => self.idiom_meant(target, &fields),
+            Some(word) if word.text() != *text && has_no_mask(word, after) => Ok(None),
             Some(word) => self.with_word(target, word, after),
         }
     }
@@ -322,6 +350,7 @@ impl Mending<'_> {
             return String::from_str(self.alloc, text);
         }
         let target = without_address(target).to_ascii_lowercase(self.alloc)?;
+        let target = target.as_str().replace(self.alloc, '-', "_")?;
         let target = self.in_body(target)?;
         format!(in self.alloc; "{target} = {text}")
     }
@@ -330,6 +359,10 @@ impl Mending<'_> {
     fn assigned(self, before: &str, after: &str) -> Made<Option<String>> {
         let (target, word) = target_of(before);
         let right = after.trim().trim_start_matches('=').trim();
+        if word_of(before.trim()).is_some() {
+            let line = format!(in self.alloc; "{} {right}", before.trim())?;
+            return self.command_meant(None, line.as_str());
+        }
         if let Some(word) = word {
             let right = format!(in self.alloc; "{word} {target} {right}")?;
             return self.command_meant(Some(target), right.as_str());
@@ -345,7 +378,7 @@ impl Mending<'_> {
     }
 
     /// Whether a line of the body sets the variable of that name.
-    fn is_set(self, name: &str) -> bool {
+    pub(crate) fn is_set(self, name: &str) -> bool {
         self.lines.iter().any(|item| sets(line_in(item), name))
     }
 
@@ -364,8 +397,9 @@ impl Mending<'_> {
         let lower = lower.as_str().to_ascii_lowercase(self.alloc)?;
         let name = lower.as_str().trim_end_matches(':');
         let first = line.split(' ').next().unwrap_or("");
-        let is_foreign = instead_of(first).is_some();
-        let is_call = is_foreign || word_meant(self.alloc, first)?.is_some();
+        let is_foreign = is_listed(first);
+        let is_deed = !is_foreign && instead_of(first).is_some();
+        let is_call = is_foreign || !is_deed && word_meant(self.alloc, first)?.is_some();
         if !is_identifier(name.as_bytes()) || is_call && !is_foreign {
             return Ok(None);
         }
@@ -394,7 +428,8 @@ impl Mending<'_> {
             return self.again(step.as_str());
         }
         match line.split_once(" ") {
-            Some((target, rest)) if is_variable(target) && begins_with_word(rest) => {
+            Some((target, rest))
+                if is_variable(target) && begins_with_word(rest) && !is_listed(target) => {
                 self.assigned(target, rest)
             }
             _ => self.line_of_parts(line),
@@ -445,7 +480,7 @@ impl Mending<'_> {
     /// The line that is meant by another one, if that can be told as a whole: a line that says something, and may be
     /// in the body.
     pub(crate) fn line_meant(self, line: &str) -> Made<Option<String>> {
-        if is_store(line) || is_declaration(line) {
+        if is_store(line) || is_declaration(line) || has_other_meaning(line) {
             return Ok(None);
         }
         let found = self.meant_by(line)?;

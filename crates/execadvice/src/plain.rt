@@ -142,7 +142,8 @@ pub(crate) fn without_quotes(line: &str) -> &str {
 /// A line as it is without the punctuation, the casts, the declarations and the comments of other languages, and with
 /// no spaces at `<<` and `|`.
 pub(crate) fn plain_line(alloc: Global, line: &str) -> Made<String> {
-    let plain = without_punctuation(alloc, before_comment(line))?;
+    let line = before_comment(line).replace(alloc, "IExec->", "")?;
+    let plain = without_punctuation(alloc, line.as_str())?;
     let typeless = without_types(alloc, without_number(plain.as_str()))?;
     with_close_operators(alloc, typeless.as_str())
 }

@@ -83,3 +83,53 @@ pub(crate) fn roles_of(text: &str) -> Option<&'static str> {
         None => row_of(&OBJECT_ROLES, text),
     }
 }
+
+/// What the argument of a word is that has that number, from 0; the empty text if nothing more than its kind is said.
+pub(crate) fn role_at(text: &str, number: usize) -> &'static str {
+    match roles_of(text) {
+        None => "",
+        Some(roles) => roles.split(", ").nth(number).unwrap_or(""),
+    }
+}
+
+/// What is said of a text where an argument is a number or a variable, by the first word of what it is.
+const TEXTS: [(&str, &str); 10] = [
+    (
+        "message",
+        "a message is named by its address here, which m = NewMsg p VALUE returns",
+    ),
+    (
+        "list",
+        "a list is named by its address here, which l = NewList returns",
+    ),
+    (
+        "node",
+        "a node is named by its address here, which n = NewNode 0 \"NAME\" returns",
+    ),
+    (
+        "predecessor",
+        "a node is named by its address here, which n = NewNode 0 \"NAME\" returns",
+    ),
+    (
+        "request",
+        "a request is named by its address here, which r = CreateIORequest p returns",
+    ),
+    (
+        "base",
+        "a library is named by its base here, which b = OpenLibrary \"NAME\" 0 returns",
+    ),
+    (
+        "word",
+        "a message has one word, which is a number; there are no texts",
+    ),
+    ("mask", NO_NAMES),
+    ("new", NO_NAMES),
+    ("signal", NO_NAMES),
+];
+
+const NO_NAMES: &str = "a signal has no name: $1000 is the mask of signal 12";
+
+/// What is said of a text where an argument of a word is a number or a variable.
+pub(crate) fn text_reason(role: &str) -> Option<&'static str> {
+    row_of(&TEXTS, role.split(' ').next().unwrap_or(""))
+}

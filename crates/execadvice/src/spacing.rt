@@ -6,6 +6,9 @@ use crate::show::{Advice, Span, field_span};
 use escape::is_hidden;
 use std::alloc::Global;
 
+/// What is said of a semicolon at the end of a line.
+pub(crate) const SEMICOLON: &str = "remove the semicolon at the end of the line";
+
 /// What a part is that no line has, if it is one: a comment, or one with a comma or a semicolon at its end.
 fn reason_of(part: &str) -> Option<&'static str> {
     let marks = ["#", ";", "//", "/*"];
@@ -14,11 +17,14 @@ fn reason_of(part: &str) -> Option<&'static str> {
     } else if part.ends_with(",") {
         Some("put one space in place of the comma")
     } else if part.ends_with(";") {
-        Some("remove the semicolon at the end of the line")
+        Some(SEMICOLON)
     } else {
         None
     }
 }
+
+/// What is said of a semicolon between two parts.
+const WITHIN: &str = "a line has no semicolon, and each command has a line of its own";
 
 /// Why no space may be there.
 fn space_reason(line: &str, start: usize) -> &'static str {
@@ -37,6 +43,12 @@ fn space_reason(line: &str, start: usize) -> &'static str {
 fn parts_advice(alloc: Global, line: &str, parts: &[&str]) -> Made<Option<Advice>> {
     for (i, part) in parts.iter().enumerate() {
         if let Some(reason) = reason_of(*part) {
+            let is_last = i.saturating_add(1) == parts.len();
+            let reason = if is_last || reason != SEMICOLON {
+                reason
+            } else {
+                WITHIN
+            };
             return Ok(Some(Advice::new(alloc, field_span(line, i), reason)?));
         }
     }

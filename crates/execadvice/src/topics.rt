@@ -37,10 +37,12 @@ const SHOWS: &str = "Print x shows a number";
 
 const GRAPHICS: &str = "there is Exec alone, with timer.device, and nothing is drawn";
 
+const EACH: &str = "Signal TASK MASK signals one task: a line for each that waits";
+
 const WHOLE_COMMANDS: &str = "each command is done whole, as @x = Add @x 1";
 
 /// Parts of names in small letters, each with the words for what a name is about that has it. The first counts.
-const TOPICS: [(&str, &str); 66] = [
+const TOPICS: [(&str, &str); 68] = [
     ("atomic", WHOLE_COMMANDS),
     ("interlocked", WHOLE_COMMANDS),
     ("window", GRAPHICS),
@@ -88,6 +90,8 @@ const TOPICS: [(&str, &str); 66] = [
     ("task", TASKS),
     ("process", TASKS),
     ("priority", TASKS),
+    ("broadcast", EACH),
+    ("publish", EACH),
     ("sig", SIGNALS),
     ("event", SIGNALS),
     ("notif", SIGNALS),

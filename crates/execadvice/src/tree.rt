@@ -64,6 +64,18 @@ fn holds_tables(own: &Table, key: &str) -> bool {
     }
 }
 
+/// Whether what a table has at a key is a table that has a code, or an array whose first item is one.
+fn has_code(own: &Table, key: &str) -> bool {
+    let Some(value) = member(own, key) else {
+        return false;
+    };
+    let first = items_at(own, key).first().unwrap_or(value);
+    match first.as_table() {
+        None => false,
+        Some(table) => member(table, "code").is_some(),
+    }
+}
+
 /// What is at a place.
 fn held_text(alloc: Global, value: &Value) -> Made<String> {
     if let Some(z) = value.as_integer() {
@@ -99,9 +111,10 @@ fn marked_line(own: &Table, key: Key, fault: FileFault) -> Option<usize> {
     }
 }
 
-/// What is said besides of a text of several lines.
-fn lines_reason(value: &Value) -> &'static str {
+/// What is said besides of a text of several lines, and of several sources.
+fn more_reason(key: Key, value: &Value) -> &'static str {
     match value.as_str() {
+        None if key == Key::Source && value.is_array() => "; each source has a server of its own",
         Some(text) if text.trim().contains('\n') => {
             "; each line is a string of its own, as [\"Print 1\", \"Print 2\"]"
         }
@@ -121,7 +134,7 @@ fn bad_value_reason(alloc: Global, own: &Table, key: Key, wanted: &str) -> Made<
             format!(in alloc; "{name}: expected {wanted}, but line {number} is not a string")
         }
         _ => {
-            let (held, more) = (held_text(alloc, value)?, lines_reason(value));
+            let (held, more) = (held_text(alloc, value)?, more_reason(key, value));
             format!(in alloc; "{name}: expected {wanted}, found {held}{more}")
         }
     }
@@ -231,9 +244,13 @@ impl<'a> File<'a> {
             }
             _ => None,
         };
+        let array = match array_meant(of, near) {
+            None if of == TablePlace::Top && has_code(&self.table, key) => Some(Array::Task),
+            array => array,
+        };
         Ok(Wrong {
             words: self.key_words(of, key)?,
-            reason: self.unknown_reason(of, key, array_meant(of, near), fix.is_some())?,
+            reason: self.unknown_reason(of, key, array, fix.is_some())?,
             part,
             fix,
         })

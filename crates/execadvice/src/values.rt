@@ -7,7 +7,7 @@ use crate::reads::is_number;
 use crate::variables::is_variable;
 use script::is_name;
 use std::alloc::Global;
-use taskscript::quoted_in;
+use taskscript::{number_of, quoted_in};
 
 /// Whether a part is a number or a variable.
 pub(crate) fn is_value(part: &str) -> bool {
@@ -63,7 +63,7 @@ fn number_of_units(text: &str) -> Option<u32> {
 }
 
 /// Whether the first character of a text is a decimal digit.
-fn is_begun_by_digit(text: &str) -> bool {
+pub(crate) fn is_begun_by_digit(text: &str) -> bool {
     text.as_bytes()
         .first()
         .copied()
@@ -94,6 +94,12 @@ fn number_in(alloc: Global, text: &str) -> Made<Option<u32>> {
     let named = number_of_constants(text);
     if named.is_some() {
         return Ok(named);
+    }
+    if let Some(rest) = text.strip_prefix("~") {
+        return Ok(match number_of(rest.as_bytes()) {
+            None => None,
+            Some(number) => Some(!number),
+        });
     }
     let text = without_suffix(alloc, text)?;
     let lower = text.as_str().to_ascii_lowercase(alloc)?;
@@ -152,9 +158,17 @@ pub(crate) fn shell_variable(field: &str) -> Option<&str> {
     }
 }
 
+/// Whether a part is a number in base 16 of BASIC, as `&H1000`.
+pub(crate) fn is_basic_number(alloc: Global, field: &str) -> Made<bool> {
+    Ok(field.starts_with("&") && number_in(alloc, field)?.is_some())
+}
+
 /// The variable that a part is meant to be, if there is one: with small letters, and without the `&` of C and the `$` of
 /// the shell.
 fn variable_meant(alloc: Global, field: &str) -> Made<Option<String>> {
+    if is_basic_number(alloc, field)? {
+        return Ok(None);
+    }
     let name = shell_variable(field).unwrap_or(field);
     let lower = name.trim_start_matches('&').to_ascii_lowercase(alloc)?;
     Ok(if is_variable(lower.as_str()) && !is_constant(field) {
@@ -164,17 +178,61 @@ fn variable_meant(alloc: Global, field: &str) -> Made<Option<String>> {
     })
 }
 
+/// What is before the names of the constants that an argument may be, by what it is, with a space between two.
+fn prefixes_of(role: &str) -> &'static str {
+    match role {
+        "requirements" => "MEMF_",
+        "mask" => "SIGBREAKF_",
+        "unit" => "UNIT_",
+        "command" => "TR_ CMD_",
+        _ => "",
+    }
+}
+
+/// The number of a constant without what is before its name in Exec's headers, as `CHIP`, or of several with `|`
+/// between them. `prefix` is what is before it.
+fn number_after(alloc: Global, prefix: &str, field: &str) -> Made<Option<u32>> {
+    let mut sum = 0u32;
+    for name in field.split('|') {
+        let whole = format!(in alloc; "{prefix}{name}")?;
+        match number_of_constants(whole.as_str()) {
+            None => return Ok(None),
+            Some(number) => sum |= number,
+        }
+    }
+    Ok(Some(sum))
+}
+
+/// The number of a constant that an argument is without what is before its name in Exec's headers, by what the argument
+/// is.
+pub(crate) fn number_of_role(alloc: Global, role: &str, field: &str) -> Made<Option<u32>> {
+    for prefix in prefixes_of(role).split(' ') {
+        if !prefix.is_empty() {
+            let found = number_after(alloc, prefix, field)?;
+            if found.is_some() {
+                return Ok(found);
+            }
+        }
+    }
+    Ok(None)
+}
+
 /// Names of signals of other systems, which have no number here.
 const POSIX_SIGNALS: [&str; 7] = [
     "SIGINT", "SIGTERM", "SIGKILL", "SIGALRM", "SIGHUP", "SIGUSR1", "SIGCHLD",
 ];
 
+/// Whether a part is the name of a signal of another system.
+pub(crate) fn is_posix_signal(field: &str) -> bool {
+    POSIX_SIGNALS.iter().any(|name| field == *name)
+}
+
 /// Whether a part is written as the constants of C are: in capital letters, with `_`, or it is one of those that are
 /// known.
 pub(crate) fn is_constant(field: &str) -> bool {
     let has_small = field.as_bytes().iter().any(|b| b.is_ascii_lowercase());
-    let is_posix = POSIX_SIGNALS.iter().any(|name| field == *name);
-    field.contains('_') && !has_small || is_posix || number_of_constants(field).is_some()
+    let is_known = is_posix_signal(field) || number_of_constants(field).is_some();
+    field.contains('_') && !has_small || is_known
 }
 
 /// The number or the variable that a part is meant to be, if there is one.
@@ -196,12 +254,35 @@ pub(crate) fn value_meant(alloc: Global, field: &str) -> Made<Option<String>> {
     }
 }
 
+/// Whether a character begins or ends a text in other languages, or in print.
+fn is_quote(c: char) -> bool {
+    match c {
+        '"' | '\'' | '`' | '\u{2018}' | '\u{2019}' | '\u{201C}' | '\u{201D}' => true,
+        _ => false,
+    }
+}
+
 /// A part without quotes, and without the `&` of C.
 pub(crate) fn unquoted(field: &str) -> &str {
-    field
-        .trim_start_matches('&')
-        .trim_matches('"')
-        .trim_matches('\'')
+    field.trim_start_matches('&').trim_matches(is_quote)
+}
+
+/// The name that a part has between quotes of whatever form, if it is one.
+pub(crate) fn name_within(field: &str) -> Option<&str> {
+    let inside = field.trim_matches(is_quote);
+    if inside.len() < field.len() && is_name(inside.as_bytes()) {
+        Some(inside)
+    } else {
+        None
+    }
+}
+
+/// A part without the quotes around it, if it is a number between them.
+pub(crate) fn without_quoted_number(field: &str) -> &str {
+    match name_within(field) {
+        Some(inside) if is_number(inside) || number_of_constants(inside).is_some() => inside,
+        _ => field,
+    }
 }
 
 /// The name between double quotes that a part is meant to be, if there is one.

@@ -97,6 +97,14 @@ pub(crate) fn word_near(alloc: Global, text: &str) -> Made<Option<&'static str>>
     })
 }
 
+/// The word that a text is in whatever case.
+pub(crate) fn word_in_any_case(alloc: Global, text: &str) -> Made<Option<Word>> {
+    match same_letters(text, &word_texts(alloc)?) {
+        None => Ok(None),
+        Some(same) => Ok(word_of(same)),
+    }
+}
+
 /// Whether one of some parts is a number.
 fn has_number(parts: &[&str]) -> bool {
     parts
