@@ -1154,8 +1154,7 @@ impl Line<'_, '_, '_> {
         let is_wordless = self.meant.is_some()
             && without_word(alloc, self.text)? != Wordless::Never;
         if is_wordless || self.gains_set(fields) {
-            let has_two = self.text.contains(" == ");
-            return String::from_str(alloc, if has_two { EQUALS } else { "a word is missing" });
+            return String::from_str(alloc, "a word is missing");
         }
         if at == 0 && is_event(self.text) {
             return String::from_str(alloc, EVENT);
@@ -1391,7 +1390,9 @@ impl Line<'_, '_, '_> {
             return Ok(Some(String::from_str(self.alloc, reason)?));
         }
         if self.meant.is_some() && without_word(self.alloc, plain)? == Wordless::Sets {
-            return Ok(Some(String::from_str(self.alloc, "a word is missing")?));
+            let has_two = self.text.contains(" == ");
+            let reason = if has_two { EQUALS } else { "a word is missing" };
+            return Ok(Some(String::from_str(self.alloc, reason)?));
         }
         if self.text.contains('(') && (self.meant.is_some() || word_of(first).is_some()) {
             return Ok(Some(self.call_reason(parts)?));

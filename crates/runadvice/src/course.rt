@@ -70,12 +70,12 @@ pub struct Course<'a> {
     pub ticks: u64,
     /// How many ticks and requests of interrupts there were.
     passed: u64,
+    /// The number of the last step among steps, ticks and requests.
+    pub stepped: u64,
     /// The last step that ended a task or did nothing.
     fresh: u64,
     /// The last step that did no command of a task.
     pub other: u64,
-    /// The same, by its number among steps, ticks and requests.
-    pub other_seen: u64,
     /// The event in which an alert stopped the machine.
     pub stopped_in: Option<Event>,
     /// Whether nothing was lost when memory was refused.
@@ -217,9 +217,9 @@ impl<'a> Course<'a> {
             steps: 0,
             ticks: 0,
             passed: 0,
+            stepped: 0,
             fresh: 0,
             other: 0,
-            other_seen: 0,
             stopped_in: None,
             is_whole: true,
         })
@@ -341,12 +341,6 @@ impl<'a> Course<'a> {
         }
     }
 
-    /// Notes a step that did no command of a task.
-    fn note_other(&mut self) {
-        self.other = self.steps;
-        self.other_seen = self.moment();
-    }
-
     /// Notes at the end of a quantum which tasks are ready and do not run.
     fn note_kept(&mut self, machine: &Linked) {
         if !ends_quantum(self.ticks, self.file.quantum()) {
@@ -368,7 +362,7 @@ impl<'a> Course<'a> {
     fn note_task(&mut self, machine: &Linked, turn: TaskPlace) {
         let Some(command) = self.command(turn) else {
             self.fresh = self.steps;
-            self.note_other();
+            self.other = self.steps;
             return;
         };
         if !prints(command.word) {
@@ -590,7 +584,7 @@ impl<'a> Course<'a> {
             }
             _ => {}
         }
-        self.note_other();
+        self.other = self.steps;
         if machine.view().running.is_none() {
             self.fresh = self.steps;
         }
@@ -651,7 +645,8 @@ impl<'a> Course<'a> {
         match one {
             Event::Run(steps) => {
                 self.steps = self.steps.saturating_add(u64::from(steps));
-                When::Step(self.moment())
+                self.stepped = self.moment();
+                When::Step(self.stepped)
             }
             Event::Tick(_) => {
                 self.ticks = self.ticks.saturating_add(1);

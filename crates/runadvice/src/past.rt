@@ -14,8 +14,6 @@ const LONGEST: u32 = 1000;
 pub struct Past {
     /// In which it was done, or its task went on to wait in it.
     pub visited: u64,
-    /// The same, by its number among steps, ticks and requests.
-    pub seen: u64,
     /// In which it was done.
     pub done: u64,
     /// The same, by its number among steps, ticks and requests.
@@ -26,7 +24,6 @@ impl Past {
     /// No step.
     pub const NONE: Past = Past {
         visited: 0,
-        seen: 0,
         done: 0,
         moment: 0,
     };
@@ -65,12 +62,10 @@ impl TaskPast {
             if past.done == 0 {
                 self.fresh = step;
             }
-            let moment = step.saturating_add(self.passed);
             *past = Past {
                 visited: step,
-                seen: moment,
                 done: step,
-                moment,
+                moment: step.saturating_add(self.passed),
             };
         }
     }
@@ -79,7 +74,6 @@ impl TaskPast {
     pub fn note_waiting(&mut self, place: usize, step: u64) {
         if let Some(past) = self.commands.get_mut(place) {
             past.visited = step;
-            past.seen = step.saturating_add(self.passed);
         }
     }
 

@@ -25,23 +25,13 @@ pub struct Running {
     is_one_over: bool,
 }
 
-/// The last steps, of which each was in a loop, by their numbers among steps, ticks and requests.
-#[derive(Clone, Copy)]
-struct Stay {
-    /// How many steps they are, without ticks and requests.
-    count: u64,
-    /// The first number, and the last one of the run.
-    first: u64,
-    last: u64,
-}
-
 /// What is said of tasks that run in a loop.
 #[derive(Clone, Copy)]
 struct Looped {
     /// That they run without end, or may.
     claim: &'static str,
-    /// The steps that were in the loop.
-    stay: Stay,
+    /// How many of the last steps were in the loop.
+    steps: u64,
     /// What the steps come to.
     effect: &'static str,
 }
@@ -108,26 +98,16 @@ impl Scene<'_, '_> {
         }))
     }
 
-    /// The last steps that were all in a part of the code.
-    fn stay_in(&self, lap: &Lap) -> Result<Stay, AllocError> {
+    /// How many of the last steps were in a part of the code.
+    fn steps_in(&self, lap: &Lap) -> Result<u64, AllocError> {
         let course = self.course;
-        let (mut before, mut seen) = if lap.has_softint {
-            (0u64, 0u64)
-        } else {
-            (course.other, course.other_seen)
-        };
+        let mut before = if lap.has_softint { 0 } else { course.other };
         for turn in course.visited_after(self.alloc, 0)?.iter() {
             if !lap.has(*turn) {
-                let past = course.past(*turn);
-                before = before.max(past.visited);
-                seen = seen.max(past.seen);
+                before = before.max(course.past(*turn).visited);
             }
         }
-        Ok(Stay {
-            count: course.steps.saturating_sub(before),
-            first: seen.saturating_add(1),
-            last: course.moment(),
-        })
+        Ok(course.steps.saturating_sub(before))
     }
 
     /// What the last steps did, each of which was one of a task or a software interrupt.
@@ -177,17 +157,18 @@ impl Scene<'_, '_> {
         Ok(text)
     }
 
-    /// Which steps were in a part of the code, or are: the last ones, or if there are none the next ones.
-    fn steps_text(&self, stay: Stay) -> Result<String, AllocError> {
-        if stay.count == 0 {
+    /// Which steps were in a part of the code, or are: the last ones, that many, or for 0 the next ones. The last of them has its number among steps,
+    /// ticks and requests.
+    fn steps_text(&self, steps: u64) -> Result<String, AllocError> {
+        if steps == 0 {
             return format!(in self.alloc; "the next steps are all");
         }
-        let first = grouped(self.alloc, stay.first)?;
-        if stay.first == stay.last {
-            return format!(in self.alloc; "step {first} was");
+        let last = grouped(self.alloc, self.course.stepped)?;
+        if steps == 1 {
+            return format!(in self.alloc; "step {last} was");
         }
-        let last = grouped(self.alloc, stay.last)?;
-        format!(in self.alloc; "steps {first} to {last} were all")
+        let steps = grouped(self.alloc, steps)?;
+        format!(in self.alloc; "the last {steps} steps, up to step {last}, were all")
     }
 
     /// Adds that tasks run without end, or may, in the parts of the code that a lap has, with what its steps come to.
@@ -201,10 +182,10 @@ impl Scene<'_, '_> {
         let alloc = self.alloc;
         let Looped {
             claim,
-            stay,
+            steps,
             effect,
         } = looped;
-        let steps = self.steps_text(stay)?;
+        let steps = self.steps_text(steps)?;
         let parts = self.stretches_text(page, lap)?;
         let (parts, ready) = (parts.as_str(), running.ready.as_str());
         let changers = if lap.is_shut {
@@ -303,18 +284,18 @@ impl Scene<'_, '_> {
         lap: Option<Lap>,
     ) -> Result<(), AllocError> {
         if let Some(lap) = lap {
-            let stay = self.stay_in(&lap)?;
+            let steps = self.steps_in(&lap)?;
             let looped = Looped {
                 claim: claim_of(&lap, true),
-                stay,
-                effect: effect_of(&lap, stay.count > 0),
+                steps,
+                effect: effect_of(&lap, steps > 0),
             };
             return self.add_loop(page, running, &lap, looped);
         }
         if let Some(lap) = self.shut_lap(running)? {
             let looped = Looped {
                 claim: claim_of(&lap, true),
-                stay: self.stay_in(&lap)?,
+                steps: self.steps_in(&lap)?,
                 effect: "; no line leads out of there",
             };
             return self.add_loop(page, running, &lap, looped);
@@ -323,7 +304,7 @@ impl Scene<'_, '_> {
             let lap = self.recent_lap()?;
             let looped = Looped {
                 claim: claim_of(&lap, false),
-                stay: self.stay_in(&lap)?,
+                steps: self.steps_in(&lap)?,
                 effect: "",
             };
             return self.add_loop(page, running, &lap, looped);
