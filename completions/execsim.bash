@@ -47,7 +47,7 @@ _execsim() {
         case $is_path$option$it in
         *=) ;;
         --state | --from | --to | --at | --task | --extra | --of | --see | --part | --events | --record | --explore | --quantum | --accesses | --jobs | \
-            --color | --serves | --explain)
+            --color | --serves | --explain | --must | --expect)
             option=$it used+="$it "
             ;;
         --cc | --cflags | --keep) option=$it used+="$it= " ;;
@@ -70,7 +70,7 @@ _execsim() {
     --of) compopt -o nospace 2>/dev/null; _execsim_offer "$(_execsim_kinds)" && return ;;
     --accesses) _execsim_offer $'shared\nnone' && return ;;
     --cc) _execsim_offer $'gcc\nclang' && return ;;
-    --record | --keep) endings=('') ;;
+    --record | --keep | --expect) endings=('') ;;
     ?*) return ;;
     esac
     if [[ $word == -* && -z $is_path$option ]]; then
@@ -78,10 +78,10 @@ _execsim() {
         [[ $command == execsim || $command == execc ]] || options+=' --version'
         [[ $command != execcheck ]] || options+=' --short --json --color --serves --fix --explain --lsp'
         [[ $command != execlog ]] || options+=' --plain-words --json --svg --chrome --state --from --to --at --task'
-        [[ $command != execexplore ]] || options+=' --extra --of --see --part --events --progress --sum --all'
+        [[ $command != execexplore ]] || options+=' --extra --of --see --part --events --progress --sum --all --must --expect'
         [[ $command != execc ]] || options+=' --log --check --svg --state --record --explore --of --events --twice --quantum --accesses --jobs --cc= --cflags= --keep='
         for it in $options; do
-            [[ $used == *" $it "* && $it != --serves ]] || _execsim_offer "$it"
+            [[ $used == *" $it "* && $it != --serves && $it != --must ]] || _execsim_offer "$it"
             [[ $it != *= || ${COMPREPLY[*]} != *= ]] || compopt -o nospace 2>/dev/null
         done
         return

@@ -80,6 +80,8 @@ complete -c execexplore -l events -x -d 'Print the events of the first way of an
 complete -c execexplore -l progress -d 'Report how far the search is'
 complete -c execexplore -l sum -d 'Print the report of the whole, of the reports of all parts'
 complete -c execexplore -l all -d 'Try every list of events'
+complete -c execexplore -l must -x -d 'Say whether a line holds in all ways'
+complete -c execexplore -l expect -r -F -d 'Say the same of the lines of a file'
 complete -c execexplore -n __execsim_sums -F
 complete -c execc -f
 complete -c execc -s h -l help -d 'Print the help'

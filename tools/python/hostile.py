@@ -54,6 +54,7 @@ COMMANDS = [
     ("execlog", "--svg"),
     ("execlog", "--chrome"),
     ("execexplore", "--see", "trace"),
+    ("execexplore", "--must", "never alert"),
 ]
 ALONE = [("execcheck",), ("execexplore", "--all")]
 # Of a machine file that has such a character as it is most commands say only that it is no TOML.

@@ -1,6 +1,7 @@
 //! How the process called the program: by which command's name, and whether it asks for the version.
 ghost use Rattle.std.specs.Prelude.{◌≡◌, ◌≤◌};
 
+use crate::asking::asks_for_expectations;
 use crate::command::{Command, command_called};
 use crate::version::print_version;
 use std::env::{Env, FillError};
@@ -45,7 +46,7 @@ fn refuse_name<E: Write>(err: &mut E) -> u8
     COMMAND_LINE_REFUSED
 }
 
-/// Searches the ways of a run, or all states of a machine if a word of the command line asks for that.
+/// Searches the ways of a run; or all states of a machine, or whether something holds in all ways, if a word of the command line asks for that.
 fn explore<R: Env + Files + Clock + AllocGlobal, W: Write + Drop, E: Write + IsTerminal>(
     rt: &R,
     out: W,
@@ -55,6 +56,9 @@ fn explore<R: Env + Files + Clock + AllocGlobal, W: Write + Drop, E: Write + IsT
 {
     if everystate::asks_for_all(rt) {
         return everystate::run_on_arguments(rt, out, err);
+    }
+    if asks_for_expectations(rt) {
+        return everyway::run_on_arguments(rt, out, err);
     }
     execexplore::run_on_arguments(rt, out, err)
 }

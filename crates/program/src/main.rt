@@ -1,6 +1,7 @@
 //! The program of all commands: it does the command by whose name it is called.
 #![tactic(auto)]
 
+mod asking;
 mod calling;
 mod command;
 mod version;

@@ -1,0 +1,4 @@
+pub mod Texts
+pub mod Reports
+pub mod CommandLine
+pub mod Written

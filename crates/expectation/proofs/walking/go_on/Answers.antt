@@ -1,0 +1,6 @@
+-- The machine has done the event.
+use Rattle.std.proofs.Common.{refl}
+use Rattle.expectation.proofs.walking.go_on.Goals as goal
+
+pub returns-in-Ok-clause-agrees : goal.returns-in-Ok-clause-agrees
+returns-in-Ok-clause-agrees c = λ s at. (c.in-Ok.ensures.acts c.requires.whole).agrees s at refl

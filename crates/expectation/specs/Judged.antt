@@ -1,0 +1,60 @@
+-- What is found of some ways: how many meet what an expectation names, and the events after which the first of these does.
+use Rattle.std.specs.Prelude.{◌≡◌, ◌<◌, ◌≤◌, ◌+◌, ◌==◌, ◌&&◌, ℕ, Bool, true, false, All, List, [], ◌∷◌, length, take, Option, None, Some, IfSome, if◌then◌else◌}
+use Rattle.std.specs.Global.{Vec}
+use Rattle.script.specs.{File.MachineData, declared.event.Event.Event}
+use Rattle.ways.specs.{Rules.IsOneOf, Tables.number_where, Tables.one_if}
+use Rattle.expectation.specs.{Expectations.meets, declared.expectation.Expectation.Expectation, declared.judging.Verdict.Verdict}
+
+-- ---- the shortest beginning
+
+-- The run of that many events of a list meets what is named, and that of fewer does not.
+pub record IsSoonest (line : Expectation) (machine : MachineData) (way : List Event) (n : ℕ) : Type 0 where
+  pub within : n ≤ length way
+  pub comes : meets line machine (take n way) ≡ true
+  pub sooner : (m : ℕ) → m < n → meets line machine (take m way) ≡ false
+
+-- These events are the beginning of a list after which its run first meets what is named.
+pub record ComesFirst (line : Expectation) (machine : MachineData) (way events : List Event) : Type 0 where
+  pub number : ℕ
+  pub soonest : IsSoonest line machine way number
+  pub are : events ≡ take number way
+
+-- The run of one of some lists meets what is named, and these events are the beginning after which it first does.
+pub record IsFirst (line : Expectation) (machine : MachineData) (ways : List (List Event)) (events : List Event) : Type 0 where
+  pub way : List Event
+  pub is_way : IsOneOf ways way
+  pub comes : meets line machine way ≡ true
+  pub first : ComesFirst line machine way events
+
+-- the run of no list meets what is named
+abbrev pub NoneMeets : Expectation → MachineData → List (List Event) → Type 0
+NoneMeets line machine ways = All (λ (way : List Event). meets line machine way ≡ false) ways
+
+-- either no run meets it, or these events are the beginning of one after which it first does
+abbrev pub IsFound : Expectation → MachineData → List (List Event) → Option (Vec Event) → Type 0
+IsFound line machine ways None = NoneMeets line machine ways
+IsFound line machine ways (Some events) = IsFirst line machine ways events.items
+
+-- The number of lists whose run meets what is named, and the first events after which one does.
+pub record IsVerdict (line : Expectation) (machine : MachineData) (ways : List (List Event)) (verdict : Verdict) : Type 0 where
+  pub counts : verdict.count ≡ number_where (meets line machine) ways
+  pub found : IsFound line machine ways verdict.first
+
+-- ---- what notes the ways
+
+-- what is looked for in which machine, how many ways so far meet it, and the first of them, if there is one
+pub record Judging : Type 0 where
+  pub file : MachineData
+  pub line : Expectation
+  pub count : ℕ
+  pub first : List Event
+
+-- the way that is kept, after one way more
+abbrev pub kept : (is_met : Bool) (count : ℕ) (first way : List Event) → List Event
+kept is_met count first way = if is_met && count == 0 then way else first
+
+-- after one way more
+abbrev pub noted : Judging → List Event → Judging
+noted j way =
+    let is_met = meets j.line j.file way in
+    record j { count = j.count + one_if is_met; first = kept is_met j.count j.first way }

@@ -1,0 +1,159 @@
+//! Whether an expectation holds of the ways of a frame.
+ghost use Rattle.std.specs.Prelude.{◌≡◌, ◌+◌, ◌≤◌, [], true, length, IfOk, OnOk};
+ghost use Rattle.ways.specs.{Ways.part_of, Ways.ways as ways_of, Tables.one_if};
+ghost use Rattle.expectation.specs.{Expectations.meets, Judged.ComesFirst, Judged.IsVerdict, Judged.Judging, Judged.kept, Judged.noted};
+
+use crate::beginning::soonest;
+use crate::expectation::Expectation;
+use crate::meeting::{Bench, meets};
+use script::{Event, MachineFile};
+use std::alloc::{AllocError, Global};
+use std::marker::Model;
+use ways::{SearchFault, Sizes, Visitor, Window, visit_part};
+
+/// What is found of some ways.
+#[derive(Drop)]
+pub struct Verdict {
+    /// How many of them meet what the expectation names.
+    pub count: u64,
+    /// The events after which the first of these ways first meets it; none if no way does.
+    pub first: Option<Vec<Event>>,
+}
+
+/// Notes which ways meet what an expectation names.
+#[derive(Drop)]
+pub struct WayJudge<'a> {
+    alloc: Global,
+    file: &'a MachineFile,
+    line: &'a Expectation,
+    bench: Bench,
+    count: u64,
+    // The first way that does, if one does.
+    first: Vec<Event>,
+}
+
+impl<'a> Model for WayJudge<'a> {
+    ghost use Rattle.expectation.specs.Judged.{Judging};
+
+    ghost Value = { Judging };
+
+    ghost view = { λ j. record { file = j.file.now; line = j.line.now; count = j.count; first = j.first.items } };
+}
+
+/// One more, if it is so.
+fn counted(number: u64, is_so: bool) -> Result<u64, SearchFault>
+    ensures { IfOk result (λ more. more ≡ number + one_if is_so) }
+{
+    if !is_so {
+        return Ok(number);
+    }
+    match number.checked_add(1) {
+        None => Err(SearchFault::TooManyOutcomes),
+        Some(more) => Ok(more),
+    }
+}
+
+/// Keeps a way that meets what is named, if it is the first.
+fn keep(first: &mut Vec<Event>, is_met: bool, count: u64, way: &[Event]) -> Result<(), AllocError>
+    ensures { OnOk result (first.new.items ≡ kept is_met count first.old.items way.now) }
+{
+    if is_met && count == 0 {
+        first.clear();
+        first.extend_from_slice(way)?;
+    }
+    Ok(())
+}
+
+impl<'a> Visitor for WayJudge<'a> {
+    ghost use Rattle.expectation.specs.Judged.{noted};
+
+    ghost after = { λ j way. noted j way };
+
+    fn visit(&mut self, way: &[Event]) -> Result<(), SearchFault> {
+        let met = meets(self.alloc, &mut self.bench, self.file, self.line, way)?;
+        keep(&mut self.first, met, self.count, way)?;
+        self.count = counted(self.count, met)?;
+        Ok(())
+    }
+}
+
+impl<'a> WayJudge<'a> {
+    /// A judge of no ways.
+    fn new(
+        alloc: Global,
+        file: &'a MachineFile,
+        line: &'a Expectation,
+    ) -> Result<WayJudge<'a>, AllocError>
+        ensures { IfOk result (λ judge. judge ≡ record { file = file.now; line = line.now; count = 0; first = [] }) }
+    {
+        Ok(WayJudge {
+            alloc,
+            file,
+            line,
+            bench: Bench::new(alloc, file)?,
+            count: 0,
+            first: Vec::new(alloc),
+        })
+    }
+}
+
+impl<'a> WayJudge<'a> {
+    /// The first way that meets what is named, if one does.
+    fn into_first(self) -> Vec<Event>
+        ensures { result.items ≡ self.entry.first }
+    {
+        self.first
+    }
+}
+
+/// The first events of a way, as many as it takes to meet what an expectation names.
+fn first_of(
+    alloc: Global,
+    bench: &mut Bench,
+    file: &MachineFile,
+    line: &Expectation,
+    way: &[Event],
+) -> Result<Vec<Event>, SearchFault>
+    requires { meets line.now file.now way.now ≡ true }
+    ensures { IfOk result (λ events. ComesFirst line.now file.now way.now events.items) }
+{
+    let number = soonest(alloc, bench, file, line, way)?;
+    let events = Vec::from_slice(alloc, &way[..number])?;
+    Ok(events)
+}
+
+/// What is found of a frame: how many of the ways with at most `sizes.most` extras of these kinds among the actions meet what an expectation names, and
+/// the events after which the first of these does first. None is left out.
+///
+/// # Errors
+///
+/// `OutOfMemory`; `TooManyTicks` if a way has more than 1,000,000 ticks.
+///
+/// Source: project rule.
+pub fn judge<'a>(
+    alloc: Global,
+    file: &'a MachineFile,
+    line: &'a Expectation,
+    sizes: &Sizes,
+    kinds: &[Event],
+    actions: &[Event],
+    part: Window,
+) -> Result<Verdict, SearchFault>
+    requires kinds { sizes.now.kinds ≡ length kinds.now }
+    requires places { length actions.now ≤ sizes.now.places }
+    ensures { IfOk result (IsVerdict line.now file.now (part_of part.skip part.left (ways_of kinds.now sizes.now.most actions.now))) }
+{
+    let mut judge = WayJudge::new(alloc, file, line)?;
+    visit_part(alloc, &mut judge, sizes, kinds, actions, part)?;
+    let count = judge.count;
+    if count == 0 {
+        return Ok(Verdict { count, first: None });
+    }
+    let way = judge.into_first();
+    let mut bench = Bench::new(alloc, file)?;
+    let first = first_of(alloc, &mut bench, file, line, &way)?;
+    Ok(Verdict {
+        count,
+        first: Some(first),
+    })
+}
