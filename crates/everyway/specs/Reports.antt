@@ -40,7 +40,8 @@ Fails line machine lists = FailsIf (is_sought line) line machine lists
 abbrev pub is_held : Judged → Bool
 is_held j = if is_sought j.expected.line then is_some j.verdict.first else is_none j.verdict.first
 
--- What was found of a line is of all ways of a frame: how many meet what it names, and the events after which the first of these does.
+-- What was found of a line is of all ways of a frame: how many meet what it names, and the events after which the
+-- first of these does.
 abbrev pub IsOf : Frame → Judged → Type 0
 IsOf f j = IsVerdict j.expected.line f.file (all_ways f) j.verdict
 
@@ -56,7 +57,8 @@ abbrev pub report_text : (machine events : List ℕ) → Frame → List Judged �
 report_text machine events f judged =
     title_text machine events (length f.actions.items) f.sizes.most f.kinds.items f.ways ++ flat_map (judged_text f.ways) judged
 
--- A text is the events after which the first way meets what the line of a number names, an event a line; lines count from 1.
+-- A text is the events after which the first way meets what the line of a number names, an event a line; lines count
+-- from 1.
 pub record HasEvents (judged : List Judged) (number : ℕ) (text : List ℕ) : Type 0 where
   pub one : Judged
   pub is_one : slice_get judged (number - 1) ≡ Some one
@@ -69,8 +71,8 @@ abbrev pub Shows : (machine events : List ℕ) → Frame → List Judged → Opt
 Shows machine events f judged None text = text ≡ report_text machine events f judged
 Shows machine events f judged (Some number) text = HasEvents judged number text
 
--- What is printed has each line that is expected, in their order, with what was found of it over all ways of the frame; and that all hold is said
--- exactly if each does.
+-- What is printed has each line that is expected, in their order, with what was found of it over all ways of the
+-- frame; and that all hold is said exactly if each does.
 pub record Reports (f : Frame) (machine events : List ℕ) (expected : List Expected) (number : Option ℕ) (all_hold : Bool) (text : List ℕ) : Type 0 where
   pub judged : List Judged
   pub lines : map expected_in judged ≡ expected

@@ -10,15 +10,16 @@ use Rattle.everyway.specs.{CommandLine.AreGivenBy, Reports.Expects, declared.com
 abbrev pub status_of : (all_hold : Bool) → ℕ
 status_of all_hold = if all_hold then 0 else 3
 
--- What is printed is of all ways of the frame of two texts, with the extras that are asked for, and of the line whose events are asked for, if they are.
+-- What is printed is of all ways of the frame of two texts, with the extras that are asked for, and of the line whose
+-- events are asked for, if they are.
 pub record ExpectsAsked (machine events : List ℕ) (asked : Asked) (all_hold : Bool) (text : List ℕ) : Type 0 where
   pub options : Options
   pub extra : options.extra ≡ asked.extra
   pub of : options.of ≡ asked.of
   pub expects : Expects machine events options asked.events all_hold text
 
--- Both texts were read, as far as it is reported what is at the paths, and the writer took what is printed of all ways of their frame, whole. The status
--- says whether all lines hold.
+-- Both texts were read, as far as it is reported what is at the paths, and the writer took what is printed of all ways
+-- of their frame, whole. The status says whether all lines hold.
 pub record WritesVerdicts (text_at : TextAt) (asked : Asked) (before after : Held) (status : ℕ) : Type 0 where
   pub machine : List ℕ
   pub events : List ℕ

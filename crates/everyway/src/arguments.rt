@@ -130,7 +130,8 @@ fn report_of<'a>(
     )
 }
 
-/// Writes what is asked for, with the lines of a file if one is given, and answers the status. Both texts are read before one is judged.
+/// Writes what is asked for, with the lines of a file if one is given, and answers the status. Both texts are read
+/// before one is judged.
 fn write_verdicts<'a, T: Texts, W: Write>(
     texts: &T,
     alloc: Global,
@@ -207,9 +208,9 @@ fn answer_without_work<W: Write, E: Write>(error: &clap::Error, out: &mut W, err
     }
 }
 
-/// Does what the words of a command line ask for, over any texts, and answers the status: 0 if all that is expected holds, or after the help, 1 if a
-/// text or a line is refused, 2 if the command line is, 3 if something does not hold, 4 if memory, reading or writing failed, and 5 if it is not
-/// decided.
+/// Does what the words of a command line ask for, over any texts, and answers the status: 0 if all that is expected
+/// holds, or after the help, 1 if a text or a line is refused, 2 if the command line is, 3 if something does not hold,
+/// 4 if memory, reading or writing failed, and 5 if it is not decided.
 ///
 /// Source: project rule.
 pub fn run_on_texts<T: Texts, W: Write, E: Write>(
@@ -263,8 +264,8 @@ fn run_buffered<R: Env + Files + AllocGlobal, W: Write + Drop, E: Write>(
     Ok(status)
 }
 
-/// Runs the command on the process's arguments, and answers the status with which it ends. Arguments that are no text are refused as a
-/// command line is.
+/// Runs the command on the process's arguments, and answers the status with which it ends. Arguments that are no text
+/// are refused as a command line is.
 ///
 /// Source: project rule.
 pub fn run_on_arguments<R: Env + Files + AllocGlobal, W: Write + Drop, E: Write>(

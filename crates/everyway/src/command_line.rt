@@ -253,7 +253,8 @@ fn error_of_kind(alloc: Global, error: Error, kind: ErrorKind) -> Result<Error, 
     bare_error(alloc, kind)
 }
 
-/// What `clap` answers to words as they are shown, if it refuses them as they were refused, or a refusal that has none of them.
+/// What `clap` answers to words as they are shown, if it refuses them as they were refused, or a refusal that has none
+/// of them.
 fn error_over(alloc: Global, words: &[String], kind: ErrorKind) -> Result<Error, AllocError>
     ensures { IfOk result (λ error. kind_of error ≡ kind) }
 {

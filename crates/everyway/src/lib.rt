@@ -1,4 +1,5 @@
-//! The command `execexplore --must`: whether what is expected of a run holds in every way in which interrupts can come among its events.
+//! The command `execexplore --must`: whether what is expected of a run holds in every way in which interrupts can come
+//! among its events.
 #![tactic(auto)]
 
 mod arguments;

@@ -82,12 +82,13 @@ pub(crate) fn items_at<'a>(
     }
 }
 
-/// What is printed of all ways of the frame of two texts: the report on what is expected, or the events of the line of a number. The machine file is
-/// judged first, then the event text, the options, and the lines.
+/// What is printed of all ways of the frame of two texts: the report on what is expected, or the events of the line of
+/// a number. The machine file is judged first, then the event text, the options, and the lines.
 ///
 /// # Errors
 ///
-/// A text is refused, there are too many ways, a line is not understood, there are no such events, or memory was refused.
+/// A text is refused, there are too many ways, a line is not understood, there are no such events, or memory was
+/// refused.
 ///
 /// Source: project rule.
 pub(crate) fn report_in<'a>(

@@ -52,7 +52,8 @@ fn is_in_lines(
     }
 }
 
-/// The commands of a task that are written in some lines of the file, from the first to the last; none if there are none.
+/// The commands of a task that are written in some lines of the file, from the first to the last; none if there are
+/// none.
 fn section_of(
     listed: &Listed,
     written: &Written<'_>,
@@ -110,7 +111,8 @@ pub(crate) fn section_in(listed: &Listed, written: &Written<'_>, lines: Lines) -
     Some(section)
 }
 
-/// The command of a task that is written in a line of the file, from 1: the first of several. None if no task has one there.
+/// The command of a task that is written in a line of the file, from 1: the first of several. None if no task has one
+/// there.
 ///
 /// Source: project rule.
 pub(crate) fn target_in(listed: &Listed, written: &Written<'_>, line: usize) -> Option<Target> {

@@ -210,8 +210,8 @@ fn text_for<'a>(
     }
 }
 
-/// What is printed of all ways of a frame: the report on what is expected of them, or, if the number of a line is given, the events after which the
-/// first way meets what it names.
+/// What is printed of all ways of a frame: the report on what is expected of them, or, if the number of a line is
+/// given, the events after which the first way meets what it names.
 ///
 /// # Errors
 ///

@@ -47,7 +47,8 @@ fn alert_line(alloc: Global, code: Option<Alert>, by: Option<Name>) -> Result<St
     format!(in alloc; "never alert{code}{by}")
 }
 
-/// A line that names a command. Commands and tasks count from 1; a number that 64 bits do not hold is refused as memory is.
+/// A line that names a command. Commands and tasks count from 1; a number that 64 bits do not hold is refused as
+/// memory is.
 fn reach_line(alloc: Global, task: usize, place: usize) -> Result<String, AllocError>
     ensures { IfOk result (λ text. string_bytes text ≡ line_text (Expectation.Reach task place)) }
 {

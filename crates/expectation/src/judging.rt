@@ -1,5 +1,5 @@
 //! Whether an expectation holds of the ways of a frame.
-ghost use Rattle.std.specs.Prelude.{◌≡◌, ◌+◌, ◌≤◌, [], true, length, IfOk, OnOk};
+ghost use Rattle.std.specs.Prelude.{◌≡◌, ◌+◌, ◌≤◌, [], true, length, take, IfOk, OnOk};
 ghost use Rattle.ways.specs.{Ways.part_of, Ways.ways as ways_of, Tables.one_if};
 ghost use Rattle.expectation.specs.{Expectations.meets, Judged.ComesFirst, Judged.IsVerdict, Judged.Judging, Judged.kept, Judged.noted};
 
@@ -106,6 +106,15 @@ impl<'a> WayJudge<'a> {
     }
 }
 
+/// The first events of a way, this number of them.
+fn front_of(alloc: Global, way: &[Event], number: usize) -> Result<Vec<Event>, AllocError>
+    requires { number ≤ length way.now }
+    ensures { IfOk result (λ events. events.items ≡ take number way.now) }
+{
+    let events = Vec::from_slice(alloc, &way[..number])?;
+    Ok(events)
+}
+
 /// The first events of a way, as many as it takes to meet what an expectation names.
 fn first_of(
     alloc: Global,
@@ -118,7 +127,7 @@ fn first_of(
     ensures { IfOk result (λ events. ComesFirst line.now file.now way.now events.items) }
 {
     let number = soonest(alloc, bench, file, line, way)?;
-    let events = Vec::from_slice(alloc, &way[..number])?;
+    let events = front_of(alloc, way, number)?;
     Ok(events)
 }
 
