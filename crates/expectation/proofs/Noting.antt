@@ -3,7 +3,7 @@ use Rattle.std.proofs.Common.{◌≡◌, ◌∙◌, ℕ, zero, suc, ◌+◌, ◌
 use Rattle.std.proofs.lemmas.{Bool.Decides.nat_tests, List.Elements.All-cons, List.Elements.All-nil}
 use Rattle.script.specs.{File.MachineData, declared.event.Event.Event}
 use Rattle.ways.specs.{Rules.IsOneOf, Tables.number_where, Tables.one_if}
-use Rattle.expectation.specs.{Expectations.meets, Judged.ComesFirst, Judged.IsFirst, Judged.Judging, Judged.NoneMeets, Judged.kept, Judged.noted, declared.expectation.Expectation.Expectation}
+use Rattle.expectation.specs.{Expectations.meets, Judged.ComesFirst, Judged.IsFirst, Judged.IsMet, Judged.IsNoted, Judged.Judging, Judged.NoneMeets, Judged.kept, Judged.noted, declared.expectation.Expectation.Expectation}
 
 -- ---- what stays
 
@@ -62,22 +62,17 @@ firsts (w ∷ rest) j none = by_met (firsts rest (noted j w)) (meets j.line j.fi
 -- ---- what is known of it
 
 module _ (line : Expectation) (machine : MachineData) where
-  -- a way is one of some, and its run meets what is named
-  pub record IsMet (ways : List (List Event)) (way : List Event) : Type 0 where
-    pub is_way : IsOneOf ways way
-    pub comes : meets line machine way ≡ true
-
-  met_first : (ways : List (List Event)) (other : List Event) → 0 < number_where (meets line machine) ways → IsMet ways (first_met line machine other ways)
+  met_first : (ways : List (List Event)) (other : List Event) → 0 < number_where (meets line machine) ways → IsMet line machine ways (first_met line machine other ways)
   met_first [] other some = absurd (omega (arith, some))
   met_first (w ∷ rest) other some = by_met (met_first rest other) (meets line machine w) refl
     where
-      by_met : (0 < number_where (meets line machine) rest → IsMet rest (first_met line machine other rest)) → (met : Bool) → meets line machine w ≡ met → IsMet (w ∷ rest) (cond (meets line machine w) w (first_met line machine other rest))
-      by_met others true is = subst (λ (b : Bool). IsMet (w ∷ rest) (cond b w (first_met line machine other rest))) (sym is) (record { is_way = inl refl; comes = is })
+      by_met : (0 < number_where (meets line machine) rest → IsMet line machine rest (first_met line machine other rest)) → (met : Bool) → meets line machine w ≡ met → IsMet line machine (w ∷ rest) (cond (meets line machine w) w (first_met line machine other rest))
+      by_met others true is = subst (λ (b : Bool). IsMet line machine (w ∷ rest) (cond b w (first_met line machine other rest))) (sym is) (record { is_way = inl refl; comes = is })
       by_met others false is =
           let some_left : 0 < one_if false + number_where (meets line machine) rest
           = subst (λ (b : Bool). 0 < one_if b + number_where (meets line machine) rest) is some in
           let known = others (omega (arith, some_left)) in
-          subst (λ (b : Bool). IsMet (w ∷ rest) (cond b w (first_met line machine other rest))) (sym is)
+          subst (λ (b : Bool). IsMet line machine (w ∷ rest) (cond b w (first_met line machine other rest))) (sym is)
           (record { is_way = inr known.is_way; comes = known.comes })
 
   pub none_meets : (ways : List (List Event)) → number_where (meets line machine) ways ≡ 0 → NoneMeets line machine ways
@@ -112,18 +107,26 @@ first_of_all ways j k line machine fresh is some =
     (sym (ap (λ (x : Judging). x.first) (is ∙ ap (λ (x : Judging). fold noted x ways) fresh) ∙ firsts ways zero_yet refl))
     (met_first line machine ways [] (omega (arith, some, all)))
 
+-- what is noted of some ways
+pub noted_of : (ways : List (List Event)) (j k : Judging) (line : Expectation) (machine : MachineData) (count : ℕ) (first : List Event)
+    → j ≡ record { file = machine; line = line; count = 0; first = [] } → k ≡ fold noted j ways → count ≡ k.count → first ≡ k.first
+    → IsNoted line machine ways count first
+noted_of ways j k line machine count first fresh is same-count same-first = record {
+  counts = same-count ∙ counts_all ways j k line machine fresh is;
+  met = λ some. subst (λ (way : List Event). IsMet line machine ways way) (sym same-first)
+      (first_of_all ways j k line machine fresh is (subst (λ (n : ℕ). 0 < n) same-count some));
+}
+
 -- ---- what is answered
 
--- none of the ways meets it
-pub none_found : (ways : List (List Event)) (j k : Judging) (line : Expectation) (machine : MachineData)
-    → j ≡ record { file = machine; line = line; count = 0; first = [] } → k ≡ fold noted j ways → k.count ≡ 0 → NoneMeets line machine ways
-none_found ways j k line machine fresh is none =
-    none_meets line machine ways (sym (counts_all ways j k line machine fresh is) ∙ none)
+module _ (line : Expectation) (machine : MachineData) (ways : List (List Event)) (count : ℕ) (first : List Event) where
+  -- none of the ways meets it
+  pub none_found : IsNoted line machine ways count first → count ≡ 0 → NoneMeets line machine ways
+  none_found noted none = none_meets line machine ways (sym noted.counts ∙ none)
 
--- these are the first events of the first way that does
-pub first_found : (ways : List (List Event)) (j k : Judging) (line : Expectation) (machine : MachineData) (events : List Event)
-    → j ≡ record { file = machine; line = line; count = 0; first = [] } → k ≡ fold noted j ways → 0 < k.count
-    → ComesFirst line machine k.first events → IsFirst line machine ways events
-first_found ways j k line machine events fresh is some comes =
-    let met = first_of_all ways j k line machine fresh is some in
-    record { way = k.first; is_way = met.is_way; comes = met.comes; first = comes }
+  pub first_meets : IsNoted line machine ways count first → 0 < count → meets line machine first ≡ true
+  first_meets noted some = (noted.met some).comes
+
+  -- these are the first events of the first way that does
+  pub first_found : (events : List Event) → IsNoted line machine ways count first → 0 < count → ComesFirst line machine first events → IsFirst line machine ways events
+  first_found events noted some comes = record { way = first; is_way = (noted.met some).is_way; comes = (noted.met some).comes; first = comes }

@@ -58,3 +58,13 @@ abbrev pub noted : Judging → List Event → Judging
 noted j way =
     let is_met = meets j.line j.file way in
     record j { count = j.count + one_if is_met; first = kept is_met j.count j.first way }
+
+-- One of some ways, whose run meets what is named.
+pub record IsMet (line : Expectation) (machine : MachineData) (ways : List (List Event)) (way : List Event) : Type 0 where
+  pub is_way : IsOneOf ways way
+  pub comes : meets line machine way ≡ true
+
+-- The number of ways whose run meets what is named, and one of these, if there is one.
+pub record IsNoted (line : Expectation) (machine : MachineData) (ways : List (List Event)) (count : ℕ) (first : List Event) : Type 0 where
+  pub counts : count ≡ number_where (meets line machine) ways
+  pub met : 0 < count → IsMet line machine ways first

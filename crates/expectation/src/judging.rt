@@ -1,7 +1,7 @@
 //! Whether an expectation holds of the ways of a frame.
 ghost use Rattle.std.specs.Prelude.{◌≡◌, ◌+◌, ◌≤◌, [], true, length, take, IfOk, OnOk};
 ghost use Rattle.ways.specs.{Ways.part_of, Ways.ways as ways_of, Tables.one_if};
-ghost use Rattle.expectation.specs.{Expectations.meets, Judged.ComesFirst, Judged.IsVerdict, Judged.Judging, Judged.kept, Judged.noted};
+ghost use Rattle.expectation.specs.{Expectations.meets, Judged.ComesFirst, Judged.IsNoted, Judged.IsSoonest, Judged.IsVerdict, Judged.Judging, Judged.kept, Judged.noted};
 
 use crate::beginning::soonest;
 use crate::expectation::Expectation;
@@ -97,13 +97,57 @@ impl<'a> WayJudge<'a> {
     }
 }
 
+/// What was noted of some ways: how many meet what is named, and the first of these, if one does.
+#[derive(Drop)]
+struct Noted {
+    count: u64,
+    first: Vec<Event>,
+}
+
 impl<'a> WayJudge<'a> {
-    /// The first way that meets what is named, if one does.
-    fn into_first(self) -> Vec<Event>
-        ensures { result.items ≡ self.entry.first }
+    /// What it has noted.
+    fn into_noted(self) -> Noted
+        ensures count { result.count ≡ self.entry.count }
+        ensures first { result.first.items ≡ self.entry.first }
     {
-        self.first
+        Noted {
+            count: self.count,
+            first: self.first,
+        }
     }
+}
+
+/// Notes which ways of a part meet what an expectation names.
+fn note_ways<'a>(
+    alloc: Global,
+    file: &'a MachineFile,
+    line: &'a Expectation,
+    sizes: &Sizes,
+    kinds: &[Event],
+    actions: &[Event],
+    part: Window,
+) -> Result<Noted, SearchFault>
+    requires kinds { sizes.now.kinds ≡ length kinds.now }
+    requires places { length actions.now ≤ sizes.now.places }
+    ensures { IfOk result (λ found. IsNoted line.now file.now (part_of part.skip part.left (ways_of kinds.now sizes.now.most actions.now)) found.count found.first.items) }
+{
+    let mut judge = WayJudge::new(alloc, file, line)?;
+    visit_part(alloc, &mut judge, sizes, kinds, actions, part)?;
+    Ok(judge.into_noted())
+}
+
+/// The number of events after which the run of a list first meets what an expectation names, on a new machine.
+fn soonest_anew(
+    alloc: Global,
+    file: &MachineFile,
+    line: &Expectation,
+    way: &[Event],
+) -> Result<usize, SearchFault>
+    requires { meets line.now file.now way.now ≡ true }
+    ensures { IfOk result (IsSoonest line.now file.now way.now) }
+{
+    let mut bench = Bench::new(alloc, file)?;
+    soonest(alloc, &mut bench, file, line, way)
 }
 
 /// The first events of a way, this number of them.
@@ -118,7 +162,6 @@ fn front_of(alloc: Global, way: &[Event], number: usize) -> Result<Vec<Event>, A
 /// The first events of a way, as many as it takes to meet what an expectation names.
 fn first_of(
     alloc: Global,
-    bench: &mut Bench,
     file: &MachineFile,
     line: &Expectation,
     way: &[Event],
@@ -126,13 +169,13 @@ fn first_of(
     requires { meets line.now file.now way.now ≡ true }
     ensures { IfOk result (λ events. ComesFirst line.now file.now way.now events.items) }
 {
-    let number = soonest(alloc, bench, file, line, way)?;
+    let number = soonest_anew(alloc, file, line, way)?;
     let events = front_of(alloc, way, number)?;
     Ok(events)
 }
 
-/// What is found of a frame: how many of the ways with at most `sizes.most` extras of these kinds among the actions meet what an expectation names, and
-/// the events after which the first of these does first. None is left out.
+/// What is found of a frame: how many of the ways with at most `sizes.most` extras of these kinds among the actions
+/// meet what an expectation names, and the events after which the first of these does first. None is left out.
 ///
 /// # Errors
 ///
@@ -152,15 +195,12 @@ pub fn judge<'a>(
     requires places { length actions.now ≤ sizes.now.places }
     ensures { IfOk result (IsVerdict line.now file.now (part_of part.skip part.left (ways_of kinds.now sizes.now.most actions.now))) }
 {
-    let mut judge = WayJudge::new(alloc, file, line)?;
-    visit_part(alloc, &mut judge, sizes, kinds, actions, part)?;
-    let count = judge.count;
+    let found = note_ways(alloc, file, line, sizes, kinds, actions, part)?;
+    let count = found.count;
     if count == 0 {
         return Ok(Verdict { count, first: None });
     }
-    let way = judge.into_first();
-    let mut bench = Bench::new(alloc, file)?;
-    let first = first_of(alloc, &mut bench, file, line, &way)?;
+    let first = first_of(alloc, file, line, &found.first)?;
     Ok(Verdict {
         count,
         first: Some(first),
