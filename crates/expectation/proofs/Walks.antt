@@ -1,5 +1,5 @@
 -- A walk over events, and the states between them.
-use Rattle.std.proofs.Common.{◌≡◌, ◌∙◌, ℕ, ◌+◌, ◌<◌, ◌≤◌, Bool, true, false, List, [], ◌∷◌, ◌++◌, take, drop, get_or, length, refl, ap, ap₂, sym, subst, sum_by, append-nil, arith}
+use Rattle.std.proofs.Common.{◌≡◌, ◌∙◌, ℕ, ◌+◌, ◌<◌, ◌≤◌, Bool, true, false, ◌&&◌, List, [], ◌∷◌, ◌++◌, take, drop, get_or, length, refl, ap, ap₂, sym, subst, sum_by, append-nil, arith}
 use Rattle.std.proofs.lemmas.{List.drop_all, List.take_more, List.drop_more, List.Sums.sum_by-cons}
 use Rattle.exectrace.specs.Trace.{TraceLine}
 use Rattle.script.specs.{Events.event_ticks, declared.event.Event.Event}
@@ -8,7 +8,8 @@ use Rattle.execmodel.specs.{State.Scripts, State.State, State.Outcome, State.Mar
 use Rattle.execmodel.proofs.Moments.{events_more}
 use Rattle.execsim.specs.{Agreement.Agrees, Agreement.Seen, Time.HasTimeFor}
 use Rattle.execsim.proofs.Clock.{time_for_fewer}
-use Rattle.expectation.specs.{States.comes_to, States.is_at, States.is_met_at, declared.expectation.Expectation.Expectation}
+use Rattle.expectation.specs.{States.comes_to, States.is_at, States.is_in, States.is_met_at, States.is_there, declared.expectation.Expectation.Expectation}
+use Rattle.expectation.specs.declared.expectation.Expectation.TheVariants.{NeverAlert, NeverPrint, PrintBefore, Reach, Apart}
 use Rattle.expectation.proofs.Coming.{here, not_here}
 
 -- ---- one event more
@@ -67,7 +68,11 @@ goes_on test way k d seen next s within on is at =
 -- ---- what the machine shows
 
 pub shows : (line : Expectation) (seen : Seen) (s : State) → Agrees seen s → is_met_at line seen.schedule seen.scripts ≡ is_at line s
-shows line seen s agrees = ap₂ (λ (a : Schedule) (b : Scripts). is_met_at line a b) agrees.schedule agrees.scripts
+shows (NeverAlert code by) seen s agrees = refl
+shows (NeverPrint value) seen s agrees = refl
+shows (PrintBefore first second) seen s agrees = refl
+shows (Reach task place) seen s agrees = ap₂ (λ (a : Schedule) (b : Scripts). is_there task place a b) agrees.schedule agrees.scripts
+shows (Apart one other) seen s agrees = ap (λ (b : Scripts). is_in one b && is_in other b) agrees.scripts
 
 -- ---- the end of a walk
 

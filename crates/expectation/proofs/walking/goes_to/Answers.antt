@@ -57,4 +57,4 @@ returns c = λ s at.
     let seen = c.loop-event.machine.seen in
     let test = is_at c.args.line.now in
     let on = c.loop-event.invariant.is_on s at in
-    c.is_met_at.ensures ∙ (shows c.args.line.now seen (events (take k way) s).state on.agrees ∙ sym (ends_here test way k seen s c.loop-event-test.false on))
+    c.is_met_at-2.ensures ∙ (shows c.args.line.now seen (events (take k way) s).state on.agrees ∙ sym (ends_here test way k seen s c.loop-event-test.false on))
