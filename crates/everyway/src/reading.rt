@@ -3,7 +3,7 @@ use crate::failure::Failure;
 use crate::file::Wanted;
 use crate::line::{Known, LineFault, read_line};
 use expectation::Expectation;
-use std::alloc::Global;
+use std::alloc::{AllocError, Global};
 
 /// What is expected, and why, if that is given.
 #[derive(Clone, Copy)]
@@ -38,6 +38,14 @@ fn expected_by<'a>(
     }
 }
 
+/// Adds a line.
+fn push_one<'a>(expected: &mut Vec<Expected<'a>>, one: Expected<'a>) -> Result<(), AllocError> {
+    match expected.push(one) {
+        Ok(()) => Ok(()),
+        Err(_) => Err(AllocError),
+    }
+}
+
 /// Adds what the options `--must` expect.
 fn push_options<'a>(
     alloc: Global,
@@ -51,7 +59,8 @@ fn push_options<'a>(
             why: None,
         };
         let origin = Origin::Option(at.saturating_add(1));
-        expected.push(expected_by(alloc, known, origin, wanted)?)?;
+        let one = expected_by(alloc, known, origin, wanted)?;
+        push_one(expected, one)?;
     }
     Ok(())
 }
@@ -66,7 +75,8 @@ fn push_items<'a>(
 ) -> Result<(), Failure<'a>> {
     for (at, wanted) in items.iter().enumerate() {
         let origin = Origin::File(path, at.saturating_add(1));
-        expected.push(expected_by(alloc, known, origin, *wanted)?)?;
+        let one = expected_by(alloc, known, origin, *wanted)?;
+        push_one(expected, one)?;
     }
     Ok(())
 }

@@ -1,5 +1,5 @@
 //! Whether what is expected holds in all ways of a frame, and the report.
-ghost use Rattle.std.specs.Prelude.{◌≡◌, ◌++◌, All, IfOk, OnOk, flat_map, length, map, string_bytes};
+ghost use Rattle.std.specs.Prelude.{◌≡◌, ◌++◌, ◌∷◌, [], All, IfOk, OnOk, flat_map, length, map, string_bytes};
 ghost use Rattle.std.specs.List.{list_all};
 ghost use Rattle.everyway.specs.Reports.{HasEvents, IsOf, Reports, Shows, all_ways, expected_in, is_held, judged_text, report_text};
 ghost use Rattle.everyway.specs.Texts.{frame_text, limits_text, names_text, title_text};
@@ -49,6 +49,32 @@ fn verdict_of(alloc: Global, frame: &Frame, line: &Expectation) -> Result<Verdic
     )
 }
 
+/// What is expected, with what is found of it over all ways of a frame.
+fn judged_of<'a>(
+    alloc: Global,
+    frame: &Frame,
+    one: &Expected<'a>,
+) -> Result<Judged<'a>, SearchFault>
+    ensures same { IfOk result (λ judged. judged.expected ≡ one.now) }
+    ensures is_of { IfOk result (IsOf frame.now) }
+{
+    let verdict = verdict_of(alloc, frame, &one.line)?;
+    Ok(Judged {
+        expected: *one,
+        verdict,
+    })
+}
+
+/// Adds what was found of a line.
+fn push_more<'a>(judged: &mut Vec<Judged<'a>>, more: Judged<'a>) -> Result<(), SearchFault>
+    ensures { OnOk result (judged.new.items ≡ judged.old.items ++ more.entry ∷ []) }
+{
+    match judged.push(more) {
+        Ok(()) => Ok(()),
+        Err(_) => Err(SearchFault::OutOfMemory),
+    }
+}
+
 /// What is found of each line over all ways of a frame.
 fn judged_all<'a>(
     alloc: Global,
@@ -60,11 +86,8 @@ fn judged_all<'a>(
 {
     let mut judged = Vec::new(alloc);
     for one in expected {
-        let verdict = verdict_of(alloc, frame, &one.line)?;
-        judged.push(Judged {
-            expected: *one,
-            verdict,
-        })?;
+        let more = judged_of(alloc, frame, one)?;
+        push_more(&mut judged, more)?;
     }
     Ok(judged)
 }
@@ -124,7 +147,7 @@ fn push_all(
 
 /// The names of both files, as they are shown.
 fn names_text(alloc: Global, names: Paths<'_>) -> Result<String, AllocError>
-    ensures { IfOk result (λ text. string_bytes text ≡ names_text names.machine.now names.events.now) }
+    ensures { IfOk result (λ text. string_bytes text ≡ names_text names.entry.machine.now names.entry.events.now) }
 {
     let machine = Shown(names.machine);
     let events = Shown(names.events);
@@ -149,7 +172,7 @@ fn frame_text(alloc: Global, kinds: &[Event], ways: u64) -> Result<String, Alloc
 
 /// What was searched.
 fn title_text(alloc: Global, names: Paths<'_>, frame: &Frame) -> Result<String, AllocError>
-    ensures { IfOk result (λ text. string_bytes text ≡ title_text names.machine.now names.events.now (length frame.now.actions.items) frame.now.sizes.most frame.now.kinds.items frame.now.ways) }
+    ensures { IfOk result (λ text. string_bytes text ≡ title_text names.entry.machine.now names.entry.events.now (length frame.now.actions.items) frame.now.sizes.most frame.now.kinds.items frame.now.ways) }
 {
     let names = names_text(alloc, names)?;
     let limits = limits_text(alloc, frame.actions.len(), frame.sizes.most)?;
@@ -164,7 +187,7 @@ fn report_text(
     frame: &Frame,
     judged: &[Judged<'_>],
 ) -> Result<Vec<u8>, AllocError>
-    ensures { IfOk result (λ text. text.items ≡ report_text names.machine.now names.events.now frame.now judged.now) }
+    ensures { IfOk result (λ text. text.items ≡ report_text names.entry.machine.now names.entry.events.now frame.now judged.now) }
 {
     let title = title_text(alloc, names, frame)?;
     let mut text = Vec::new(alloc);
@@ -202,7 +225,7 @@ fn text_for<'a>(
     judged: &[Judged<'_>],
     events: Option<usize>,
 ) -> Result<Vec<u8>, Failure<'a>>
-    ensures { IfOk result (λ text. Shows names.machine.now names.events.now frame.now judged.now events text.items) }
+    ensures { IfOk result (λ text. Shows names.entry.machine.now names.entry.events.now frame.now judged.now events text.items) }
 {
     match events {
         None => Ok(report_text(alloc, names, frame, judged)?),
@@ -225,7 +248,7 @@ pub(crate) fn judged_in<'a>(
     expected: &[Expected<'_>],
     events: Option<usize>,
 ) -> Result<Report, Failure<'a>>
-    ensures { IfOk result (λ report. Reports frame.now names.machine.now names.events.now expected.now events report.all_hold report.text.items) }
+    ensures { IfOk result (λ report. Reports frame.now names.entry.machine.now names.entry.events.now expected.now events report.all_hold report.text.items) }
 {
     let judged = judged_all(alloc, frame, expected)?;
     let text = text_for(alloc, names, frame, &judged, events)?;

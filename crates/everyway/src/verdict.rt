@@ -1,5 +1,5 @@
 //! The text of what was found of a line.
-ghost use Rattle.std.specs.Prelude.{◌≡◌, ◌++◌, IfOk, OnOk, flat_map, string_bytes};
+ghost use Rattle.std.specs.Prelude.{◌≡◌, ◌++◌, IfOk, OnOk, false, flat_map, string_bytes, true};
 ghost use Rattle.statereport.specs.Reports.{after, event_text, events_text};
 ghost use Rattle.expectation.specs.Expectations.{is_sought};
 ghost use Rattle.everyway.specs.Texts.{after_text, code_text, first_text, head_text, line_text, name_text, of_ways_text, section_text, verdict_text, ways_text, why_text};
