@@ -60,7 +60,10 @@ fn judged_of<'a>(
 {
     let verdict = verdict_of(alloc, frame, &one.line)?;
     Ok(Judged {
-        expected: *one,
+        expected: Expected {
+            line: one.line,
+            why: one.why,
+        },
         verdict,
     })
 }
