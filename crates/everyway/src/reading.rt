@@ -3,7 +3,7 @@ use crate::failure::Failure;
 use crate::file::Wanted;
 use crate::line::{Known, LineFault, read_line};
 use expectation::Expectation;
-use std::alloc::Global;
+use std::alloc::{AllocError, Global};
 
 /// What is expected, and why, if that is given.
 #[derive(Clone, Copy)]
@@ -35,6 +35,49 @@ fn expectation_in<'a>(
     }
 }
 
+/// What the lines of the command line say, and then those of the items of the file at a path.
+fn expectations_in<'a>(
+    alloc: Global,
+    known: Known<'_, '_>,
+    lines: &[&'a str],
+    path: &'a str,
+    items: &[Wanted<'a>],
+) -> Result<Vec<Expectation>, Failure<'a>> {
+    let mut found = Vec::new(alloc);
+    for (at, text) in lines.iter().enumerate() {
+        let origin = Origin::Option(at.saturating_add(1));
+        let line = expectation_in(alloc, known, origin, text)?;
+        found.push(line)?;
+    }
+    for (at, wanted) in items.iter().enumerate() {
+        let origin = Origin::File(path, at.saturating_add(1));
+        let line = expectation_in(alloc, known, origin, wanted.must)?;
+        found.push(line)?;
+    }
+    Ok(found)
+}
+
+/// Why the line of a number, from 0, is expected: the first so many have no reason, and the others are those of items.
+fn why_of<'a>(without: usize, items: &[Wanted<'a>], number: usize) -> Option<&'a str> {
+    let at = number.checked_sub(without)?;
+    items.get(at)?.why
+}
+
+/// Lines with the reasons for which they are expected; the first so many have none.
+fn with_reasons<'a>(
+    alloc: Global,
+    found: &[Expectation],
+    without: usize,
+    items: &[Wanted<'a>],
+) -> Result<Vec<Expected<'a>>, AllocError> {
+    let mut expected = Vec::new(alloc);
+    for (number, line) in found.iter().enumerate() {
+        let why = why_of(without, items, number);
+        expected.push(Expected { line: *line, why })?;
+    }
+    Ok(expected)
+}
+
 /// What is expected: first the lines of the command line, and then those of the file at a path.
 ///
 /// # Errors
@@ -49,19 +92,7 @@ pub(crate) fn expected_in<'a>(
     path: &'a str,
     items: &[Wanted<'a>],
 ) -> Result<Vec<Expected<'a>>, Failure<'a>> {
-    let mut expected = Vec::new(alloc);
-    for (at, text) in lines.iter().enumerate() {
-        let origin = Origin::Option(at.saturating_add(1));
-        let line = expectation_in(alloc, known, origin, text)?;
-        expected.push(Expected { line, why: None })?;
-    }
-    for (at, wanted) in items.iter().enumerate() {
-        let origin = Origin::File(path, at.saturating_add(1));
-        let line = expectation_in(alloc, known, origin, wanted.must)?;
-        expected.push(Expected {
-            line,
-            why: wanted.why,
-        })?;
-    }
+    let found = expectations_in(alloc, known, lines, path, items)?;
+    let expected = with_reasons(alloc, &found, lines.len(), items)?;
     Ok(expected)
 }
