@@ -57,14 +57,17 @@ abbrev pub report_text : (machine events : List ℕ) → Frame → List Judged �
 report_text machine events f judged =
     title_text machine events (length f.actions.items) f.sizes.most f.kinds.items f.ways ++ flat_map (judged_text f.ways) judged
 
--- A text is the events after which the first way meets what the line of a number names, an event a line; lines count
--- from 1.
-pub record HasEvents (judged : List Judged) (number : ℕ) (text : List ℕ) : Type 0 where
-  pub one : Judged
-  pub is_one : slice_get judged (number - 1) ≡ Some one
+-- A text is the events after which the first way meets what a line names, an event a line.
+pub record HasEventsOf (one : Judged) (text : List ℕ) : Type 0 where
   pub events : Vec Event
   pub first : one.verdict.first ≡ Some events
   pub says : text ≡ flat_map event_line (grouped events.items)
+
+-- The same of the line of a number; lines count from 1.
+pub record HasEvents (judged : List Judged) (number : ℕ) (text : List ℕ) : Type 0 where
+  pub one : Judged
+  pub is_one : slice_get judged (number - 1) ≡ Some one
+  pub has : HasEventsOf one text
 
 -- what is printed: the report, or the events of the line of a number
 abbrev pub Shows : (machine events : List ℕ) → Frame → List Judged → Option ℕ → List ℕ → Type 0

@@ -1,7 +1,7 @@
 //! Whether what is expected holds in all ways of a frame, and the report.
-ghost use Rattle.std.specs.Prelude.{◌≡◌, ◌++◌, ◌∷◌, [], All, IfOk, OnOk, flat_map, length, map, string_bytes};
+ghost use Rattle.std.specs.Prelude.{◌≡◌, ◌++◌, ◌∷◌, [], All, IfOk, OnOk, flat_map, length, map, string_bytes, ◌-◌, IfSome, Some, slice_get};
 ghost use Rattle.std.specs.List.{list_all};
-ghost use Rattle.everyway.specs.Reports.{HasEvents, IsOf, Reports, Shows, all_ways, expected_in, is_held, judged_text, report_text};
+ghost use Rattle.everyway.specs.Reports.{HasEvents, HasEventsOf, IsOf, Reports, Shows, all_ways, expected_in, is_held, judged_text, report_text};
 ghost use Rattle.everyway.specs.Texts.{frame_text, limits_text, names_text, title_text};
 ghost use Rattle.expectation.specs.Judged.{IsVerdict};
 
@@ -199,7 +199,30 @@ fn report_text(
     Ok(text)
 }
 
-/// The events after which the first way meets what the line of a number names, as an event text.
+/// The line of a number, from 1.
+fn line_at<'j, 'a>(judged: &'j [Judged<'a>], number: usize) -> Option<&'j Judged<'a>>
+    ensures { IfSome result (λ one. slice_get judged.now (number - 1) ≡ Some one.now) }
+{
+    let Some(before) = number.checked_sub(1) else {
+        return None;
+    };
+    judged.get(before)
+}
+
+/// The events after which the first way meets what a line names, as an event text.
+fn events_of<'a>(alloc: Global, one: &Judged<'_>, number: usize) -> Result<Vec<u8>, Failure<'a>>
+    ensures { IfOk result (λ text. HasEventsOf one.now text.items) }
+{
+    match &one.verdict.first {
+        None => Err(Failure::NeverMet(number)),
+        Some(events) => {
+            let text = lines_of(alloc, events.as_slice())?;
+            Ok(text.into_bytes())
+        }
+    }
+}
+
+/// The same of the line of a number.
 fn events_at<'a>(
     alloc: Global,
     judged: &[Judged<'_>],
@@ -207,17 +230,10 @@ fn events_at<'a>(
 ) -> Result<Vec<u8>, Failure<'a>>
     ensures { IfOk result (λ text. HasEvents judged.now number text.items) }
 {
-    let Some(before) = number.checked_sub(1) else {
-        return Err(Failure::NoLine(number, judged.len()));
-    };
-    let Some(one) = judged.get(before) else {
-        return Err(Failure::NoLine(number, judged.len()));
-    };
-    let Some(events) = &one.verdict.first else {
-        return Err(Failure::NeverMet(number));
-    };
-    let text = lines_of(alloc, events.as_slice())?;
-    Ok(text.into_bytes())
+    match line_at(judged, number) {
+        None => Err(Failure::NoLine(number, judged.len())),
+        Some(one) => events_of(alloc, one, number),
+    }
 }
 
 /// What is printed: the report, or the events that are asked for.
