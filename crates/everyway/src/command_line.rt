@@ -326,7 +326,7 @@ fn asked_of<'a>(alloc: Global, matches: &ArgMatches<'a>) -> Result<Asked<'a>, Re
 /// What `clap` answers, with the words as they are shown, and a value that an option does not take.
 ///
 /// Source: project rule.
-#[tactic(auto, using(crate::proofs::CommandLemmas::given_by, execrun::proofs::CommandLemmas::no_answer_if_right))]
+#[tactic(auto, using(execrun::proofs::CommandLemmas::no_answer_if_right))]
 pub fn asked_by<'a>(alloc: Global, words: &'a [&'a str]) -> Result<Asked<'a>, Refusal<'a>>
     ensures given { IfOk result (λ asked. AreGivenBy (texts words.now) asked.paths) }
     ensures right { AreRight command_line (texts words.now) → IfErr result IsNoHelp }
