@@ -75,10 +75,10 @@ fn bare_command<'a>(alloc: Global) -> Command<'a>
     Command::new(alloc, "execexplore")
         .about("Runs every way in which interrupts can come in a run, and says what each shows")
         .override_usage(
-            "execexplore [OPTIONS] MACHINE EVENTS\n       execexplore --sum REPORT..\n       execexplore --all [--of LIST] MACHINE",
+            "execexplore [OPTIONS] MACHINE EVENTS\n       execexplore --sum REPORT..\n       execexplore --all [--of LIST] MACHINE\n       execexplore --must LINE [OPTIONS] MACHINE EVENTS",
         )
         .after_help(
-            "Without --of, the kinds are tick and the sources that servers of MACHINE serve.\nA search keeps at most 160000000 bytes of outcomes. If there are more, the\nreport is of a part of the ways, and the status is 2.\n\nExample: `execexplore --extra 2 lost.toml lost.events` runs the events of\nlost.events with at most two more ticks, anywhere among them.\n`execexplore --extra 2 --events 3 lost.toml lost.events >third.events` keeps the\nevents of the first way of outcome 3, and `execsim lost.toml third.events`\nprints the trace of that run.\n\nexecexplore --version, with nothing else, prints the version.",
+            "Without --of, the kinds are tick and the sources that servers of MACHINE serve.\nA search keeps at most 160000000 bytes of outcomes. If there are more, the\nreport is of a part of the ways, and the status is 2.\n\nExample: `execexplore --extra 2 lost.toml lost.events` runs the events of\nlost.events with at most two more ticks, anywhere among them.\n`execexplore --extra 2 --events 3 lost.toml lost.events >third.events` keeps the\nevents of the first way of outcome 3, and `execsim lost.toml third.events`\nprints the trace of that run.\n\nWith --must LINE, execexplore says whether LINE holds in every way;\n`execexplore --must LINE --help` says what a LINE may be.\n\nexecexplore --version, with nothing else, prints the version.",
         )
         .no_binary_name(true)
 }
