@@ -2,8 +2,8 @@
 use Rattle.std.proofs.Common.{◌≡◌, ◌∙◌, ℕ, zero, suc, ◌+◌, ◌<◌, Bool, true, false, cond, List, [], ◌∷◌, refl, ap, sym, subst, fold, arith, inl, inr}
 use Rattle.std.proofs.lemmas.{Bool.Decides.nat_tests, List.Elements.All-cons, List.Elements.All-nil}
 use Rattle.script.specs.{File.MachineData, declared.event.Event.Event}
-use Rattle.ways.specs.{Rules.IsOneOf, Tables.number_where, Tables.one_if}
-use Rattle.expectation.specs.{Expectations.meets, Judged.ComesFirst, Judged.IsFirst, Judged.IsMet, Judged.IsNoted, Judged.Judging, Judged.NoneMeets, Judged.kept, Judged.noted, declared.expectation.Expectation.Expectation}
+use Rattle.ways.specs.Tables.{number_where, one_if}
+use Rattle.expectation.specs.{Expectations.meets, Judged.ComesFirst, Judged.IsFirst, Judged.IsFirstWay, Judged.IsNoted, Judged.Judging, Judged.NoneMeets, Judged.kept, Judged.noted, declared.expectation.Expectation.Expectation}
 
 -- ---- what stays
 
@@ -62,19 +62,6 @@ firsts (w ∷ rest) j none = by_met (firsts rest (noted j w)) (meets j.line j.fi
 -- ---- what is known of it
 
 module _ (line : Expectation) (machine : MachineData) where
-  met_first : (ways : List (List Event)) (other : List Event) → 0 < number_where (meets line machine) ways → IsMet line machine ways (first_met line machine other ways)
-  met_first [] other some = absurd (omega (arith, some))
-  met_first (w ∷ rest) other some = by_met (met_first rest other) (meets line machine w) refl
-    where
-      by_met : (0 < number_where (meets line machine) rest → IsMet line machine rest (first_met line machine other rest)) → (met : Bool) → meets line machine w ≡ met → IsMet line machine (w ∷ rest) (cond (meets line machine w) w (first_met line machine other rest))
-      by_met others true is = subst (λ (b : Bool). IsMet line machine (w ∷ rest) (cond b w (first_met line machine other rest))) (sym is) (record { is_way = inl refl; comes = is })
-      by_met others false is =
-          let some_left : 0 < one_if false + number_where (meets line machine) rest
-          = subst (λ (b : Bool). 0 < one_if b + number_where (meets line machine) rest) is some in
-          let known = others (omega (arith, some_left)) in
-          subst (λ (b : Bool). IsMet line machine (w ∷ rest) (cond b w (first_met line machine other rest))) (sym is)
-          (record { is_way = inr known.is_way; comes = known.comes })
-
   pub none_meets : (ways : List (List Event)) → number_where (meets line machine) ways ≡ 0 → NoneMeets line machine ways
   none_meets [] none = All-nil (λ (way : List Event). meets line machine way ≡ false)
   none_meets (w ∷ rest) none = by_met (none_meets rest) (meets line machine w) refl
@@ -90,6 +77,30 @@ module _ (line : Expectation) (machine : MachineData) where
           = subst (λ (b : Bool). one_if b + number_where (meets line machine) rest ≡ 0) is none in
           All-cons (λ (way : List Event). meets line machine way ≡ false) w rest is (others (omega (arith, no_other)))
 
+  -- one way more, whose run does not meet it
+  later_first : (w : List Event) (rest : List (List Event)) (way : List Event) → meets line machine w ≡ false → IsFirstWay line machine rest way
+      → IsFirstWay line machine (w ∷ rest) way
+  later_first w rest way is known = record {
+    earlier = w ∷ known.earlier;
+    later = known.later;
+    is_next = ap (λ (ways : List (List Event)). w ∷ ways) known.is_next;
+    none = All-cons (λ (one : List Event). meets line machine one ≡ false) w known.earlier is known.none;
+    comes = known.comes;
+  }
+
+  met_first : (ways : List (List Event)) (other : List Event) → 0 < number_where (meets line machine) ways → IsFirstWay line machine ways (first_met line machine other ways)
+  met_first [] other some = absurd (omega (arith, some))
+  met_first (w ∷ rest) other some = by_met (met_first rest other) (meets line machine w) refl
+    where
+      by_met : (0 < number_where (meets line machine) rest → IsFirstWay line machine rest (first_met line machine other rest)) → (met : Bool) → meets line machine w ≡ met → IsFirstWay line machine (w ∷ rest) (cond (meets line machine w) w (first_met line machine other rest))
+      by_met others true is = subst (λ (b : Bool). IsFirstWay line machine (w ∷ rest) (cond b w (first_met line machine other rest))) (sym is)
+          (record { earlier = []; later = rest; is_next = refl; none = All-nil (λ (one : List Event). meets line machine one ≡ false); comes = is })
+      by_met others false is =
+          let some_left : 0 < one_if false + number_where (meets line machine) rest
+          = subst (λ (b : Bool). 0 < one_if b + number_where (meets line machine) rest) is some in
+          subst (λ (b : Bool). IsFirstWay line machine (w ∷ rest) (cond b w (first_met line machine other rest))) (sym is)
+          (later_first w rest (first_met line machine other rest) is (others (omega (arith, some_left))))
+
 -- ---- after all ways
 
 pub counts_all : (ways : List (List Event)) (j k : Judging) (line : Expectation) (machine : MachineData)
@@ -99,11 +110,11 @@ counts_all ways j k line machine fresh is =
     ap (λ (x : Judging). x.count) (is ∙ ap (λ (x : Judging). fold noted x ways) fresh) ∙ omega (arith, all)
 
 pub first_of_all : (ways : List (List Event)) (j k : Judging) (line : Expectation) (machine : MachineData)
-    → j ≡ record { file = machine; line = line; count = 0; first = [] } → k ≡ fold noted j ways → 0 < k.count → IsMet line machine ways k.first
+    → j ≡ record { file = machine; line = line; count = 0; first = [] } → k ≡ fold noted j ways → 0 < k.count → IsFirstWay line machine ways k.first
 first_of_all ways j k line machine fresh is some =
     let zero_yet : Judging = record { file = machine; line = line; count = 0; first = [] } in
     let all = counts_all ways j k line machine fresh is in
-    subst (λ (way : List Event). IsMet line machine ways way)
+    subst (λ (way : List Event). IsFirstWay line machine ways way)
     (sym (ap (λ (x : Judging). x.first) (is ∙ ap (λ (x : Judging). fold noted x ways) fresh) ∙ firsts ways zero_yet refl))
     (met_first line machine ways [] (omega (arith, some, all)))
 
@@ -113,7 +124,7 @@ pub noted_of : (ways : List (List Event)) (j k : Judging) (line : Expectation) (
     → IsNoted line machine ways count first
 noted_of ways j k line machine count first fresh is same-count same-first = record {
   counts = same-count ∙ counts_all ways j k line machine fresh is;
-  met = λ some. subst (λ (way : List Event). IsMet line machine ways way) (sym same-first)
+  met = λ some. subst (λ (way : List Event). IsFirstWay line machine ways way) (sym same-first)
       (first_of_all ways j k line machine fresh is (subst (λ (n : ℕ). 0 < n) same-count some));
 }
 
@@ -129,4 +140,4 @@ module _ (line : Expectation) (machine : MachineData) (ways : List (List Event))
 
   -- these are the first events of the first way that does
   pub first_found : (events : List Event) → IsNoted line machine ways count first → 0 < count → ComesFirst line machine first events → IsFirst line machine ways events
-  first_found events noted some comes = record { way = first; is_way = (noted.met some).is_way; comes = (noted.met some).comes; first = comes }
+  first_found events noted some comes = record { way = first; is_first = noted.met some; begins = comes }

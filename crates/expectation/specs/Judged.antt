@@ -1,8 +1,8 @@
 -- What is found of some ways: how many meet what an expectation names, and the events after which the first of these does.
-use Rattle.std.specs.Prelude.{◌≡◌, ◌<◌, ◌≤◌, ◌+◌, ◌==◌, ◌&&◌, ℕ, Bool, true, false, All, List, [], ◌∷◌, length, take, Option, None, Some, IfSome, if◌then◌else◌}
+use Rattle.std.specs.Prelude.{◌≡◌, ◌<◌, ◌≤◌, ◌+◌, ◌==◌, ◌&&◌, ℕ, Bool, true, false, All, List, [], ◌∷◌, ◌++◌, length, take, Option, None, Some, IfSome, if◌then◌else◌}
 use Rattle.std.specs.Global.{Vec}
 use Rattle.script.specs.{File.MachineData, declared.event.Event.Event}
-use Rattle.ways.specs.{Rules.IsOneOf, Tables.number_where, Tables.one_if}
+use Rattle.ways.specs.Tables.{number_where, one_if}
 use Rattle.expectation.specs.{Expectations.meets, declared.expectation.Expectation.Expectation, declared.judging.Verdict.Verdict}
 
 -- ---- the shortest beginning
@@ -19,18 +19,25 @@ pub record ComesFirst (line : Expectation) (machine : MachineData) (way events :
   pub soonest : IsSoonest line machine way number
   pub are : events ≡ take number way
 
--- The run of one of some lists meets what is named, and these events are the beginning after which it first does.
-pub record IsFirst (line : Expectation) (machine : MachineData) (ways : List (List Event)) (events : List Event) : Type 0 where
-  pub way : List Event
-  pub is_way : IsOneOf ways way
-  pub comes : meets line machine way ≡ true
-  pub first : ComesFirst line machine way events
-
 -- the run of no list meets what is named
 abbrev pub NoneMeets : Expectation → MachineData → List (List Event) → Type 0
 NoneMeets line machine ways = All (λ (way : List Event). meets line machine way ≡ false) ways
 
--- either no run meets it, or these events are the beginning of one after which it first does
+-- The first of some lists whose run meets what is named: the run of none before it does.
+pub record IsFirstWay (line : Expectation) (machine : MachineData) (ways : List (List Event)) (way : List Event) : Type 0 where
+  pub earlier : List (List Event)
+  pub later : List (List Event)
+  pub is_next : ways ≡ earlier ++ way ∷ later
+  pub none : NoneMeets line machine earlier
+  pub comes : meets line machine way ≡ true
+
+-- These events are the beginning of the first list whose run meets what is named, after which it first does.
+pub record IsFirst (line : Expectation) (machine : MachineData) (ways : List (List Event)) (events : List Event) : Type 0 where
+  pub way : List Event
+  pub is_first : IsFirstWay line machine ways way
+  pub begins : ComesFirst line machine way events
+
+-- either no run meets it, or these events are the beginning of the first that does, after which it first does
 abbrev pub IsFound : Expectation → MachineData → List (List Event) → Option (Vec Event) → Type 0
 IsFound line machine ways None = NoneMeets line machine ways
 IsFound line machine ways (Some events) = IsFirst line machine ways events.items
@@ -59,12 +66,7 @@ noted j way =
     let is_met = meets j.line j.file way in
     record j { count = j.count + one_if is_met; first = kept is_met j.count j.first way }
 
--- One of some ways, whose run meets what is named.
-pub record IsMet (line : Expectation) (machine : MachineData) (ways : List (List Event)) (way : List Event) : Type 0 where
-  pub is_way : IsOneOf ways way
-  pub comes : meets line machine way ≡ true
-
--- The number of ways whose run meets what is named, and one of these, if there is one.
+-- The number of ways whose run meets what is named, and the first of these, if there is one.
 pub record IsNoted (line : Expectation) (machine : MachineData) (ways : List (List Event)) (count : ℕ) (first : List Event) : Type 0 where
   pub counts : count ≡ number_where (meets line machine) ways
-  pub met : 0 < count → IsMet line machine ways first
+  pub met : 0 < count → IsFirstWay line machine ways first
