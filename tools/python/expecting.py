@@ -222,12 +222,14 @@ REFUSED = [
     ("print 1 after print 2", 9, "before"),
     ("print 1 before 2", 16, "print"),
     ("print 1 before print", 21, "a number, as 3 or $1F"),
+    ("print 1 before print $1", 22, "another number than the first"),
     ("reach 3", 7, "the number of a line of the machine file, as :41"),
     ("reach :1", 7, "the number of a line of the machine file in which a command of a task is"),
     ("reach :999", 7, "the number of a line of the machine file in which a command of a task is"),
     ("apart :1", 7, "lines of the machine file in which commands of one task are"),
     ("apart :14", 10, "lines of the machine file, as :12-:19"),
     ("apart :14-16 :26", 7, "lines of the machine file, as :12-:19"),
+    ("apart :14-:16 :18", 15, "lines of the machine file in which commands of another task are"),
     ("apart :1-:99 :26", 7, "lines of the machine file in which commands of one task are"),
 ]
 FILES = [

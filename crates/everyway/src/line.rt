@@ -216,6 +216,9 @@ fn print_line(alloc: Global, rest: Rest<'_, '_>) -> Result<Expectation, LineFaul
     let rest = after_word(alloc, rest.after(), "before")?;
     let rest = after_word(alloc, rest, "print")?;
     let second = value_in(alloc, rest)?;
+    if first == second {
+        return Err(not_read(alloc, rest.column(), "another number than the first"));
+    }
     ended(alloc, rest.after(), Expectation::PrintBefore(first, second))
 }
 
@@ -304,8 +307,16 @@ fn apart_line(
     rest: Rest<'_, '_>,
 ) -> Result<Expectation, LineFault> {
     let one = section_at(alloc, known, rest)?;
-    let other = section_at(alloc, known, rest.after())?;
-    ended(alloc, rest.after().after(), Expectation::Apart(one, other))
+    let rest = rest.after();
+    let other = section_at(alloc, known, rest)?;
+    if one.task == other.task {
+        return Err(not_read(
+            alloc,
+            rest.column(),
+            "lines of the machine file in which commands of another task are",
+        ));
+    }
+    ended(alloc, rest.after(), Expectation::Apart(one, other))
 }
 
 /// What a line says.
