@@ -1,6 +1,7 @@
 -- What a report on what is expected ensures of every run.
 use Rattle.std.specs.Global.{Vec}
-use Rattle.std.specs.Prelude.{◌≡◌, ◌++◌, ◌-◌, ℕ, Bool, true, false, All, List, Option, None, Some, is_none, is_some, flat_map, length, map, slice_get, if◌then◌else◌}
+use Rattle.std.specs.Prelude.{◌≡◌, ◌<◌, ◌++◌, ◌-◌, ℕ, Bool, true, false, All, codes, List, Option, None, Some, is_none, is_some, flat_map, length, map, slice_get, if◌then◌else◌}
+use Rattle.std.specs.Io.{StartsWith}
 use Rattle.std.specs.List.{list_all}
 use Rattle.wayreport.specs.Events.{event_line}
 use Rattle.ways.specs.Grouping.{grouped}
@@ -83,18 +84,27 @@ pub record Reports (f : Frame) (machine events : List ℕ) (expected : List Expe
   pub holds : all_hold ≡ list_all is_held judged
   pub shows : Shows machine events f judged number text
 
--- What was found of a line says that it holds exactly if it does.
+-- What is printed of a line begins with these words.
+abbrev pub Says : Frame → Judged → List ℕ → Type 0
+Says f j words = StartsWith (judged_text f.ways j) words
+
+-- That a line holds is found exactly if it does, and then, and only then, it is printed.
+pub record IsRightOf (f : Frame) (j : Judged) : Type 0 where
+  pub held : is_held j ≡ true → Holds j.expected.line f.file (all_ways f) × Says f j (codes "holds")
+  pub failed : is_held j ≡ false → Fails j.expected.line f.file (all_ways f) × Says f j (codes "does not hold")
+
 abbrev pub IsRight : Type 0
-IsRight =
-    (f : Frame) (j : Judged) → IsOf f j
-    → (is_held j ≡ true → Holds j.expected.line f.file (all_ways f)) × (is_held j ≡ false → Fails j.expected.line f.file (all_ways f))
+IsRight = (f : Frame) (j : Judged) → IsOf f j → IsRightOf f j
 
 -- ---- both texts
 
--- The frame is that of both texts and of the options, and what is printed is of all its ways.
-pub record Expects (machine events : List ℕ) (options : Options) (number : Option ℕ) (all_hold : Bool) (text : List ℕ) : Type 0 where
+-- The frame is that of both texts and of the options, and what is printed is of all its ways and of that many lines,
+-- of one at least.
+pub record Expects (machine events : List ℕ) (options : Options) (lines : ℕ) (number : Option ℕ) (all_hold : Bool) (text : List ℕ) : Type 0 where
   pub frame : Frame
   pub names : Paths
   pub expected : List Expected
   pub frames : IsFrameOf machine events options frame
+  pub are : length expected ≡ lines
+  pub some : 0 < length expected
   pub reports : Reports frame names.machine.now names.events.now expected number all_hold text

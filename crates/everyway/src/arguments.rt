@@ -1,12 +1,13 @@
 //! The command over any words and writers, and on the arguments of its process.
-ghost use Rattle.std.specs.Prelude.{◌≡◌, ◌≢◌, ◌≤◌, ◌⊎◌, IfOk, OnOk};
+ghost use Rattle.std.specs.Prelude.{◌≡◌, ◌≢◌, ◌≤◌, ◌⊎◌, IfErr, IfOk, OnOk, length};
 ghost use Rattle.std.specs.Io.KnownBytes.{Appends};
 ghost use Rattle.clap.specs.Walk.{texts as words_of};
 ghost use Rattle.execrun.specs.{CommandLine.AreRight, CommandLine.IsNoAnswer, Texts.IsTextAt, Texts.nothing_told};
-ghost use Rattle.everyway.specs.{CommandLine.command_line, Written.ExpectsAsked, Written.WritesGiven, Written.WritesVerdicts, Written.status_of};
+ghost use Rattle.everyway.specs.{CommandLine.command_line, Written.ExpectsAsked, Written.IsAtWork, Written.IsOfFile, Written.WritesGiven, Written.WritesVerdicts, Written.status_of};
 
 use crate::command_line::{Asked, Refusal, asked_by, not_text_error};
 use crate::failure::{Failure, report};
+use crate::file::Wanted;
 use crate::making::{document_at, items_at, report_in};
 use crate::searching::Report;
 use clap::error::ErrorKind;
@@ -35,7 +36,7 @@ const NOT_ALL_HOLD: u8 = 3;
 /// The status of what is printed.
 fn status_of(report: &Report) -> u8
     ensures status { result ≡ status_of report.now.all_hold }
-    ensures within { result ≤ 5 }
+    ensures ends { (result ≡ 0) ⊎ (result ≡ 3) }
 {
     if report.all_hold {
         ALL_HOLD
@@ -56,7 +57,8 @@ fn write_text<W: Write>(text: &[u8], out: &mut W) -> io::Result<()>
 fn write_report<'a, W: Write>(report: &Report, out: &mut W) -> Result<u8, Failure<'a>>
     ensures takes { IfOk result (λ _. Appends (W.contents out.old) (W.contents out.new) report.now.text.items) }
     ensures status { IfOk result (λ status. status ≡ status_of report.now.all_hold) }
-    ensures within { IfOk result (λ status. status ≤ 5) }
+    ensures ends { IfOk result (λ status. (status ≡ 0) ⊎ (status ≡ 3)) }
+    ensures fails { IfErr result IsAtWork }
 {
     match write_text(&report.text, out) {
         Err(_) => Err(Failure::WriteFailed),
@@ -104,6 +106,20 @@ fn options_of<'a>(asked: &Asked<'a>) -> Options<'a>
     }
 }
 
+/// The items of the file of expectations, if one is given.
+fn items_of<'a>(
+    alloc: Global,
+    asked: &Asked<'a>,
+    document: Option<&'a Table>,
+) -> Result<Vec<Wanted<'a>>, Failure<'a>>
+    ensures { IfOk result (λ items. IsOfFile asked.now.expect (length items.items)) }
+{
+    match asked.expect {
+        None => Ok(Vec::new(alloc)),
+        Some(path) => items_at(alloc, path, document),
+    }
+}
+
 /// What is printed of two texts, with the lines of a file if one is given.
 fn report_of<'a>(
     alloc: Global,
@@ -115,7 +131,7 @@ fn report_of<'a>(
     ensures { IfOk result (λ report. ExpectsAsked machine.now events.now asked.now report.all_hold report.text.items) }
 {
     let path = asked.expect.unwrap_or("");
-    let items = items_at(alloc, path, document)?;
+    let items = items_of(alloc, asked, document)?;
     let options = options_of(asked);
     report_in(
         alloc,
@@ -139,7 +155,8 @@ fn write_verdicts<'a, T: Texts, W: Write>(
     document: Option<&'a Table>,
     out: &mut W,
 ) -> Result<u8, Failure<'a>>
-    ensures within { IfOk result (λ status. status ≤ 5) }
+    ensures ends { IfOk result (λ status. (status ≡ 0) ⊎ (status ≡ 3)) }
+    ensures fails { IfErr result (λ failure. IsAtWork failure ⊎ (out.new ≡ out.old)) }
     ensures writes { IfOk result (WritesVerdicts (T.text_at texts.now) asked.now (W.contents out.old) (W.contents out.new)) }
 {
     let machine = text_at(texts, alloc, asked.paths.machine)?;
@@ -158,7 +175,9 @@ fn answer_with<T: Texts, W: Write, E: Write>(
     err: &mut E,
 ) -> u8
     ensures within { result ≤ 5 }
-    ensures writes { (result ≡ 0) ⊎ (result ≡ 3) → WritesVerdicts (T.text_at texts.now) asked.now (W.contents out.old) (W.contents out.new) result }
+    ensures held { result ≡ 0 → WritesVerdicts (T.text_at texts.now) asked.now (W.contents out.old) (W.contents out.new) result }
+    ensures broken { result ≡ 3 → WritesVerdicts (T.text_at texts.now) asked.now (W.contents out.old) (W.contents out.new) result }
+    ensures refused { result ≢ 0 → result ≢ 3 → result ≢ 4 → out.new ≡ out.old }
 {
     match write_verdicts(texts, alloc, asked, document, out) {
         Ok(status) => status,
@@ -175,7 +194,9 @@ fn answer<T: Texts, W: Write, E: Write>(
     err: &mut E,
 ) -> u8
     ensures within { result ≤ 5 }
-    ensures writes { (result ≡ 0) ⊎ (result ≡ 3) → WritesVerdicts (T.text_at texts.now) asked.now (W.contents out.old) (W.contents out.new) result }
+    ensures held { result ≡ 0 → WritesVerdicts (T.text_at texts.now) asked.now (W.contents out.old) (W.contents out.new) result }
+    ensures broken { result ≡ 3 → WritesVerdicts (T.text_at texts.now) asked.now (W.contents out.old) (W.contents out.new) result }
+    ensures refused { result ≢ 0 → result ≢ 3 → result ≢ 4 → out.new ≡ out.old }
 {
     match expectations_at(texts, alloc, asked.expect) {
         Err(failure) => report(&failure, err),
@@ -194,6 +215,7 @@ fn answer_without_work<W: Write, E: Write>(error: &clap::Error, out: &mut W, err
     ensures within { result ≤ 5 }
     ensures no_answer { IsNoAnswer error.now → result ≢ 0 }
     ensures no_verdict { result ≢ 3 }
+    ensures refused { result ≢ 0 → result ≢ 4 → out.new ≡ out.old }
 {
     if error.kind() == ErrorKind::OutOfMemory {
         return report(&Failure::NoMemory, err);
@@ -221,7 +243,9 @@ pub fn run_on_texts<T: Texts, W: Write, E: Write>(
     err: &mut E,
 ) -> u8
     ensures status { result ≤ 5 }
-    ensures judged { AreRight command_line (words_of words.now) → (result ≡ 0) ⊎ (result ≡ 3) → WritesGiven (T.text_at texts.now) (words_of words.now) (W.contents out.old) (W.contents out.new) result }
+    ensures held { AreRight command_line (words_of words.now) → result ≡ 0 → WritesGiven (T.text_at texts.now) (words_of words.now) (W.contents out.old) (W.contents out.new) result }
+    ensures broken { result ≡ 3 → WritesGiven (T.text_at texts.now) (words_of words.now) (W.contents out.old) (W.contents out.new) result }
+    ensures refused { result ≢ 0 → result ≢ 3 → result ≢ 4 → out.new ≡ out.old }
 {
     match asked_by(alloc, words) {
         Err(Refusal::Words(error)) => answer_without_work(&error, out, err),
@@ -241,7 +265,9 @@ pub fn run<R: Files, W: Write, E: Write>(
     err: &mut E,
 ) -> u8
     ensures status { result ≤ 5 }
-    ensures judged { AreRight command_line (words_of words.now) → (result ≡ 0) ⊎ (result ≡ 3) → WritesGiven nothing_told (words_of words.now) (W.contents out.old) (W.contents out.new) result }
+    ensures held { AreRight command_line (words_of words.now) → result ≡ 0 → WritesGiven nothing_told (words_of words.now) (W.contents out.old) (W.contents out.new) result }
+    ensures broken { result ≡ 3 → WritesGiven nothing_told (words_of words.now) (W.contents out.old) (W.contents out.new) result }
+    ensures refused { result ≢ 0 → result ≢ 3 → result ≢ 4 → out.new ≡ out.old }
 {
     run_on_texts(&SystemTexts(rt), alloc, words, out, err)
 }

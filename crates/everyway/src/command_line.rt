@@ -1,9 +1,9 @@
 //! The command line: options and two paths.
-ghost use Rattle.std.specs.Prelude.{◌≡◌, ◌≤◌, IfErr, IfOk, IfSome, false, true, codes};
-ghost use Rattle.clap.specs.Words.{FailsBy, HasMatchesOf, app_of, fault_of, kind_of, rule_of, with_rule};
+ghost use Rattle.std.specs.Prelude.{◌≡◌, ◌≤◌, IfErr, IfOk, IfSome, codes, false, option_map, true};
+ghost use Rattle.clap.specs.Words.{FailsBy, HasMatchesOf, app_of, fault_of, first_value, found_of, kind_of, matched_of, raw_values, rule_of, with_rule};
 ghost use Rattle.clap.specs.Walk.{texts};
 ghost use Rattle.execrun.specs.CommandLine.{AreRight, IsNoAnswer, option_rule, path_rule};
-ghost use Rattle.everyway.specs.CommandLine.{AreGivenBy, ArePathsOf, IsNoHelp, TakesWords, command_line, lines_alone, options_alone};
+ghost use Rattle.everyway.specs.CommandLine.{ArePathsIn, IsAskedIn, IsExtra, IsGivenBy, IsNoHelp, TakesWords, command_line, lines_alone, number_in, options_alone, or_none, texts_at};
 
 use crate::failure::Failure;
 use clap::error::ErrorKind;
@@ -140,7 +140,8 @@ pub enum Refusal<'a> {
 
 /// The number of extras that a word gives.
 fn extras_in(word: &str) -> Option<usize>
-    ensures { IfSome result (λ number. number ≤ 8) }
+    ensures few { IfSome result (λ number. number ≤ 8) }
+    ensures is_it { IfSome result (λ number. number ≡ number_in word.now) }
 {
     let Ok(number) = word.parse::<usize>() else {
         return None;
@@ -155,6 +156,7 @@ fn extras_in(word: &str) -> Option<usize>
 /// The number of extras that is asked for.
 fn extra_given<'a>(matches: &ArgMatches<'a>) -> Result<usize, Failure<'a>>
     ensures few { IfOk result (λ extra. extra ≤ 8) }
+    ensures is_it { IfOk result (IsExtra (first_value (found_of matches.now) (codes "extra"))) }
 {
     let Some(word) = matches.get_str("extra") else {
         return Ok(1);
@@ -166,7 +168,9 @@ fn extra_given<'a>(matches: &ArgMatches<'a>) -> Result<usize, Failure<'a>>
 }
 
 /// The number of a line that a word gives, from 1.
-fn line_number(word: &str) -> Option<usize> {
+fn line_number(word: &str) -> Option<usize>
+    ensures { IfSome result (λ number. number ≡ number_in word.now) }
+{
     match word.parse::<usize>() {
         Ok(0) => None,
         Ok(number) => Some(number),
@@ -175,7 +179,9 @@ fn line_number(word: &str) -> Option<usize> {
 }
 
 /// The line of which the events are asked for, if one is.
-fn events_given<'a>(matches: &ArgMatches<'a>) -> Result<Option<usize>, Failure<'a>> {
+fn events_given<'a>(matches: &ArgMatches<'a>) -> Result<Option<usize>, Failure<'a>>
+    ensures { IfOk result (λ number. option_map number_in (first_value (found_of matches.now) (codes "events")) ≡ number) }
+{
     let Some(word) = matches.get_str("events") else {
         return Ok(None);
     };
@@ -186,19 +192,18 @@ fn events_given<'a>(matches: &ArgMatches<'a>) -> Result<Option<usize>, Failure<'
 }
 
 /// The lines that are given.
-fn lines_given<'a>(alloc: Global, matches: &ArgMatches<'a>) -> Result<Vec<&'a str>, AllocError> {
-    let mut lines = Vec::new(alloc);
-    if let Some(given) = matches.get_strs("must") {
-        for line in given {
-            lines.push(*line)?;
-        }
+fn lines_given<'a>(alloc: Global, matches: &ArgMatches<'a>) -> Result<Vec<&'a str>, AllocError>
+    ensures { IfOk result (λ lines. texts_at lines.items ≡ or_none (option_map raw_values (matched_of (found_of matches.now) (codes "must")))) }
+{
+    match matches.get_strs("must") {
+        None => Ok(Vec::new(alloc)),
+        Some(given) => Vec::from_slice(alloc, given),
     }
-    Ok(lines)
 }
 
 /// The paths that are given.
 fn paths_given<'a>(matches: &ArgMatches<'a>) -> Option<Paths<'a>>
-    ensures { IfSome result (ArePathsOf matches.now) }
+    ensures { IfSome result (ArePathsIn matches.now) }
 {
     let Some(machine) = matches.get_str("MACHINE") else {
         return None;
@@ -215,7 +220,8 @@ fn asked_with<'a>(
     matches: &ArgMatches<'a>,
     paths: Paths<'a>,
 ) -> Result<Asked<'a>, Failure<'a>>
-    ensures { IfOk result (λ asked. asked.paths ≡ paths.entry) }
+    requires { ArePathsIn matches.now paths }
+    ensures { IfOk result (IsAskedIn matches.now) }
 {
     let extra = extra_given(matches)?;
     let events = events_given(matches)?;
@@ -307,7 +313,7 @@ fn no_paths<'a>(alloc: Global) -> Refusal<'a>
 
 /// What the matches of a command line ask for.
 fn asked_of<'a>(alloc: Global, matches: &ArgMatches<'a>) -> Result<Asked<'a>, Refusal<'a>>
-    ensures given { IfOk result (λ asked. ArePathsOf matches.now asked.paths) }
+    ensures given { IfOk result (IsAskedIn matches.now) }
     ensures unasked { IfErr result IsNoHelp }
 {
     match paths_given(matches) {
@@ -328,7 +334,7 @@ fn asked_of<'a>(alloc: Global, matches: &ArgMatches<'a>) -> Result<Asked<'a>, Re
 /// Source: project rule.
 #[tactic(auto, using(execrun::proofs::CommandLemmas::no_answer_if_right))]
 pub fn asked_by<'a>(alloc: Global, words: &'a [&'a str]) -> Result<Asked<'a>, Refusal<'a>>
-    ensures given { IfOk result (λ asked. AreGivenBy (texts words.now) asked.paths) }
+    ensures given { IfOk result (IsGivenBy (texts words.now)) }
     ensures right { AreRight command_line (texts words.now) → IfErr result IsNoHelp }
 {
     match matches_given(alloc, words) {

@@ -1,5 +1,6 @@
 //! Why there is no report, what the command says of it, and the status that it ends with.
-ghost use Rattle.std.specs.Prelude.{◌≢◌, ◌≤◌};
+ghost use Rattle.std.specs.Prelude.{◌≡◌, ◌≢◌, ◌≤◌};
+ghost use Rattle.everyway.specs.Written.{IsAtWork};
 
 use crate::file::ExpectFault;
 use crate::line::Misread;
@@ -117,6 +118,7 @@ impl Failure<'_> {
         ensures within { result ≤ 5 }
         ensures no_report { result ≢ 0 }
         ensures no_verdict { result ≢ 3 }
+        ensures at_work { IsAtWork self.now → result ≡ 4 }
     {
         match self {
             Failure::Machine(_) | Failure::Expectations(_, _) | Failure::Line(_, _) => 1,
@@ -207,6 +209,7 @@ pub(crate) fn report<E: Write>(failure: &Failure<'_>, err: &mut E) -> u8
     ensures within { result ≤ 5 }
     ensures no_report { result ≢ 0 }
     ensures no_verdict { result ≢ 3 }
+    ensures at_work { IsAtWork failure.now → result ≡ 4 }
 {
     let _ = writeln!(err, "execexplore: {failure}");
     failure.status()

@@ -1,5 +1,5 @@
 //! The report that a command line asks for, from two texts and a file of expectations.
-ghost use Rattle.std.specs.Prelude.{◌≡◌, IfOk};
+ghost use Rattle.std.specs.Prelude.{◌≡◌, ◌<◌, ◌+◌, IfOk, length};
 ghost use Rattle.execexplore.specs.Framing.{IsFrameOf};
 ghost use Rattle.everyway.specs.Reports.{Expects};
 
@@ -38,7 +38,10 @@ fn lines_of<'a>(
     lines: &[&'a str],
     path: &'a str,
     items: &[Wanted<'a>],
-) -> Result<Vec<Expected<'a>>, Failure<'a>> {
+) -> Result<Vec<Expected<'a>>, Failure<'a>>
+    ensures number { IfOk result (λ expected. length expected.items ≡ length lines.now + length items.now) }
+    ensures some { IfOk result (λ expected. 0 < length expected.items) }
+{
     let listed = match read_listed(alloc, machine) {
         Ok(listed) => listed,
         Err(fault) => return Err(Failure::of_machine(fault)),
@@ -102,7 +105,7 @@ pub(crate) fn report_in<'a>(
     items: &[Wanted<'a>],
     number: Option<usize>,
 ) -> Result<Report, Failure<'a>>
-    ensures { IfOk result (λ report. Expects machine.now events.now options.now number report.all_hold report.text.items) }
+    ensures { IfOk result (λ report. Expects machine.now events.now options.now (length lines.now + length items.now) number report.all_hold report.text.items) }
 {
     let frame = frame_of(alloc, machine, events, options)?;
     let expected = lines_of(alloc, machine, lines, path, items)?;

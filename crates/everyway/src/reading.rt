@@ -1,4 +1,6 @@
 //! What is expected, from the command line and from a file.
+ghost use Rattle.std.specs.Prelude.{◌≡◌, ◌+◌, IfOk, OnOk, length};
+
 use crate::failure::Failure;
 use crate::file::Wanted;
 use crate::line::{Known, LineFault, read_line};
@@ -35,6 +37,43 @@ fn expectation_in<'a>(
     }
 }
 
+/// Adds what the lines of the command line say.
+fn push_options<'a>(
+    alloc: Global,
+    known: Known<'_, '_>,
+    lines: &[&'a str],
+    found: &mut Vec<Expectation>,
+) -> Result<(), Failure<'a>>
+    ensures { OnOk result (length found.new.items ≡ length found.old.items + length lines.now) }
+{
+    let mut number = 1usize;
+    for text in lines {
+        let line = expectation_in(alloc, known, Origin::Option(number), text)?;
+        found.push(line)?;
+        number = number.saturating_add(1);
+    }
+    Ok(())
+}
+
+/// Adds what the items of the file at a path say.
+fn push_items<'a>(
+    alloc: Global,
+    known: Known<'_, '_>,
+    path: &'a str,
+    items: &[Wanted<'a>],
+    found: &mut Vec<Expectation>,
+) -> Result<(), Failure<'a>>
+    ensures { OnOk result (length found.new.items ≡ length found.old.items + length items.now) }
+{
+    let mut number = 1usize;
+    for wanted in items {
+        let line = expectation_in(alloc, known, Origin::File(path, number), wanted.must)?;
+        found.push(line)?;
+        number = number.saturating_add(1);
+    }
+    Ok(())
+}
+
 /// What the lines of the command line say, and then those of the items of the file at a path.
 fn expectations_in<'a>(
     alloc: Global,
@@ -42,18 +81,12 @@ fn expectations_in<'a>(
     lines: &[&'a str],
     path: &'a str,
     items: &[Wanted<'a>],
-) -> Result<Vec<Expectation>, Failure<'a>> {
+) -> Result<Vec<Expectation>, Failure<'a>>
+    ensures { IfOk result (λ found. length found.items ≡ length lines.now + length items.now) }
+{
     let mut found = Vec::new(alloc);
-    for (at, text) in lines.iter().enumerate() {
-        let origin = Origin::Option(at.saturating_add(1));
-        let line = expectation_in(alloc, known, origin, text)?;
-        found.push(line)?;
-    }
-    for (at, wanted) in items.iter().enumerate() {
-        let origin = Origin::File(path, at.saturating_add(1));
-        let line = expectation_in(alloc, known, origin, wanted.must)?;
-        found.push(line)?;
-    }
+    push_options(alloc, known, lines, &mut found)?;
+    push_items(alloc, known, path, items, &mut found)?;
     Ok(found)
 }
 
@@ -69,11 +102,15 @@ fn with_reasons<'a>(
     found: &[Expectation],
     without: usize,
     items: &[Wanted<'a>],
-) -> Result<Vec<Expected<'a>>, AllocError> {
+) -> Result<Vec<Expected<'a>>, AllocError>
+    ensures { IfOk result (λ expected. length expected.items ≡ length found.now) }
+{
     let mut expected = Vec::new(alloc);
-    for (number, line) in found.iter().enumerate() {
+    let mut number = 0usize;
+    for line in found {
         let why = why_of(without, items, number);
         expected.push(Expected { line: *line, why })?;
+        number = number.saturating_add(1);
     }
     Ok(expected)
 }
@@ -91,7 +128,9 @@ pub(crate) fn expected_in<'a>(
     lines: &[&'a str],
     path: &'a str,
     items: &[Wanted<'a>],
-) -> Result<Vec<Expected<'a>>, Failure<'a>> {
+) -> Result<Vec<Expected<'a>>, Failure<'a>>
+    ensures { IfOk result (λ expected. length expected.items ≡ length lines.now + length items.now) }
+{
     let found = expectations_in(alloc, known, lines, path, items)?;
     let expected = with_reasons(alloc, &found, lines.len(), items)?;
     Ok(expected)
