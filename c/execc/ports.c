@@ -195,7 +195,7 @@ static ULONG message_address(struct Message *message, int may_make) {
     }
     if (object) return object->address;
     if (!may_make)
-        refuse("this is no message that was sent before; an interrupt can only send one that a task has sent");
+        refuse("this message was not sent before; an interrupt can only send one that a task has sent");
     ULONG address = issue("NewMsg $%X 0", reply);
     need_memory(!address);
     if (!address) refuse("there is no memory for the message, or there are 1,024; free some");

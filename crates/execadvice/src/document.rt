@@ -66,7 +66,7 @@ fn character_likely(c: char) -> Option<&'static str> {
             "this is JSON; a machine file is TOML, with KEY = VALUE, and [[task]] above each task",
         ),
         '<' => Some(
-            "this is no TOML: a machine file has KEY = VALUE, and [[task]] above each task",
+            "this is not TOML: a machine file has KEY = VALUE, and [[task]] above each task",
         ),
         ':' => Some("TOML has = between a key and its value"),
         '(' | ')' | '}' => Some("an array is between [ and ]"),

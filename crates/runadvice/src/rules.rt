@@ -80,7 +80,7 @@ impl Asking<'_, '_> {
         let alloc = self.alloc;
         let mask = self.refused.value(number);
         if mask == u32::MAX && self.is_allocated(number) {
-            return Ok(Fault::of(number, format!(in alloc; "is no mask of signals")?, true));
+            return Ok(Fault::of(number, format!(in alloc; "is not a mask of signals")?, true));
         }
         let bit = (mask & 0xFFF).trailing_zeros();
         let hint = if mask < 32 && (is_likely_number(mask) || self.is_allocated(number)) {
