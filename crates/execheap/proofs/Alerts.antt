@@ -203,7 +203,8 @@ module _ {s : Numbered} (sound : IsSoundHeap s) (space : IsSpace s) (list h : �
       ∙ ap (λ a. is_in_nodes a (map (address_in (places variant.Node s)) (sequence s.sequences h))) (ap (λ o. unwrap_or o 0) lives.1)
       ∙ stands_shown sound space h m lives.0 lives.1
 
-  -- if the list, the node and the predecessor are there, and the node is not linked, the predecessor has to be in the list
+  -- if the list, the node and the predecessor are there, and the node is not linked, the predecessor has to be in the
+  -- list
   pub insert_found : (node pred : ℕ) {n : ℕ} (p : Option ℕ) {stands : Bool} → list_alert list (shown_heap s) ≡ None
       → number_at variant.Node node s.table ≡ Some n → pred_alert (predecessor pred) (shown_heap s) ≡ None
       → option_map (address_in (places variant.Node s)) p ≡ predecessor pred

@@ -1,4 +1,5 @@
--- A port that a request in progress has as its reply port: by number a slot of the requests has it, by address a block does.
+-- A port that a request in progress has as its reply port: by number a slot of the requests has it, by address a block
+-- does.
 use Rattle.std.proofs.Common.{◌≡◌, ℕ, zero, suc, List, [], ◌∷◌, Bool, true, false, map, refl, ap, sym, ◌∙◌, Some, None, Option, is_some, ◌||◌, nat_eq, ◌&&◌, unwrap_or}
 use Rattle.std.specs.List.{list_any}
 use Rattle.memlist.specs.Blocks.{Blocks}

@@ -1,4 +1,5 @@
--- Entries of blocks: each is the one that its address finds, and what holds of each entry carries over to what is shown.
+-- Entries of blocks: each is the one that its address finds, and what holds of each entry carries over to what is
+-- shown.
 use Rattle.std.proofs.Common.{◌≡◌, ℕ, ◌+◌, ◌<◌, List, [], ◌∷◌, Bool, true, false, cond, map, refl, ap, sym, ◌∙◌, subst, arith, Option, Some, is_some, unwrap_or, option_map, nat_cmp, is_eq, Ordering, Less, Equal, Greater}
 use Rattle.std.specs.{List.AllByRecursion, Ordering.eq_by_cmp, FinMap.find, FinMap.is_sorted, FinMap.put, FinMap.Entries.where_key, FinMap.Entries.by_order}
 use Rattle.memlist.specs.Blocks.{Blocks}

@@ -44,7 +44,8 @@ module _ {s : Numbered} (sound : IsSoundTable s.table) (formed : IsWellFormed s.
           ∙ lives;
     }
 
-    -- if what holds the objects of other kinds gives the same numbers, and that of this kind gives one as the table does
+    -- if what holds the objects of other kinds gives the same numbers, and that of this kind gives one as the table
+    -- does
     pub kept_made : (u : Numbered) → u.table ≡ made → u.sequences ≡ s.sequences → u.homes ≡ s.homes
         → ((k : Kind) → kind_code k ≢ kind_code kind → own_shape k u ≡ own_shape k s) → Fits (own_shape kind u) (pool_of kind made) → IsApt u.ports u.sems u.tasks → IsAlong s u → IsKept u
     kept_made u is sequences homes same own apt along = record {

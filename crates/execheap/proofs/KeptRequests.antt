@@ -1,4 +1,5 @@
--- What calls on requests leave alone: by number, the invariant goes on if one request changes, with its message and its place in the timer.
+-- What calls on requests leave alone: by number, the invariant goes on if one request changes, with its message and its
+-- place in the timer.
 use Rattle.std.proofs.Common.{◌≡◌, ◌≢◌, ℕ, ◌+◌, ◌<◌, ◌≤◌, ◌^◌, Bool, true, false, inl, inr, ◌⊎◌, refl, ap, sym, ◌∙◌, subst, arith, ℤ, Some, None, Option, is_some, not, unwrap_or, ◌&&◌, ◌||◌, ◌/◌, ◌%◌, if◌then◌else◌, IfSome, IsSome, IsTrue}
 use Rattle.std.proofs.lemmas.Bool.{cases_eq}
 use Rattle.execlist.specs.{Lists.home, Pool.Pooled, Pool.slot, Answers.kept_or}
@@ -16,7 +17,8 @@ use Rattle.execheap.proofs.{Front.front_step, KeptPorts.IsOwn, Matching.number_p
 
 -- ---- one request is another
 
--- the same requests live, and have the same reply ports; request r is in progress now or not, and all others as they were
+-- the same requests live, and have the same reply ports; request r is in progress now or not, and all others as they
+-- were
 pub record IsWritten (way : Bool) (r : ℕ) (old new : Pooled TimerRequest) : Type 0 where
   pub same : shape new ≡ shape old
   pub here : is_way_at r new ≡ way

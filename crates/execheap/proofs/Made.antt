@@ -87,7 +87,8 @@ module _ {kind : Kind} {s : Numbered} {n a : ℕ} {t : Tabled} (made : IsMade ki
   pub sound_new : IsSoundTable t
   sound_new = subst IsSoundTable (sym made.is) (sound_made made.sound made.formed kind n a made.stocked made.number made.address)
 
-  -- what objects hold fits the table if what holds the objects of other kinds gives the same numbers, and that of this kind the next
+  -- what objects hold fits the table if what holds the objects of other kinds gives the same numbers, and that of this
+  -- kind the next
   pub kept_new : (u : Numbered) → u.table ≡ t → u.sequences ≡ s.sequences → u.homes ≡ s.homes
       → ((k : Kind) → kind_code k ≢ kind_code kind → own_shape k u ≡ own_shape k s) → Fits (own_shape kind u) (pool_of kind t) → IsApt u.ports u.sems u.tasks
       → IsAlong s u → IsKept u
@@ -154,7 +155,8 @@ module _ {kind : Kind} {s : Numbered} {n a : ℕ} {t : Tabled} (gone : IsFreed k
   pub sound_left : IsSoundTable t
   sound_left = subst IsSoundTable (sym gone.is) (sound_freed gone.sound gone.formed kind n a gone.live)
 
-  -- what objects hold fits the table, if nothing has it, and what holds the objects of other kinds gives the same numbers
+  -- what objects hold fits the table, if nothing has it, and what holds the objects of other kinds gives the same
+  -- numbers
   pub kept_left : (u : Numbered) → u.table ≡ t → u.sequences ≡ s.sequences → u.homes ≡ s.homes
       → ((k : Kind) → kind_code k ≢ kind_code kind → own_shape k u ≡ own_shape k s) → Fits (own_shape kind u) (pool_of kind t) → IsLoose kind n s
       → IsApt u.ports u.sems u.tasks → IsAlong s u → IsKept u

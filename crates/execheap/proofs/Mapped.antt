@@ -1,5 +1,6 @@
--- What the operations on sequences make of numbers, a map makes of what represents the numbers: each operation commutes with a map.
--- Nodes are numbers inside and addresses outside, and a sequence of numbers is shown as the sequence of their addresses.
+-- What the operations on sequences make of numbers, a map makes of what represents the numbers: each operation commutes
+-- with a map. Nodes are numbers inside and addresses outside, and a sequence of numbers is shown as the sequence of
+-- their addresses.
 use Rattle.std.proofs.Common.{◌≡◌, ℕ, suc, ◌-◌, ◌==◌, Bool, true, false, cond, not, ◌||◌, List, [], ◌∷◌, ◌++◌, length, take, drop, map, find, refl, sym, ◌∙◌, ap, arith, Option, Some, None, option_map, inl, inr, ◌⊎◌, ℤ, int_lt, if◌then◌else◌, eq-eqb, ne_eqb}
 use Rattle.std.specs.{List.AllByRecursion, List.list_any, Option.ForSome}
 use Rattle.std.proofs.lemmas.{Bool.cases_eq, Bool.or_left, Bool.or_parts, Bool.or_right, List.drop-map, List.length-map, List.map-append, List.take-map}

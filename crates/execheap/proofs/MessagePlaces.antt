@@ -1,4 +1,5 @@
--- What may be in a port: a message, or a request, whose numbers as messages are after those of the messages. Each has one address.
+-- What may be in a port: a message, or a request, whose numbers as messages are after those of the messages. Each has
+-- one address.
 use Rattle.std.proofs.Common.{◌≡◌, ◌≢◌, ℕ, ◌+◌, ◌-◌, ◌<◌, ◌≤◌, true, false, inl, inr, map, ap, sym, ◌∙◌, arith, Some, None, Option, List, [], ◌∷◌, is_some, IfSome, IsSome, unwrap_or, ◌++◌, ◌==◌, eq-eqb}
 use Rattle.std.specs.List.{list_any}
 use Rattle.std.proofs.lemmas.{Bool.cases_lt, Bool.or_left, List.get_or_append_left, List.get_or-append_right}

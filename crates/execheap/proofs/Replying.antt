@@ -1,4 +1,5 @@
--- What a reply makes of the objects that are shown: a message without a reply port changes its type, and another one is put at its port.
+-- What a reply makes of the objects that are shown: a message without a reply port changes its type, and another one is
+-- put at its port.
 use Rattle.std.proofs.Common.{◌≡◌, ℕ, ap, ◌≢◌, if◌then◌else◌, nat_eq}
 use Rattle.memlist.proofs.Answered.{nat_eq-other}
 use Rattle.msgport.specs.declared.action.Action.TheVariants as action

@@ -1,4 +1,5 @@
--- Objects stay sound if nodes are linked and unlinked: no block and no number changes, and a linked node and its list still live.
+-- Objects stay sound if nodes are linked and unlinked: no block and no number changes, and a linked node and its list
+-- still live.
 use Rattle.std.proofs.Common.{◌≡◌, ℕ, zero, suc, ◌<◌, List, [], ◌∷◌, true, false, length, slice_set, refl, ap, sym, ◌∙◌, subst, arith, Some, None, Option, is_some, IsSome, MatchOption, get_or-set_same, get_or-set_other, length-set}
 use Rattle.execlist.specs.{Lists.KeyData, Lists.home, Pool.slot}
 use Rattle.execheap.specs.{declared.tag.Kind.Kind, Table.pool_of, Numbered.Numbered, Numbered.Fits, Numbered.IsKept, Numbered.own_shape, Numbered.places}
@@ -18,7 +19,8 @@ home_cleared [] n = refl
 home_cleared (o ∷ homes) zero = refl
 home_cleared (o ∷ homes) (suc n) = home_cleared homes n
 
--- what holds of each node with the home that it had, and of one with the home that is set, holds of each with the home that it has then
+-- what holds of each node with the home that it had, and of one with the home that is set, holds of each with the home
+-- that it has then
 home_either : (P : ℕ → Option ℕ → Type 0) (homes : List (Option ℕ)) (n : ℕ) (o : Option ℕ) → home (slice_set homes n o) n ≡ o → P n o
     → ((m : ℕ) → P m (home homes m)) → (m : ℕ) → P m (home (slice_set homes n o) m)
 home_either P homes n o set here there m = either_number m n (λ b. P m (home (slice_set homes n o) m))

@@ -14,8 +14,8 @@ abbrev pub reserved : ℕ → MessagePorts → MessagePorts
 reserved zero ports = ports
 reserved (suc n) ports = message_made 0 0 (reserved n ports)
 
--- no block, no object of a pool of that many of each kind, that many tasks that may wait at semaphores, none of these libraries loaded, and a
--- clock at 0 with ticks of that many microseconds
+-- no block, no object of a pool of that many of each kind, that many tasks that may wait at semaphores, none of these
+-- libraries loaded, and a clock at 0 with ticks of that many microseconds
 abbrev pub unused : List Region → (pool tasks : ℕ) → List Description → Bool → ℕ → Numbered
 unused regions pool tasks known asks tick_micros = record {
   table = table.unused regions pool known asks;

@@ -1,5 +1,5 @@
--- The public ports in the order in which the machine keeps them; how a message is replied, and what is to be done for the reply of a
--- request.
+-- The public ports in the order in which the machine keeps them; how a message is replied, and what is to be done for
+-- the reply of a request.
 use Rattle.std.specs.Prelude.{ℕ, ℤ, pos, negsuc, ◌<◌, Bool, if◌then◌else◌, nat_eq, List, Option, None, Some, option_map}
 use Rattle.execlist.specs.Order.{enqueue}
 use Rattle.iorequest.specs.declared.request.ReqState.TheVariants.{Idle, UnderWay, Quick, Replied}
@@ -31,7 +31,8 @@ replying message heap = replying_at (content_of message heap).reply heap
 
 -- ---- requests
 
--- what is to be done for the reply of a request that is begun, with its quick bit set or not, if it is done at once by a reply
+-- what is to be done for the reply of a request that is begun, with its quick bit set or not, if it is done at once by
+-- a reply
 unfoldable pub acting_begun : Bool → ℕ → Memory → Action
 acting_begun quick request memory = acting_at (replying_port quick request memory) memory.heap
 
@@ -49,7 +50,8 @@ taken_by_state Replied request heap = reply_taken request heap
 unfoldable pub taken_if_replied : ℕ → Heap → Heap
 taken_if_replied request heap = taken_by_state (request_of request heap).state request heap
 
--- what a task gets that looks for a request: the number of the signal to wait for, if it is in progress, and else its error
+-- what a task gets that looks for a request: the number of the signal to wait for, if it is in progress, and else its
+-- error
 unfoldable pub awaited_for : ℕ → Heap → Awaited
 awaited_for request heap =
     if is_under_way (request_of request heap) then awaited.UnderWay (port_of (request_of request heap).port heap).bit

@@ -40,8 +40,8 @@ places kind s = slots_of kind s.table
 abbrev pub address_in : List (Option ℕ) → ℕ → ℕ
 address_in all n = unwrap_or (slot all n) 0
 
--- The addresses of the messages by the numbers of the ports. Each request is a message too, from the beginning on: their numbers are after
--- those of the messages.
+-- The addresses of the messages by the numbers of the ports. Each request is a message too, from the beginning on:
+-- their numbers are after those of the messages.
 abbrev pub message_places : Numbered → List (Option ℕ)
 message_places s = places variant.Message s ++ places variant.Request s
 
@@ -156,7 +156,8 @@ pub record IsInTime (s : Numbered) : Type 0 where
   pub early : s.timing.timer.clock + 2 ^ 54 ≤ 2 ^ 64
   pub near : s.timing.timer.system ≤ s.timing.timer.clock + 2 ^ 53
 
--- A linked node and its list are objects that live, and what holds the objects of a kind gives the numbers that the table gives.
+-- A linked node and its list are objects that live, and what holds the objects of a kind gives the numbers that the
+-- table gives.
 pub record IsKept (s : Numbered) : Type 0 where
   pub live_nodes : (n : ℕ) → IsSome (home s.homes n) → IsSome (slot (places variant.Node s) n)
   pub live_lists : (n h : ℕ) → home s.homes n ≡ Some h → IsSome (slot (places variant.List s) h)

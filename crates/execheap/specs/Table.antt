@@ -1,5 +1,5 @@
--- Which blocks are objects and which are libraries: for each kind the addresses of its objects by number, and the libraries with their
--- bases, beside the blocks with their tags.
+-- Which blocks are objects and which are libraries: for each kind the addresses of its objects by number, and the
+-- libraries with their bases, beside the blocks with their tags.
 use Rattle.std.specs.Prelude.{◌≡◌, ℕ, ◌≤◌, Bool, nat_eq, List, [], ◌∷◌, filter, length, slice_index_or, slice_set, Option, None, Some, option_map, option_and_then}
 use Rattle.std.specs.List.{AllByRecursion}
 use Rattle.memlist.specs.Memory as memlist
@@ -11,8 +11,8 @@ use Rattle.execlist.specs.Pool.{Pooled, all_free, given, next_number, released, 
 use Rattle.execheap.specs.declared.tag.Tagged.TheVariants.{Plain, Object, Library}
 use Rattle.execheap.specs.{declared.tag.Kind.Kind, declared.tag.Tagged.Tagged, Tags.is_of, Tags.is_plain, Tags.kind_code, Tags.kinds, Tags.library_in, Tags.number_in, Tags.size_of, Tags.tag_of, Tags.tagged}
 
--- the blocks with their tags, and by kind the addresses of its objects by number, of each kind that many may live; and the libraries, which
--- are loaded into blocks
+-- the blocks with their tags, and by kind the addresses of its objects by number, of each kind that many may live; and
+-- the libraries, which are loaded into blocks
 pub record Tabled : Type 0 where
   pub memory : memlist.Memory
   pub pools : List (Pooled ℕ)
@@ -136,8 +136,9 @@ IsTagged t entry =
 abbrev pub counted : Kind → Blocks → ℕ
 counted kind blocks = length (filter (λ (entry : ℕ × (ℕ × ℕ)). is_of kind (tagged entry.1.1)) blocks)
 
--- Blocks and numbers say each other: a tag names the object or the library of its block's address, an object that has an address begins at
--- a block with its tag, a loaded library does, and of each kind as many blocks are tagged as numbers are given.
+-- Blocks and numbers say each other: a tag names the object or the library of its block's address, an object that has
+-- an address begins at a block with its tag, a loaded library does, and of each kind as many blocks are tagged as
+-- numbers are given.
 pub record IsMatched (t : Tabled) : Type 0 where
   pub tagged : AllByRecursion (IsTagged t) t.memory.blocks
   pub complete : (kind : Kind) → (number address : ℕ) → slot (slots_of kind t) number ≡ Some address

@@ -1,5 +1,5 @@
--- The tag that is beside a block: 0 for a plain block; below $80000000 the kind of the object that begins there and its number; from
--- there on the number of a library.
+-- The tag that is beside a block: 0 for a plain block; below $80000000 the kind of the object that begins there and its
+-- number; from there on the number of a library.
 use Rattle.std.specs.Prelude.{ℕ, zero, suc, ◌+◌, ◌-◌, ◌*◌, ◌/◌, ◌%◌, nat_eq, nat_lt, slice_get, if◌then◌else◌, Bool, true, false, List, [], ◌∷◌, Option, None, Some}
 use Rattle.execheap.specs.declared.tag.Tagged.TheVariants.{Plain, Object, Library}
 use Rattle.execheap.specs.{declared.tag.Kind.Kind, declared.tag.Tagged.Tagged}

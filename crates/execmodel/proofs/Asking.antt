@@ -1,5 +1,5 @@
--- What calls on requests, and the clock, make of the blocks and of the requests that wait: a request asks something else, and its reply is put, or
--- not.
+-- What calls on requests, and the clock, make of the blocks and of the requests that wait: a request asks something
+-- else, and its reply is put, or not.
 use Rattle.std.proofs.Common.{◌≡◌, ◌≢◌, ℕ, suc, ◌+◌, ◌<◌, Bool, true, false, List, [], ◌∷◌, ◌++◌, length, Option, None, Some, refl, sym, ap, ◌∙◌, subst, arith, ℤ, pos, not, ◌&&◌, cond, if◌then◌else◌, nat_eq, map, filter, ◌==◌, option_map}
 use Rattle.memlist.proofs.Answered.{cases_eq}
 use Rattle.execlist.specs.{Order.chosen, Order.chosen_or, Order.is_lower, Order.without_item, Lists.times}
@@ -16,8 +16,8 @@ use Rattle.execmodel.proofs.{Heaps.true_is_not_false, Agreement.times_last, Agre
 abbrev pub IsLoose : ℕ → Heap → Type 0
 IsLoose request heap = (port : ℕ) → IsAway request (messages_of port heap)
 
--- A request of that content is in order with the ports, and with the requests that wait then: it has the reply port that it had, and exactly if it is
--- in progress it waits, once, is in no port, and its reply port lives.
+-- A request of that content is in order with the ports, and with the requests that wait then: it has the reply port
+-- that it had, and exactly if it is in progress it waits, once, is in no port, and its reply port lives.
 pub record IsRewritten (request : ℕ) (content : TimerRequest) (later : List Queued) (s : State) : Type 0 where
   pub there : is_request_at request s.memory.heap ≡ true
   pub port : content.port ≡ (request_of request s.memory.heap).port
@@ -31,7 +31,8 @@ pub record IsReply (port request : ℕ) (content : TimerRequest) (heap : Heap) :
   pub done : is_under_way content ≡ false
   pub loose : IsLoose request heap
 
--- A request asks something else, and other requests wait; its reply is put, or not. That it is in order rests on that before.
+-- A request asks something else, and other requests wait; its reply is put, or not. That it is in order rests on that
+-- before.
 pub data Asks (s : State) : List Mark → Heap → List Queued → Type 0 where
   writes : (request : ℕ) (content : TimerRequest) (later : List Queued) → (IsTidy s → IsRewritten request content later s)
       → Asks s [] (with_request request content s.memory.heap) later
@@ -60,7 +61,8 @@ either_written : (Q : Heap → Type 0) (test : Bool) (request : ℕ) (content : 
 either_written Q true request content heap e same changed = subst (λ h. Q h) (sym (written_is request content heap e)) (changed e)
 either_written Q false request content heap e same changed = subst (λ h. Q h) (sym (written_none request content heap e)) same
 
--- what holds of the blocks, and also after a request that begins there becomes another, holds after a request is written
+-- what holds of the blocks, and also after a request that begins there becomes another, holds after a request is
+-- written
 pub written : (Q : Heap → Type 0) (request : ℕ) (content : TimerRequest) (heap : Heap) → Q heap
     → (is_request_at request heap ≡ true → Q (map (replaced request (Request content)) heap)) → Q (with_request request content heap)
 written Q request content heap same changed = either_written Q (is_request_at request heap) request content heap refl same changed
@@ -319,8 +321,8 @@ pub reply_calm : (found : Option ℕ) (request : ℕ) → IsCalm (reply_marks fo
 reply_calm None request = λ p. refl
 reply_calm (Some port) request = λ p. refl
 
--- what comes of that: the blocks and the requests that wait, the schedule; and the regions, whether libraries are asked, the clock and
--- system time, and how many tasks and programs there are, stay
+-- what comes of that: the blocks and the requests that wait, the schedule; and the regions, whether libraries are
+-- asked, the clock and system time, and how many tasks and programs there are, stay
 pub record Finishing (s : State) (marks : List Mark) (r : State) : Type 0 where
   pub regions : r.memory.regions ≡ s.memory.regions
   pub settings : settings_of r.memory ≡ settings_of s.memory

@@ -1,5 +1,5 @@
--- What a call makes of the blocks of memory and of what begins there: one of a few things, whatever the word. The laws of ports, of
--- semaphores and of memory go by these.
+-- What a call makes of the blocks of memory and of what begins there: one of a few things, whatever the word. The laws
+-- of ports, of semaphores and of memory go by these.
 use Rattle.std.proofs.Common.{[], ◌⊎◌, inl, inr, ◌≡◌, ◌≢◌, ℕ, Bool, true, false, List, ◌∷◌, Option, None, Some, refl, sym, ap, ◌∙◌, subst, arith, ◌-◌, not, if◌then◌else◌, nat_eq, is_some, codes, ◌&&◌, ◌||◌, option_map}
 use Rattle.memlist.proofs.Answered.{nat_eq-same}
 use Rattle.memlist.specs.{declared.region.Region.Region, Fit.fit, Memory.IsWellFormed}

@@ -47,8 +47,8 @@ stands = record {
 
 -- ---- that many ticks
 
--- The clock has gained that many ticks, unless an alert has stopped the machine; and it has not gained more. A machine that still goes on went on
--- before.
+-- The clock has gained that many ticks, unless an alert has stopped the machine; and it has not gained more. A machine
+-- that still goes on went on before.
 record Gains (n : ℕ) (s r : State) : Type 0 where
   micros : r.memory.timer.tick_micros ≡ s.memory.timer.tick_micros
   going : r.stopped ≡ false → r.memory.timer.clock ≡ s.memory.timer.clock + n * s.memory.timer.tick_micros

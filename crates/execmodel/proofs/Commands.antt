@@ -1,5 +1,5 @@
--- What a command that a body may have makes of the state, whether a body or a task makes the call: of the blocks of memory, of the tasks'
--- states and of the received signals one of a few things, whatever the word.
+-- What a command that a body may have makes of the state, whether a body or a task makes the call: of the blocks of
+-- memory, of the tasks' states and of the received signals one of a few things, whatever the word.
 use Rattle.std.proofs.Common.{◌≡◌, ℕ, Bool, true, false, List, [], ◌∷◌, Option, None, Some, length, refl, sym, ap, ◌∙◌, subst, ◌-◌, not, if◌then◌else◌, nat_eq, is_some, nat_lt, ◌&&◌, unwrap_or, length-set}
 use Rattle.execlist.specs.{Order.first, Disciplines.by_arrival}
 use Rattle.scheduler.specs.{Schedule.Schedule, Schedule.signals_of, Schedule.status_of, Schedule.awaits, Dispatch.signalled, Dispatch.arrives}
@@ -17,7 +17,8 @@ use Rattle.softint.specs.declared.latches.Latches.{Latches}
 use Rattle.taskq.specs.Tasks.{is_live}
 use Rattle.script.specs.declared.alert.Alert.{Alert}
 
--- what a call may make of the blocks, and the marks that it leaves: nothing, or a message changes, is put at a port or is taken there
+-- what a call may make of the blocks, and the marks that it leaves: nothing, or a message changes, is put at a port or
+-- is taken there
 pub data Touches : Heap → List Mark → Heap → Type 0 where
   remains : {heap : Heap} → Touches heap [] heap
   fills : {heap : Heap} (message : ℕ) (content : Content) → is_message_at message heap ≡ true → Touches heap [] (filled message content heap)
@@ -57,8 +58,8 @@ fixed_of s = (s.queue.names, s.running, s.nestings)
 abbrev pub fixed : State → (List (List ℕ) × Option ℕ × List Nesting) × Latches × Bodies
 fixed s = (fixed_of s.schedule, s.pending.latches, s.bodies)
 
--- That is what a call makes of a state; and the regions, whether libraries are asked, the timer, and how many tasks and programs there are,
--- and what is fixed, stay.
+-- That is what a call makes of a state; and the regions, whether libraries are asked, the timer, and how many tasks and
+-- programs there are, and what is fixed, stay.
 pub record Alters (s : State) (marks : List Mark) (r : State) : Type 0 where
   pub regions : r.memory.regions ≡ s.memory.regions
   pub settings : settings_of r.memory ≡ settings_of s.memory

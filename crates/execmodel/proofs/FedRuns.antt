@@ -79,8 +79,8 @@ no_task = record { name = []; pri = pos 0; start = false; code = [] }
 abbrev count_of_tasks : State → ℕ
 count_of_tasks s = length s.schedule.queue.states
 
--- what is known of a state between two inputs: all holds of it that holds in every state of a run, and, if it goes on, there are as many of each
--- as there are tasks
+-- what is known of a state between two inputs: all holds of it that holds in every state of a run, and, if it goes on,
+-- there are as many of each as there are tasks
 record IsReady (s : State) : Type 0 where
   sound : IsSoundState s
   sized : s.stopped ≡ false → Sized (count_of_tasks s) no_task s

@@ -1,4 +1,5 @@
--- What reads the scripts reads the same of scripts in which a body has one more command at its end, and what changes them leaves it there.
+-- What reads the scripts reads the same of scripts in which a body has one more command at its end, and what changes
+-- them leaves it there.
 use Rattle.std.proofs.Common.{inl, inr, ◌≡◌, ◌≢◌, ◌⊎◌, ℕ, zero, suc, ◌+◌, ◌<◌, List, [], ◌∷◌, ◌++◌, Option, None, Some, length, map, refl, ap, ap₂, ◌∙◌, arith, slice_get, slice_index_or, slice_set}
 use Rattle.exectrace.specs.Trace.{Value}
 use Rattle.script.specs.declared.variable.Variable.TheVariants.{Private, Shared}

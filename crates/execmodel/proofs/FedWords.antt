@@ -1,4 +1,5 @@
--- Each word does of a machine whose body grows what it does of the machine without that, and leaves the command at the end of the body.
+-- Each word does of a machine whose body grows what it does of the machine without that, and leaves the command at the
+-- end of the body.
 use Rattle.std.proofs.Common.{[], zero, suc, pos, ◌++◌, ◌&&◌, length, nat_le, nat_lt, is_some, ◌≡◌, ◌∙◌, ℕ, Bool, List, None, Option, Some, ap, false, refl, true, negsuc, w32, nat_eq, unwrap_or, ◌-◌, if◌then◌else◌}
 use Rattle.std.specs.Int.{cast_signed}
 use Rattle.execlist.specs.Order.{first}

@@ -28,7 +28,8 @@ pub either : {A : Type 0} (part : State → A) (a : A) (test : Bool) (o p : Outc
 either part a true o p first second = first
 either part a false o p first second = second
 
--- A call that may be refused keeps a part that stays if the machine stops, and that the call keeps if it is not refused.
+-- A call that may be refused keeps a part that stays if the machine stops, and that the call keeps if it is not
+-- refused.
 pub unless_keeps : {A : Type 0} (part : State → A) (alert : Option Alert) (t : ℕ) (call : Call) (effect : State → Outcome) (s : State)
     → part (record s { stopped = true }) ≡ part s → part (effect s).state ≡ part s
     → part (unless alert t call effect s).state ≡ part s
@@ -239,7 +240,8 @@ opened_keeps (Some i) memory = entered_keeps (base_of i memory.heap) i memory
 
 -- ---- requests
 
--- a state in whose schedule signals and the tasks' states change alone, or in whose memory the blocks, system time and what waits
+-- a state in whose schedule signals and the tasks' states change alone, or in whose memory the blocks, system time and
+-- what waits
 pub request_signals_change : (f : Schedule → Schedule) (s : State) → beside_waits (f s.schedule) ≡ beside_waits s.schedule
     → beside_requests (on_schedule f s) ≡ beside_requests s
 request_signals_change f s keeps = ap (λ (r : Schedule). record (beside_requests s) { schedule = r }) keeps

@@ -252,7 +252,8 @@ takes_keep asks regions old new (yields other there none may rest) formed base i
     joined base old (rid other old) new one.stays
     (takes_keep asks regions (rid other old) new rest (rid_formed regions other old formed) base one.stays.loaded one.opened)
 
--- What a call makes of a library: its block stays; or the call takes memory, counts the openings of a library, or expunges one.
+-- What a call makes of a library: its block stays; or the call takes memory, counts the openings of a library, or
+-- expunges one.
 pub data Meets (asks : Bool) (regions : List Region) (call : Call) (base : ℕ) (old new : Heap) : Type 0 where
   untouched : block_at base new ≡ block_at base old → Meets asks regions call base old new
   taken : Takes asks (is_of_libraries call.word) regions old new → Meets asks regions call base old new

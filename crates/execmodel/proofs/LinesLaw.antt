@@ -1,4 +1,5 @@
--- Each line of a run is short: proved of each thing that a machine does, from names that are short and commands that are brief.
+-- Each line of a run is short: proved of each thing that a machine does, from names that are short and commands that
+-- are brief.
 use Rattle.std.proofs.Common.{◌≡◌, ℕ, zero, suc, lit≤, Bool, true, false, List, [], ◌∷◌, Option, None, Some, length, map, refl, subst, ◌∙◌, All, IfSome, if◌then◌else◌, codes, slice_index_or}
 use Rattle.std.proofs.lemmas.List.Elements.{All-nil, All-head, All-tail, All-append, All-map, All-weaker}
 use Rattle.execlist.specs.Disciplines.{by_arrival}

@@ -87,7 +87,8 @@ abbrev pub beside_progress : Caller → Scripts → Scripts
 beside_progress (ByTask t) scripts = without_progress_of t scripts
 beside_progress (ByBody name) scripts = record scripts { shared = [] }
 
--- Nothing else is printed; the caller's progress, and the shared variables, change alone; and if the call has its arguments the programs stay brief.
+-- Nothing else is printed; the caller's progress, and the shared variables, change alone; and if the call has its
+-- arguments the programs stay brief.
 pub record Tells (c : Caller) (call : Call) (s : State) (o : Outcome) : Type 0 where
   pub lines : All (IsOwn (speaker c o.state) call) o.lines
   pub others : beside_progress c o.state.scripts ≡ beside_progress c s.scripts

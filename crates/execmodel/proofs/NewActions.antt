@@ -1,4 +1,5 @@
--- A step, a tick and a request do of a machine with a new task what they do of the machine without it, if no alert stops it.
+-- A step, a tick and a request do of a machine with a new task what they do of the machine without it, if no alert
+-- stops it.
 use Rattle.std.proofs.Common.{◌≡◌, ◌≢◌, ◌∙◌, ℕ, zero, suc, ◌≤◌, ◌+◌, Bool, true, false, List, [], ◌∷◌, Option, None, Some, length, map, refl, sym, ap, ap₂, arith, if◌then◌else◌, slice_get, slice_index_or, codes}
 use Rattle.execlist.specs.{Disciplines.by_arrival, Lists.is_at, Lists.times, Order.first}
 use Rattle.softint.specs.Sources.{source_text}

@@ -1,5 +1,5 @@
--- A task that was never added comes after the others: what reads a schedule, the scripts or the memory reads the same of the other tasks, and what
--- changes them leaves it there.
+-- A task that was never added comes after the others: what reads a schedule, the scripts or the memory reads the same
+-- of the other tasks, and what changes them leaves it there.
 use Rattle.std.proofs.Common.{inl, inr, ◌≡◌, ◌≢◌, ◌⊎◌, ℕ, zero, suc, ◌+◌, ℤ, Bool, true, false, not, ◌&&◌, ◌||◌, if◌then◌else◌, List, [], ◌∷◌, ◌++◌, Option, None, Some, length, nat_eq, refl, sym, ap, ap₂, ◌∙◌, arith, slice_index_or, slice_set, length-set, length-append, find, cond, subst, int_lt, int_le, ◌==◌}
 use Rattle.std.specs.{List.range_with_len, Option.option_or}
 use Rattle.memlist.proofs.Answered.{cases_eq}

@@ -1,4 +1,5 @@
--- Each word does of a machine with a new task what it does of the machine without it, and leaves the task as it is, unless its call is refused.
+-- Each word does of a machine with a new task what it does of the machine without it, and leaves the task as it is,
+-- unless its call is refused.
 use Rattle.std.proofs.Common.{◌≡◌, ◌≢◌, ◌∙◌, ℕ, zero, suc, ◌+◌, ◌-◌, pos, negsuc, ℤ, Bool, true, false, not, ◌&&◌, if◌then◌else◌, List, [], ◌∷◌, ◌++◌, Option, None, Some, length, nat_eq, nat_lt, nat_le, is_some, unwrap_or, refl, sym, ap, subst, w32, arith}
 use Rattle.std.specs.Int.{cast_signed, cast_unsigned}
 use Rattle.execlist.specs.{Order.first, Disciplines.by_arrival}

@@ -1,5 +1,5 @@
--- Tasks get a semaphore in the order in which they asked, from states if each task waits at one place at most and the running one at
--- none.
+-- Tasks get a semaphore in the order in which they asked, from states if each task waits at one place at most and the
+-- running one at none.
 use Rattle.std.proofs.Common.{◌≡◌, ◌≢◌, ℕ, Bool, true, false, List, [], ◌∷◌, ◌++◌, Option, None, Some, refl, sym, ap, ◌∙◌, subst, not, cond, if◌then◌else◌, nat_eq, map, drop, option_map}
 use Rattle.memlist.specs.{declared.region.Region.Region, Memory.IsWellFormed, Fit.round}
 use Rattle.memlist.proofs.Answered.{nat_eq-same, nat_eq-other, cases_eq}

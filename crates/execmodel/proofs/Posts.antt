@@ -1,5 +1,5 @@
--- What begins at an address for those who post: a port with its messages, a message, a request, or something else; and that the requests are in
--- order, with the ports and with the timer.
+-- What begins at an address for those who post: a port with its messages, a message, a request, or something else; and
+-- that the requests are in order, with the ports and with the timer.
 use Rattle.std.proofs.Common.{◌≡◌, ◌≢◌, ℕ, Bool, true, false, List, [], Option, None, Some, refl, sym, ap, ◌∙◌, subst, not, ◌&&◌, if◌then◌else◌, nat_eq, map, option_map}
 use Rattle.memlist.specs.Memory.{IsWellFormed}
 use Rattle.memlist.proofs.Answered.{nat_eq-same, nat_eq-other, cases_eq}
@@ -56,8 +56,8 @@ may_be_in port AMessage = true
 may_be_in port (ARequest content) = not (is_under_way content) && nat_eq port content.port
 may_be_in port _ = false
 
--- The requests are in order: what is in a port may be there; the reply port of a request that is in progress lives; and exactly those that are
--- in progress wait for the timer, each once.
+-- The requests are in order: what is in a port may be there; the reply port of a request that is in progress lives; and
+-- exactly those that are in progress wait for the timer, each once.
 pub record AreInOrder (post : ℕ → Post) (waiting : List Queued) : Type 0 where
   pub stands : (who port : ℕ) → may_be_in port (post who) ≡ false → IsAway who (messages_at (post port))
   pub lives : (request : ℕ) → is_under_way (asked_at (post request)) ≡ true → is_a_port (post (asked_at (post request)).port) ≡ true
@@ -256,7 +256,8 @@ module _ (old new : ℕ → Post) (waiting : List Queued) (order : AreInOrder ol
           (λ apart. others q apart ∙ order.waits q ∙ ap (λ x. once_if (is_under_way (asked_at x))) (sym (there q apart)));
     }
 
-  -- at an address where neither messages nor a request in progress began, and of which no request waits, something else begins that is so
+  -- at an address where neither messages nor a request in progress began, and of which no request waits, something else
+  -- begins that is so
   module _ (address : ℕ) (x : Post) (is : new address ≡ x) (there : (a : ℕ) → a ≢ address → new a ≡ old a)
       (empty : messages_at (old address) ≡ []) (resting : is_under_way (asked_at (old address)) ≡ false)
       (none : messages_at x ≡ []) (idle : is_under_way (asked_at x) ≡ false)

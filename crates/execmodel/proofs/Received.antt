@@ -1,4 +1,5 @@
--- A task that waits for signals has received none of them, and what a task has received stays unless it takes it itself.
+-- A task that waits for signals has received none of them, and what a task has received stays unless it takes it
+-- itself.
 use Rattle.std.proofs.Common.{◌⊎◌, inl, inr, ◌≡◌, ◌≢◌, ℕ, zero, suc, Bool, true, false, List, [], ◌∷◌, Option, None, Some, length, refl, sym, ap, ◌∙◌, subst, not, ◌&&◌, if◌then◌else◌, nat_eq, bit_and, slice_set, slice_index_or, get_or-set_other}
 use Rattle.execlist.specs.Disciplines.{by_arrival}
 use Rattle.memlist.proofs.Answered.{nat_eq-other, cases_eq}

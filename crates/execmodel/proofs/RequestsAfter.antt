@@ -1,5 +1,5 @@
--- What a call makes of the blocks and of the requests that wait: it makes one of a few things of the blocks, and the same requests wait; or a request
--- asks something else, or is replied; or its reply is taken out of its port.
+-- What a call makes of the blocks and of the requests that wait: it makes one of a few things of the blocks, and the
+-- same requests wait; or a request asks something else, or is replied; or its reply is taken out of its port.
 use Rattle.std.proofs.Common.{[], ◌≡◌, ◌≢◌, ℕ, ◌+◌, ◌<◌, Bool, true, false, List, ◌∷◌, ◌++◌, Option, None, Some, refl, sym, ap, ◌∙◌, subst, arith, ℤ, pos, negsuc, not, cond, ◌&&◌, ◌||◌, ◌==◌, if◌then◌else◌, nat_eq, option_map}
 use Rattle.std.specs.List.{list_any}
 use Rattle.memlist.proofs.{Answered.nat_eq-same, Answered.nat_eq-other, Answered.cases_eq, Answered.key_same, Answered.key_other, Keeping.rising_sorted, Merged.IsRising, Slots.AllFrom}

@@ -1,4 +1,5 @@
--- The reply port of a request that is in progress lives, and exactly the requests that are in progress wait: in every state of every run.
+-- The reply port of a request that is in progress lives, and exactly the requests that are in progress wait: in every
+-- state of every run.
 use Rattle.std.proofs.Common.{sym, ap, ◌∙◌}
 use Rattle.iorequest.specs.{declared.request.Request.Request as TimerRequest, Request.is_under_way}
 use Rattle.execmodel.specs.{Agreement.once_if, Step.run, Laws.ReplyPortsLive, Laws.RequestsUnderWayWait, Requests.request_of}

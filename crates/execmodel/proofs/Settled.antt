@@ -1,4 +1,5 @@
--- After an action the machine is settled: the highest ready task runs, and a request is left only if interrupts are not allowed.
+-- After an action the machine is settled: the highest ready task runs, and a request is left only if interrupts are not
+-- allowed.
 use Rattle.std.proofs.Common.{◌≡◌, ℕ, zero, suc, ℤ, Bool, true, false, List, [], ◌∷◌, Option, None, Some, MatchOption, All, int_eq, refl, sym, ap, ◌∙◌, subst, arith, if◌then◌else◌, ◌&&◌, ◌||◌, ◌≤ℤ◌, int_lt, int_le, length}
 use Rattle.std.proofs.lemmas.{Option.none-some, Int.ints, List.Elements.All-append, List.Elements.All-filter, List.Elements.All-nil}
 use Rattle.execlist.specs.{Order.chosen, Order.chosen_or, Order.is_lower, Order.without_item, Order.IsEarliestGreatest, Disciplines.pri_at, Disciplines.by_arrival}
@@ -67,7 +68,8 @@ no_choice running None s h e = refl
 no_choice None (Some t) s h e = absurd (no_switch_to t s e)
 no_choice (Some r) (Some t) s h e = absurd (tested (is_switching_allowed (Some r) s && takes_over t r s) r t s h e)
 
--- the first fact of the law of priority: after each settle, if no task runs none is ready; of every state, whatever it is
+-- the first fact of the law of priority: after each settle, if no task runs none is ready; of every state, whatever it
+-- is
 pub none_ready_where_none_runs : (s : State) → (switches s).state.schedule.running ≡ None → (switches s).state.schedule.queue.ready ≡ []
 unfolding switches rescheduled switch_of
 none_ready_where_none_runs s e =

@@ -1,4 +1,5 @@
--- Names are short and commands brief in every state: what words, bodies and requests leave of them, and that their lines are short.
+-- Names are short and commands brief in every state: what words, bodies and requests leave of them, and that their
+-- lines are short.
 use Rattle.std.proofs.Common.{◌≡◌, ℕ, zero, suc, pos, Bool, true, false, List, [], ◌∷◌, Option, None, Some, sym, subst, ap, ◌+◌, All, IfSome, if◌then◌else◌, slice_get, slice_index_or}
 use Rattle.std.proofs.lemmas.List.Elements.{All-nil, All-cons, All-head, All-tail, All-append, All-weaker}
 use Rattle.exectrace.specs.Trace.{TraceLine, Timer}

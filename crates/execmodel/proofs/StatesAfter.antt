@@ -1,5 +1,5 @@
--- What a call makes of the tasks' states, of the ready sequence and of the received signals: one of a few things, whatever the word. That
--- the queues agree with the schedule, and the laws of signals, go by these.
+-- What a call makes of the tasks' states, of the ready sequence and of the received signals: one of a few things,
+-- whatever the word. That the queues agree with the schedule, and the laws of signals, go by these.
 use Rattle.std.proofs.Common.{[], ◌≡◌, ◌≢◌, ℕ, zero, suc, ◌<◌, ℤ, Bool, true, false, List, ◌∷◌, Option, None, Some, length, refl, sym, ap, ◌∙◌, arith, ◌-◌, negsuc, if◌then◌else◌, nat_eq, nat_lt, nat_le, bit_and, slice_set, slice_index_or, ◌&&◌, length-set, get_or-set_other}
 use Rattle.std.proofs.lemmas.Bool.Decides.{nat_tests}
 use Rattle.memlist.proofs.Answered.{nat_eq-other, cases_eq}

@@ -23,9 +23,9 @@ Relation = State → List Mark → State → Type 0
 abbrev pub HoldsOf : Relation → (State → Outcome) → Type 0
 HoldsOf R next = (s : State) → R s (next s).marks (next s).state
 
--- What holds of each thing that is done beside a task's commands: one command of the body of a software interrupt or a server; other
--- interrupts are pending; a request that waits finishes; system time was set, and is not looked at again; the quantum loses one serving; and a
--- switch. It holds if nothing is done, and of one thing after another.
+-- What holds of each thing that is done beside a task's commands: one command of the body of a software interrupt or a
+-- server; other interrupts are pending; a request that waits finishes; system time was set, and is not looked at again;
+-- the quantum loses one serving; and a switch. It holds if nothing is done, and of one thing after another.
 pub record HoldsOfInterrupts (R : Relation) : Type 0 where
   pub nothing : (s : State) → R s [] s
   pub joined : (s : State) (some : List Mark) (r : State) (more : List Mark) (q : State) → R s some r → R r more q → R s (some ++ more) q
@@ -37,8 +37,8 @@ pub record HoldsOfInterrupts (R : Relation) : Type 0 where
   pub ticking : (s : State) → R s [] (on_schedule quantum_ticked s)
   pub switching : HoldsOf R switches
 
--- What holds of each thing that a machine does, but that a tick moves the clock: that, and of the running task's call by its word alone, or
--- its end; and that a task is added at the start.
+-- What holds of each thing that a machine does, but that a tick moves the clock: that, and of the running task's call
+-- by its word alone, or its end; and that a task is added at the start.
 pub record HoldsOfEach (R : Relation) : Type 0 where
   pub interrupting : HoldsOfInterrupts R
   pub adding : (t : ℕ) (s : State) → t < length s.scripts.programs → R s [] (on_schedule (added by_arrival t) s)

@@ -10,8 +10,8 @@ use Rattle.execmodel.specs.{State.Object, State.ListHead, State.MsgPort, State.S
 use Rattle.execlib.specs.Libraries.{public_memory}
 use Rattle.execmodel.proofs.{Heaps.rid, Heaps.true_is_not_false, Loaded.base_is_loaded, LowMemory.asking_keeps, LowMemory.asking_for_object_keeps}
 
--- a new object: an empty list or port, a semaphore that no task owns and none waits for, a library that was at no base, a request that is not
--- in progress, or what has no queue
+-- a new object: an empty list or port, a semaphore that no task owns and none waits for, a library that was at no base,
+-- a request that is not in progress, or what has no queue
 abbrev pub IsNew : Heap → Object → Type 0
 IsNew heap (ListHead nodes) = nodes ≡ []
 IsNew heap (MsgPort port messages) = messages ≡ []
@@ -20,9 +20,9 @@ IsNew heap (Library number count delayed) = base_of number heap ≡ None
 IsNew heap (Request content) = is_under_way content ≡ false
 IsNew heap _ = Unit {0}
 
--- Taking memory ends if nothing changes or an object is placed; before that a library is marked or open once more, or one that is not open
--- is freed, if libraries are asked at all. It is open once more, or marked if none is asked, only if the call is one that counts openings. A
--- library begins at its base if the blocks are well formed.
+-- Taking memory ends if nothing changes or an object is placed; before that a library is marked or open once more, or
+-- one that is not open is freed, if libraries are asked at all. It is open once more, or marked if none is asked, only
+-- if the call is one that counts openings. A library begins at its base if the blocks are well formed.
 pub data Takes (asks may_count : Bool) (regions : List Region) : Heap → Heap → Type 0 where
   nothing : {heap : Heap} → Takes asks may_count regions heap heap
   places : {heap : Heap} (size reqs address : ℕ) (object : Object) → IsNew heap object → fit regions (extents heap) size reqs ≡ Some address
@@ -44,8 +44,8 @@ pub record IsTaking (may_count : Bool) (s : State) (o : Outcome) : Type 0 where
 pub number_is : (n k : ℕ) → nat_eq n k ≡ true → n ≡ k
 number_is n k e = cases_eq n k (λ same. same) (λ apart. true_is_not_false (sym e ∙ nat_eq-other n k apart))
 
--- Something holds of blocks before libraries are asked, if it does after: it holds before a library is marked that is open, and before one is
--- freed that is not, if it holds then.
+-- Something holds of blocks before libraries are asked, if it does after: it holds before a library is marked that is
+-- open, and before one is freed that is not, if it holds then.
 pub record HoldsBefore (regions : List Region) (Holds : Heap → Type 0) : Type 0 where
   pub marking : (base : ℕ) (heap : Heap) → (IsWellFormed regions (extents heap) → is_library_at base heap ≡ true)
       → Holds (with_library base (count_of base heap) true heap) → Holds heap

@@ -1,4 +1,5 @@
--- The queues agree with the schedule in every state of every run, and tasks get a semaphore in the order in which they asked.
+-- The queues agree with the schedule in every state of every run, and tasks get a semaphore in the order in which they
+-- asked.
 use Rattle.std.proofs.Common.{◌≡◌, ℕ, suc, ◌<◌, Bool, true, false, List, [], ◌∷◌, ◌++◌, Option, None, Some, length, refl, sym, ap, ◌∙◌, subst, not, if◌then◌else◌, ◌&&◌, map, replicate, slice_set, length-set}
 use Rattle.std.proofs.lemmas.{List.length-replicate, Grind.flat_map-append}
 use Rattle.signals.specs.Signals.{after_post}
@@ -155,8 +156,8 @@ shifts_agree t call s o (removes other apart heap e) runs count follows old =
 
 -- ---- every stretch
 
--- what holds in every state: the blocks are well formed and the requests in order, nobody waits for a free semaphore, each program has a task,
--- as many tasks may wait as there are, and the queues agree with the schedule
+-- what holds in every state: the blocks are well formed and the requests in order, nobody waits for a free semaphore,
+-- each program has a task, as many tasks may wait as there are, and the queues agree with the schedule
 pub record IsSoundState (s : State) : Type 0 where
   pub tidy : IsTidy s
   pub idle : AllIdle s.memory.heap

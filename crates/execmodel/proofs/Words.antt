@@ -1,4 +1,5 @@
--- What each word does, once for every law: what it prints, what it makes of the blocks, of the tasks' states and signals, and what it leaves as it is.
+-- What each word does, once for every law: what it prints, what it makes of the blocks, of the tasks' states and
+-- signals, and what it leaves as it is.
 use Rattle.std.proofs.Common.{inl, inr, [], Bool, List, None, Option, Some, ap, false, refl, true, ℕ, ◌≡◌, ◌∙◌, w32, nat_eq, negsuc, unwrap_or, ◌-◌, ◌&&◌, if◌then◌else◌}
 use Rattle.std.specs.Int.{cast_signed}
 use Rattle.execlist.specs.{Disciplines.by_arrival, Order.first}
@@ -41,8 +42,8 @@ use Rattle.script.specs.declared.alert.Alert.{Alert}
 
 -- ---- what is known of every word
 
--- what holds of a call of a word: its lines are its own, it makes one of a few things of the blocks, and one of the tasks' states and signals, and
--- a part of the state stays
+-- what holds of a call of a word: its lines are its own, it makes one of a few things of the blocks, and one of the
+-- tasks' states and signals, and a part of the state stays
 pub record Facts (Blocks : Outcome → Type 0) (rest : State → State) (word : Word) (t : ℕ) (call : Call) (s : State) (o : Outcome) : Type 0 where
   pub tells : Tells (ByTask t) call s o
   pub blocks : call.word ≡ word → Blocks o

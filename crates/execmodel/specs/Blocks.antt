@@ -1,5 +1,5 @@
--- Memory and what lies in it: blocks, each with the object that begins there; and the timer, for which requests wait that lie there.
--- Nothing in it is linked and nothing is sorted: each queue is a sequence in order of arrival.
+-- Memory and what lies in it: blocks, each with the object that begins there; and the timer, for which requests wait
+-- that lie there. Nothing in it is linked and nothing is sorted: each queue is a sequence in order of arrival.
 use Rattle.std.specs.Prelude.{ℕ, Bool, List}
 use Rattle.memlist.specs.declared.region.Region.{Region}
 use Rattle.execlist.specs.Lists.{KeyData}
@@ -14,7 +14,8 @@ pub use Rattle.timerdev.specs.Timing.{Due, AtClock, AtSystem, Waiting, Timer}
 pub data Object : Type 0 where
   -- nothing that Exec knows of: AllocMem gave the block
   Plain : Object
-  -- the header of a list, with the addresses of its nodes from the first to the last (RKM Libraries, Exec Lists and Queues)
+  -- the header of a list, with the addresses of its nodes from the first to the last (RKM Libraries, Exec Lists and
+  -- Queues)
   ListHead : (nodes : List ℕ) → Object
   -- a node, with its priority and its name or none
   Node : (key : KeyData) → Object
@@ -22,11 +23,11 @@ pub data Object : Type 0 where
   MsgPort : (port : Port) (messages : List ℕ) → Object
   -- a message, with its type, its word, and the address of its reply port or 0
   Message : (content : Content) → Object
-  -- a semaphore, with its owner or none, how often the owner has to release it, and the tasks that wait for it in order of request
-  -- (RKM Libraries, Exec Semaphores)
+  -- a semaphore, with its owner or none, how often the owner has to release it, and the tasks that wait for it in order
+  -- of request (RKM Libraries, Exec Semaphores)
   Semaphore : (sem : Sem) (waiters : List ℕ) → Object
-  -- a loaded library, by its number from 0 in the order of the file, with how often it is open, and whether it is to be expunged when it is
-  -- closed for the last time (RKM Libraries, Exec Libraries: lib_OpenCnt, LIBF_DELEXP)
+  -- a loaded library, by its number from 0 in the order of the file, with how often it is open, and whether it is to be
+  -- expunged when it is closed for the last time (RKM Libraries, Exec Libraries: lib_OpenCnt, LIBF_DELEXP)
   Library : (number count : ℕ) (delayed : Bool) → Object
   -- a timer request: the address of its reply port, how far it has come, what it asks of the device, and what the
   -- device returned (RKM Devices, Introduction to Amiga System Devices)

@@ -1,5 +1,5 @@
--- Machines whose bodies grow while they run: a command is fed to a task at the end of its body, after it has begun. What comes of it is what
--- comes of the machine whose bodies are whole from the start.
+-- Machines whose bodies grow while they run: a command is fed to a task at the end of its body, after it has begun.
+-- What comes of it is what comes of the machine whose bodies are whole from the start.
 use Rattle.std.specs.Prelude.{◌≡◌, ◌≢◌, ℕ, zero, suc, ◌+◌, ◌<◌, Bool, true, false, ◌||◌, if◌then◌else◌, nat_eq, List, [], ◌∷◌, ◌++◌, length, Option, None, Some}
 use Rattle.script.specs.declared.event.Event.TheVariants.{Run}
 use Rattle.script.specs.{declared.event.Event.Event, Commands.CommandData, File.MachineData, File.TaskData, Machines.IsMachine}
@@ -63,15 +63,15 @@ abbrev pub without_call_or_softint : Option ℕ → State → Option ℕ
 without_call_or_softint None s = without_call s.schedule.running s.scripts
 without_call_or_softint (Some i) s = None
 
--- The task that the next step finds at the end of its body: it runs, no software interrupt runs first, it waits in no call, and none of its
--- commands is left. That step ends it, unless its body goes on.
+-- The task that the next step finds at the end of its body: it runs, no software interrupt runs first, it waits in no
+-- call, and none of its commands is left. That step ends it, unless its body goes on.
 unfoldable pub at_end : State → Option ℕ
 at_end s = if s.stopped then None else without_call_or_softint (next_softint s) s
 
 -- ---- feeding and running commute
 
--- A step of a machine whose body of task t has one more command at its end is the step of the machine without it, with that command at the
--- end of the body that it leaves; unless that step finds task t at the end of its body.
+-- A step of a machine whose body of task t has one more command at its end is the step of the machine without it, with
+-- that command at the end of the body that it leaves; unless that step finds task t at the end of its body.
 abbrev pub StepsCommuteWithFeeding : Type 0
 StepsCommuteWithFeeding =
     (t : ℕ) (command : CommandData) (s : State) → at_end s ≢ Some t → step (fed t command s) ≡ and_fed t command (step s)
@@ -104,8 +104,8 @@ BodiesRunInParts =
 
 -- ---- a new task changes nothing
 
--- In each state that a run comes to, an event of a machine with one more task, which was never added, is the event of the machine without it, and
--- leaves that task as it is; unless an alert stops the machine in it.
+-- In each state that a run comes to, an event of a machine with one more task, which was never added, is the event of
+-- the machine without it, and leaves that task as it is; unless an alert stops the machine in it.
 abbrev pub EventsCommuteWithNewTasks : Type 0
 EventsCommuteWithNewTasks =
     (machine : MachineData) (list : List Event) (e : Event) (task : TaskData) → IsMachine machine
@@ -114,8 +114,8 @@ EventsCommuteWithNewTasks =
 
 -- ---- whole runs
 
--- what is done with a machine whose bodies grow: an event comes; the body of a task gets one more command at its end; or there is one more task,
--- after the others, which was never added
+-- what is done with a machine whose bodies grow: an event comes; the body of a task gets one more command at its end;
+-- or there is one more task, after the others, which was never added
 pub data Input : Type 0 where
   Comes : (event : Event) → Input
   Feeds : (task : ℕ) (command : CommandData) → Input
@@ -159,16 +159,16 @@ abbrev pub StaysWithin : ℕ → Event → State → Type 0
 StaysWithin t (Run n) s = (k : ℕ) → k < n → at_end (steps k s).state ≢ Some t
 StaysWithin t _ s = Unit {0}
 
--- Inputs come in time: no step finds a task at the end of its body that is fed later; and what is added is a task that does not start with the
--- machine, as long as no alert has stopped that.
+-- Inputs come in time: no step finds a task at the end of its body that is fed later; and what is added is a task that
+-- does not start with the machine, as long as no alert has stopped that.
 abbrev pub ComeInTime : List Input → State → Type 0
 ComeInTime [] s = Unit {0}
 ComeInTime (Comes e ∷ rest) s = ((t : ℕ) → is_fed t rest ≡ true → StaysWithin t e s) × ComeInTime rest (event e s).state
 ComeInTime (Feeds t command ∷ rest) s = ComeInTime rest (fed t command s)
 ComeInTime (Adds task ∷ rest) s = (s.stopped ≡ false) × (task.start ≡ false) × ComeInTime rest (with_new task s)
 
--- A machine whose inputs come in time runs as the one whose bodies are whole, and whose tasks are all there, from the start, over the events that
--- come.
+-- A machine whose inputs come in time runs as the one whose bodies are whole, and whose tasks are all there, from the
+-- start, over the events that come.
 abbrev pub FedMachinesRunAsWhole : Type 0
 FedMachinesRunAsWhole =
     (machine : MachineData) (list : List Input) → IsMachine machine → ComeInTime list (starts (booted machine)).state

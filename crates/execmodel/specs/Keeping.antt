@@ -37,7 +37,8 @@ without_blocks memory = record memory { heap = [] }
 abbrev pub without_blocks_and_public_ports : Memory → Memory
 without_blocks_and_public_ports memory = record memory { heap = []; public = [] }
 
--- a timer with its clock, and what that gains at each tick, alone: system time, and the requests that wait, are blanked out
+-- a timer with its clock, and what that gains at each tick, alone: system time, and the requests that wait, are blanked
+-- out
 abbrev pub clock_alone : Timer → Timer
 clock_alone timer = record timer { system = 0; is_set = false; waiting = [] }
 

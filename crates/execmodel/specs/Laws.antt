@@ -20,28 +20,30 @@ use Rattle.iorequest.specs.Request.{is_under_way, sets_time, time_of}
 use Rattle.timerdev.specs.Timing.{offset, clock_ticked}
 use Rattle.script.specs.declared.alert.Alert.TheVariants as an_alert
 
--- Something holds in every state that a run comes to. A state in the midst of an event is the last one of the run of other events: of those
--- before, and of that one cut short.
+-- Something holds in every state that a run comes to. A state in the midst of an event is the last one of the run of
+-- other events: of those before, and of that one cut short.
 abbrev pub InEveryState : (State → Type 0) → Type 0
 InEveryState Holds = (machine : MachineData) (list : List Event) → IsMachine machine → Holds (run machine list).state
 
--- Something holds over every stretch of a run: of the state before some events, the marks that these leave, and the state after them.
+-- Something holds over every stretch of a run: of the state before some events, the marks that these leave, and the
+-- state after them.
 abbrev pub OverEveryStretch : (State → List Mark → State → Type 0) → Type 0
 OverEveryStretch Relates =
     (machine : MachineData) (before during : List Event) → IsMachine machine
     → Relates (run machine before).state (events during (run machine before).state).marks (events during (run machine before).state).state
 
--- Messages leave a port in the order in which they came: over every stretch of a run, the messages that the port had at first and those
--- that were put there, less each that was then taken out, are those that GetMsg answered, in order, followed by those that the port has
--- at last. An address at which no port lives has no messages: so the life of a port is a stretch that begins with none.
--- The reply of a request is a message too: it is put when the request finishes, and is taken out by WaitIO or DoIO.
+-- Messages leave a port in the order in which they came: over every stretch of a run, the messages that the port had at
+-- first and those that were put there, less each that was then taken out, are those that GetMsg answered, in order,
+-- followed by those that the port has at last. An address at which no port lives has no messages: so the life of a port
+-- is a stretch that begins with none. The reply of a request is a message too: it is put when the request finishes, and
+-- is taken out by WaitIO or DoIO.
 abbrev pub FirstInFirstOut : Type 0
 FirstInFirstOut =
     (port : ℕ) → OverEveryStretch (λ old marks new.
     IsInOrder (messages_of port old.memory.heap) (turns_at_port port marks) (messages_of port new.memory.heap))
 
--- Each byte has one owner. The regions stay those of the file; blocks and gaps tile each of them: each unit of 8 bytes lies in exactly
--- one, and their sizes add up to the region's. Each block lies in a region, and no two overlap.
+-- Each byte has one owner. The regions stay those of the file; blocks and gaps tile each of them: each unit of 8 bytes
+-- lies in exactly one, and their sizes add up to the region's. Each block lies in a region, and no two overlap.
 pub record HasOneOwner (regions : List Region) (s : State) : Type 0 where
   pub installed : s.memory.regions ≡ regions
   pub tiled : (place : ℕ) (region : Region) → slice_get regions place ≡ Some region → IsTiled region (extents s.memory.heap)
@@ -52,7 +54,8 @@ abbrev pub EachByteHasOneOwner : Type 0
 EachByteHasOneOwner =
     (machine : MachineData) (list : List Event) → IsMachine machine → HasOneOwner machine.regions (run machine list).state
 
--- An object begins at a block of its own: at one address at most one block begins, and FreeMem refuses it if it holds an object.
+-- An object begins at a block of its own: at one address at most one block begins, and FreeMem refuses it if it holds
+-- an object.
 abbrev pub FreeMemRefusesObjects : Type 0
 FreeMemRefusesObjects =
     (t : ℕ) (call : Call) (s : State) (object : Object) → object_at (argument 0 call) s.memory.heap ≡ Some object → object ≢ Plain
@@ -103,8 +106,8 @@ FitKinds _ _ = ⊥
 abbrev pub FitsItsWord : Call → Type 0
 FitsItsWord call = FitKinds (kinds call.word) call.arguments
 
--- In every state the call that a task is to make, and each that a body makes, has the arguments of its word. So no word ever finds that one
--- of them is lacking or of another kind.
+-- In every state the call that a task is to make, and each that a body makes, has the arguments of its word. So no word
+-- ever finds that one of them is lacking or of another kind.
 pub record CallsFitTheirWords : Type 0 where
   pub of_tasks : (t : ℕ) (call : Call) → InEveryState (λ s. next_call t s.scripts ≡ Some call → FitsItsWord call)
   pub of_softints : (i : ℕ) (scripts : Scripts)
@@ -132,8 +135,8 @@ pub record IsLastRelease (semaphore : ℕ) (s : State) : Type 0 where
   pub owned : (sem_of semaphore s.memory.heap).owner ≡ Some t
   pub once : (sem_of semaphore s.memory.heap).count ≡ 1
 
--- The owner of a semaphore changes only from none, or at the release that brings its count to zero. (An address at which no semaphore
--- lives has no owner.)
+-- The owner of a semaphore changes only from none, or at the release that brings its count to zero. (An address at
+-- which no semaphore lives has no owner.)
 abbrev pub OwnersChangeAtTheLastRelease : Type 0
 OwnersChangeAtTheLastRelease =
     (semaphore : ℕ) → OfEveryAction (λ action s o.
@@ -146,15 +149,17 @@ abbrev pub FreeSemaphoresHaveNoWaiters : Type 0
 FreeSemaphoresHaveNoWaiters =
     (semaphore : ℕ) → InEveryState (λ s. (sem_of semaphore s.memory.heap).owner ≡ None → waiters_of semaphore s.memory.heap ≡ [])
 
--- Tasks get a semaphore in the order in which they asked: over every stretch of a run, the tasks that waited for it at first and those that
--- began to wait, less each that was then removed, are those that a release made the owner, in order, followed by those that wait at last.
+-- Tasks get a semaphore in the order in which they asked: over every stretch of a run, the tasks that waited for it at
+-- first and those that began to wait, less each that was then removed, are those that a release made the owner, in
+-- order, followed by those that wait at last.
 abbrev pub SemaphoresPassInOrder : Type 0
 SemaphoresPassInOrder =
     (semaphore : ℕ) → OverEveryStretch (λ old marks new.
     IsInOrder (waiters_of semaphore old.memory.heap) (turns_at_semaphore semaphore marks) (waiters_of semaphore new.memory.heap))
 
--- What a task's state reports agrees with where it is: exactly the running task has the state Running, exactly the ready ones are among the
--- ready, each once, and exactly those that wait for a semaphore are in its queue, each in one and once.
+-- What a task's state reports agrees with where it is: exactly the running task has the state Running, exactly the
+-- ready ones are among the ready, each once, and exactly those that wait for a semaphore are in its queue, each in one
+-- and once.
 abbrev pub QueuesAgreeWithTheSchedule : Type 0
 QueuesAgreeWithTheSchedule =
     (t : ℕ) → InEveryState (λ s. Agrees t s.schedule (λ semaphore. waiters_of semaphore s.memory.heap))
@@ -216,7 +221,8 @@ pub data SwitchesTo (machine : MachineData) (name : List ℕ) : Type 0 where
       ≡ Switch name ∷ [] → SwitchesTo machine name
   by_action : (action : Action) (s : State) → ComesTo machine s → (switches (before_switch action s)).lines ≡ Switch name ∷ [] → SwitchesTo machine name
 
--- Each line of a switch to a task in the text of a run is that of such a switch, which goes to the chosen task of its state.
+-- Each line of a switch to a task in the text of a run is that of such a switch, which goes to the chosen task of its
+-- state.
 abbrev pub EachSwitchLineIsAChoice : Type 0
 EachSwitchLineIsAChoice =
     (machine : MachineData) (list : List Event)
@@ -251,7 +257,8 @@ ReceivedSignalsStay =
 
 -- ---- interrupts
 
--- No body changes how a task has nested Forbid and Disable: neither a software interrupt, nor the servers that one settle runs.
+-- No body changes how a task has nested Forbid and Disable: neither a software interrupt, nor the servers that one
+-- settle runs.
 pub record InterruptsKeepNestings : Type 0 where
   pub of_softints : (i : ℕ) (s : State) → (runs_softint i s).state.schedule.nestings ≡ s.schedule.nestings
   pub of_interrupts : (s : State) → (interrupts s).state.schedule.nestings ≡ s.schedule.nestings
@@ -292,7 +299,8 @@ pub record StaysLoaded (base : ℕ) (old new : Heap) : Type 0 where
   pub number : library_number_at base new ≡ library_number_at base old
   pub block : option_map (λ (b : Block). b.size) (block_at base new) ≡ option_map (λ (b : Block). b.size) (block_at base old)
 
--- A library that is open keeps its base and its block, unless this step closes it for the last time and it is to be expunged then.
+-- A library that is open keeps its base and its block, unless this step closes it for the last time and it is to be
+-- expunged then.
 abbrev pub OpenLibrariesStay : Type 0
 OpenLibrariesStay =
     (base : ℕ) → OfEveryAction (λ action s o.
@@ -312,7 +320,8 @@ abbrev pub LibrariesAreAskedInVersionTwo : Type 0
 LibrariesAreAskedInVersionTwo =
     (machine : MachineData) (list : List Event) → IsMachine machine → (run machine list).state.memory.asks ≡ nat_eq machine.version 2
 
--- Memory is taken as it is where libraries are not asked: what asks them before a block, an object, a port or a library is taken changes nothing.
+-- Memory is taken as it is where libraries are not asked: what asks them before a block, an object, a port or a library
+-- is taken changes nothing.
 pub record UnaskedMemoryStays : Type 0 where
   pub for_a_block : (size reqs : ℕ) (memory : Memory) → memory.asks ≡ false → after_asking size reqs memory ≡ memory
   pub for_an_object : (kind : Object → Bool) (size : ℕ) (memory : Memory) → memory.asks ≡ false → after_asking_for_object kind size memory ≡ memory
@@ -348,7 +357,8 @@ abbrev pub LibrariesGiveWayAsFarAsNeeded : Type 0
 LibrariesGiveWayAsFarAsNeeded =
     (size reqs : ℕ) (memory : Memory) → memory.asks ≡ true → size ≢ 0 → AsksAsFarAsNeeded size reqs memory (after_asking size reqs memory)
 
--- What is not a library stays as it is, and nothing begins where nothing began; a library that is open stays loaded, and as often open.
+-- What is not a library stays as it is, and nothing begins where nothing began; a library that is open stays loaded,
+-- and as often open.
 pub record OnlyClosedLibrariesGo (old new : Heap) : Type 0 where
   pub others : (a : ℕ) → is_library_at a old ≡ false → block_at a new ≡ block_at a old
   pub loaded : (base : ℕ) → is_library_at base old ≡ true → 1 ≤ count_of base old → StaysLoaded base old new
@@ -396,8 +406,8 @@ pub record IsSetting (s : State) (system : ℕ) : Type 0 where
   pub sets : sets_time (request_of (argument 0 call) s.memory.heap) ≡ true
   pub becomes : system ≡ time_of (request_of (argument 0 call) s.memory.heap)
 
--- How far system time is ahead of the clock, or behind it, stays, unless the running task in this step begins a request that sets system time:
--- then system time is the time of that request.
+-- How far system time is ahead of the clock, or behind it, stays, unless the running task in this step begins a request
+-- that sets system time: then system time is the time of that request.
 abbrev pub SystemTimeGoesWithTheClock : Type 0
 SystemTimeGoesWithTheClock =
     OfEveryAction (λ action s o.

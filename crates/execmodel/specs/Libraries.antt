@@ -123,8 +123,8 @@ does_close_library t call s =
     if nat_eq base 0 then done t call s
     else unless (close_alert base s.memory.heap) t call (λ s. done t call (on_memory (closed base) s)) s
 
--- RemLibrary base: the library is expunged, now or when it is closed for the last time (autodoc exec.library/RemLibrary; the alert: project
--- rule)
+-- RemLibrary base: the library is expunged, now or when it is closed for the last time (autodoc
+-- exec.library/RemLibrary; the alert: project rule)
 unfoldable pub does_rem_library : ℕ → Call → State → Outcome
 does_rem_library t call s =
     let base = argument 0 call in

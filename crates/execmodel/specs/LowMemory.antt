@@ -25,14 +25,14 @@ abbrev pub asked_each : (size reqs : ℕ) → List ℕ → Memory → Memory
 asked_each size reqs [] memory = memory
 asked_each size reqs (i ∷ others) memory = asked_each size reqs others (asked_one size reqs i memory)
 
--- The memory after libraries were expunged for a block of that many bytes, before it is allocated. This happens only in
--- version 2 of the rules: one library after another, in the order of the file, until the block has a place. A block of
--- no bytes is never allocated, and no library is expunged for it (project rule). (autodoc AllocMem)
+-- The memory after libraries were asked for memory for a block of that many bytes, before it is allocated. This happens
+-- only in version 2 of the rules: one library after another, in the order of the file, until the block has a place. A
+-- block of no bytes is never allocated, and no library is asked for memory for it (project rule). (autodoc AllocMem)
 unfoldable pub after_asking : (size reqs : ℕ) → Memory → Memory
 after_asking size reqs memory =
     if memory.asks && not (nat_eq size 0) then asked_each size reqs (range_with_len 0 (length memory.libraries)) memory else memory
 
--- The memory after libraries were expunged for a new object of a kind, which takes that many bytes, before it is made.
--- None is expunged if the pool does not allow one more object (project rule).
+-- The memory after libraries were asked for memory for a new object of a kind, which takes that many bytes, before it
+-- is made. None is asked if the pool does not allow one more object (project rule).
 unfoldable pub after_asking_for_object : (Object → Bool) → ℕ → Memory → Memory
 after_asking_for_object kind size memory = if is_allowed kind memory then after_asking size public_memory memory else memory

@@ -61,6 +61,7 @@ next_softint s = softint_next by_arrival s.bodies.softints s.schedule s.pending
 abbrev pub with_latch_of : Source → Bool → Pending → Pending
 with_latch_of asks set pending = record pending { latches = with_latch asks set pending.latches }
 
--- the source that is served next: the latched one of highest level, if interrupts are allowed (RKM Libraries, Exec Interrupts)
+-- the source that is served next: the latched one of highest level, if interrupts are allowed (RKM Libraries, Exec
+-- Interrupts)
 unfoldable pub next_source : State → Option Source
 next_source s = if allows_interrupts s.schedule then highest s.pending.latches else None

@@ -1,4 +1,5 @@
--- Who came to a queue, who was served at it, and who left it unserved: what the laws of ports and of semaphores speak of.
+-- Who came to a queue, who was served at it, and who left it unserved: what the laws of ports and of semaphores speak
+-- of.
 use Rattle.std.specs.Prelude.{◌≡◌, ℕ, Bool, true, false, not, if◌then◌else◌, nat_eq, List, [], ◌∷◌, ◌++◌, filter}
 
 -- one thing that happened at a queue: someone came, was served, or left unserved

@@ -209,7 +209,8 @@ does_create_io_request t call s =
     else unless (port_alert port s.memory.heap) t call
     (λ s. makes_object t call is_request request_size (Request (idle_request port)) (on_memory (after_asking_for_object is_request request_size) s)) s
 
--- DeleteIORequest request: the request is freed; 0 does nothing (autodoc exec.library/DeleteIORequest; the alerts: project rule)
+-- DeleteIORequest request: the request is freed; 0 does nothing (autodoc exec.library/DeleteIORequest; the alerts:
+-- project rule)
 unfoldable pub does_delete_io_request : ℕ → Call → State → Outcome
 does_delete_io_request t call s =
     let request = argument 0 call in
@@ -265,8 +266,8 @@ set_io_alert command request heap =
     else (if not (is_command command) then Some an_alert.Value
     else (if is_under_way (request_of request heap) then Some an_alert.Io else None))
 
--- SetIO request cmd secs micros: the request gets that command and that time (RKM Devices, Introduction to Amiga System Devices: io_Command;
--- Devices, timer device: tr_time; that there is a call for it, and the alerts: project rule)
+-- SetIO request cmd secs micros: the request gets that command and that time (RKM Devices, Introduction to Amiga System
+-- Devices: io_Command; Devices, timer device: tr_time; that there is a call for it, and the alerts: project rule)
 unfoldable pub does_set_io : ℕ → Call → State → Outcome
 does_set_io t call s =
     let request = argument 0 call in
@@ -432,8 +433,9 @@ finishes_until n s = finishes_each until_next n s
 unfoldable pub finishes_all_due : State → Outcome
 finishes_all_due s = finishes_due (length s.memory.timer.waiting) s
 
--- What follows a call on requests: if it set system time, all requests finish that wait for system time and whose time has come. Those
--- that wait for the clock are not looked at (autodoc timer.device/TR_SETSYSTIME; that this is at once, and after the call's line: project rule).
+-- What follows a call on requests: if it set system time, all requests finish that wait for system time and whose time
+-- has come. Those that wait for the clock are not looked at (autodoc timer.device/TR_SETSYSTIME; that this is at once,
+-- and after the call's line: project rule).
 unfoldable pub finishes_set : State → Outcome
 finishes_set s =
     if s.memory.timer.is_set then finishes_until (length s.memory.timer.waiting) (on_memory (on_timer looked_at) s) else quiet s

@@ -1,4 +1,5 @@
--- Small machines and their whole traces, as the definitions compute them: a few, one for the chief rule of each group of words.
+-- Small machines and their whole traces, as the definitions compute them: a few, one for the chief rule of each group
+-- of words.
 use Rattle.std.specs.Prelude.{◌≡◌, ℕ, ℤ, true, false, pos, negsuc, List, [], ◌∷◌, None, Some, codes}
 use Rattle.exectrace.specs.Trace.{printed}
 use Rattle.softint.specs.declared.source.Source.{Source}
@@ -767,7 +768,8 @@ ASettingWakesATask =
     (Run 11 ∷ [])
     ≡ codes "switch a\na CreateMsgPort -> $00001000\na CreateIORequest $00001000 -> $00001028\na OpenDevice \"timer.device\" $00000003 $00001028 -> $00000000\na SetIO $00001028 $00000009 $00000000 $000F1B30\na DoIO $00001028 waits\nswitch b\nb CreateMsgPort -> $00001050\nb CreateIORequest $00001050 -> $00001078\nb OpenDevice \"timer.device\" $00000000 $00001078 -> $00000000\nb SetIO $00001078 $0000000B $00000000 $000F1B30\nb DoIO $00001078 -> $00000000\ntimer $00001028\nswitch a\na DoIO $00001028 -> $00000000\n"
 
--- two requests wait for system time, the one that was begun later for the sooner one; the third one sets it to exactly the later
+-- two requests wait for system time, the one that was begun later for the sooner one; the third one sets it to exactly
+-- the later
 abbrev pub sets_past_both : MachineData
 sets_past_both =
     with_timer
@@ -803,7 +805,8 @@ ASettingBackFinishesNothing =
     (Run 7 ∷ Tick 2 ∷ Run 5 ∷ Tick 2 ∷ [])
     ≡ codes "switch a\na CreateMsgPort -> $00001000\na CreateIORequest $00001000 -> $00001028\na CreateIORequest $00001000 -> $00001050\na OpenDevice \"timer.device\" $00000003 $00001028 -> $00000000\na OpenDevice \"timer.device\" $00000001 $00001050 -> $00000000\na SetIO $00001028 $00000009 $00000000 $0000C350\na SetIO $00001050 $0000000B $00000000 $00002710\nserve VERTB\nserve VERTB\na SendIO $00001028\na DoIO $00001050 -> $00000000\na SetIO $00001050 $0000000A $00000000 $00000000\na DoIO $00001050 -> $00000000\na IOMicros $00001050 -> $00002710\nserve VERTB\nserve VERTB\ntimer $00001028\n"
 
--- System time is ahead by 100000: the first three come at one due time of the clock, 20000, and the one that was begun last at 15000.
+-- System time is ahead by 100000: the first three come at one due time of the clock, 20000, and the one that was begun
+-- last at 15000.
 abbrev pub RequestsOfOneMomentFinishInTheOrderOfBeginning : Type 0
 RequestsOfOneMomentFinishInTheOrderOfBeginning =
     trace

@@ -1,5 +1,5 @@
--- The state of the abstract machine, and what an action makes of it. Nothing in it is linked and nothing is sorted: each
--- queue is a sequence in order of arrival.
+-- The state of the abstract machine, and what an action makes of it. Nothing in it is linked and nothing is sorted:
+-- each queue is a sequence in order of arrival.
 use Rattle.std.specs.Prelude.{ℕ, Bool, false, if◌then◌else◌, nat_eq, List, [], ◌∷◌, ◌++◌, Option, None, map, length, replicate, slice_index_or, slice_set}
 use Rattle.exectrace.specs.Trace.{Argument, TraceLine}
 use Rattle.script.specs.{declared.word.Word.Word, declared.variable.Variable.Variable, Commands.CommandData, File.MachineData, File.SoftintData, File.ServerData, File.TaskData}
@@ -17,8 +17,8 @@ pub record Call : Type 0 where
   pub next : ℕ
   pub awaited : ℕ
 
--- what a task executes: its commands, the place of the next one, its own variables, and the call that it waits in, if any; and
--- whether it is added when the machine starts
+-- what a task executes: its commands, the place of the next one, its own variables, and the call that it waits in, if
+-- any; and whether it is added when the machine starts
 pub record Program : Type 0 where
   pub code : List CommandData
   pub place : ℕ
@@ -31,8 +31,8 @@ pub record Scripts : Type 0 where
   pub programs : List Program
   pub shared : List ℕ
 
--- what the software interrupts and the servers of all sources execute, both in the order of the file; nothing changes it (RKM Libraries,
--- Exec Interrupts)
+-- what the software interrupts and the servers of all sources execute, both in the order of the file; nothing changes
+-- it (RKM Libraries, Exec Interrupts)
 pub record Bodies : Type 0 where
   pub softints : List SoftintData
   pub servers : List ServerData
@@ -58,7 +58,8 @@ pub record State : Type 0 where
   -- whether an alert has stopped the machine
   pub stopped : Bool
 
--- What an action leaves in the history of a port or a semaphore. Marks are not printed: the laws of whole runs speak of them.
+-- What an action leaves in the history of a port or a semaphore. Marks are not printed: the laws of whole runs speak of
+-- them.
 pub data Mark : Type 0 where
   -- a message, or the reply of a request, is put at a port: by PutMsg, by ReplyMsg, or as the request finishes
   put : (port message : ℕ) → Mark
@@ -152,9 +153,9 @@ begun_with code starts = record { code = code; place = 0; variables = replicate 
 abbrev pub new_program : TaskData → Program
 new_program task = begun_with task.code task.start
 
--- The machine of a file before its start: no task was added, nothing runs, it was not yet reported as idle, and no interrupt was
--- asked for. No memory is allocated, no port is public, and no request waits; the clock of the timer and system time begin at 0 (project
--- rule).
+-- The machine of a file before its start: no task was added, nothing runs, it was not yet reported as idle, and no
+-- interrupt was asked for. No memory is allocated, no port is public, and no request waits; the clock of the timer and
+-- system time begin at 0 (project rule).
 unfoldable pub booted : MachineData → State
 booted machine = record {
   schedule = unstarted (length machine.tasks) (map (λ (task : TaskData). task.pri) machine.tasks) (map (λ (task : TaskData). task.name) machine.tasks) machine.quantum;

@@ -90,8 +90,8 @@ steps (suc n) s = andthen (steps n) step s
 
 -- ---- run
 
--- an interrupt is requested: its source asks to be served, and the machine settles; a stopped machine does nothing (RKM Libraries, Exec
--- Interrupts)
+-- an interrupt is requested: its source asks to be served, and the machine settles; a stopped machine does nothing (RKM
+-- Libraries, Exec Interrupts)
 unfoldable pub request : Source → State → Outcome
 request asks s = unless_stopped (λ s. settle (on_pending (with_latch_of asks true) s)) s
 

@@ -1,4 +1,5 @@
--- Version 1 of the rules. No library is asked: each word that takes memory takes it as it is, and what is loaded changes by the calls on it alone.
+-- Version 1 of the rules. No library is asked: each word that takes memory takes it as it is, and what is loaded
+-- changes by the calls on it alone.
 use Rattle.std.specs.Prelude.{◌≡◌, ◌⊎◌, ℕ, ◌+◌, ◌-◌, negsuc, Bool, true, false, if◌then◌else◌, nat_eq, List, [], Option, Some, unwrap_or}
 use Rattle.std.specs.Int.{cast_signed, w32}
 use Rattle.signals.specs.Signals.{grant}
@@ -58,7 +59,8 @@ VersionOneTakesMemoryAsItIs =
 
 -- ---- what is loaded
 
--- the same library lies at a base in both heaps, in a block of the same size; it is open so often then, and is to be expunged or not
+-- the same library lies at a base in both heaps, in a block of the same size; it is then open that many times, and is
+-- to be expunged or not
 pub record StaysCounted (base times : ℕ) (marked : Bool) (old new : Heap) : Type 0 where
   pub stays : StaysLoaded base old new
   pub count : count_of base new ≡ times
@@ -80,8 +82,9 @@ pub record IsCallOn (named : LibraryWord) (base : ℕ) (s : State) : Type 0 wher
   pub word : call.word ≡ group.Libraries named
   pub names : argument 0 call ≡ base
 
--- What the running task makes of the library at a base by a call on it: it is open once more, and not to be expunged any more; or open once
--- less, and marked as it was; or open as often, and to be expunged; or it is expunged, by its removal or its last close.
+-- What the running task makes of the library at a base by a call on it: it is open once more, and not to be expunged
+-- any more; or open once less, and marked as it was; or open as often, and to be expunged; or it is expunged, by its
+-- removal or its last close.
 pub data ChangesByItsCall (base : ℕ) (s : State) (new : Heap) : Type 0 where
   opens : IsOpening base s → StaysCounted base (count_of base s.memory.heap + 1) false s.memory.heap new → ChangesByItsCall base s new
   closes : IsCallOn CloseLibrary base s
@@ -90,8 +93,8 @@ pub data ChangesByItsCall (base : ℕ) (s : State) (new : Heap) : Type 0 where
   goes_by_removal : IsRemoval base s → ChangesByItsCall base s new
   goes_by_last_close : IsLastClose base s → ChangesByItsCall base s new
 
--- Where libraries are not asked, a loaded library stays as it is, open or not: in its block, as often open, and to be expunged or not, whatever
--- word takes memory. It changes by a call of the running task on it alone.
+-- Where libraries are not asked, a loaded library stays as it is, open or not: in its block, as often open, and to be
+-- expunged or not, whatever word takes memory. It changes by a call of the running task on it alone.
 abbrev pub UnaskedLibrariesStay : Type 0
 UnaskedLibrariesStay =
     (base : ℕ) → OfEveryAction (λ action s o.

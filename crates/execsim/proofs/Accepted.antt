@@ -1,4 +1,5 @@
--- What holds of each of some records, and of all that is shown of them; and that the names of software interrupts differ.
+-- What holds of each of some records, and of all that is shown of them; and that the names of software interrupts
+-- differ.
 use Rattle.std.proofs.Common.{◌≡◌, ◌≢◌, List, ℕ, [], ◌∷◌, ◌++◌, All, map, sym, ◌∙◌, subst, arith, AllPairs, length-append}
 use Rattle.std.proofs.lemmas.{List.get_or_append_left, List.length-map, List.Elements.All-nil, List.Elements.All-cons, List.Elements.All-head, List.Elements.All-tail}
 use Rattle.std.proofs.Math.ListN.{get_or-map as default_map}

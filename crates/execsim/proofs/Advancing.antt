@@ -40,7 +40,7 @@ changes_more first more = record {
   tasks = more.tasks ∙ ap (λ (x : Seen). length x.scripts.programs) first.is ∙ first.tasks;
 }
 
--- it rests, whatever it changes of what the tasks execute
+-- the task still runs in a settled machine, whatever it changes of what the tasks execute
 pub rests_after : {m n : Seen} {t : ℕ} → ChangesScripts m n → Rests t m → Rests t n
 rests_after {t = t} changed before = record {
   known = subst (HasTask t) (sym changed.is) (subst (λ (n : ℕ). t < n) (sym changed.tasks) before.known);

@@ -1,4 +1,5 @@
--- The names of the software interrupts of a file differ, so that each is once among the names that were put in, at its number.
+-- The names of the software interrupts of a file differ, so that each is once among the names that were put in, at its
+-- number.
 use Rattle.std.proofs.Common.{◌≡◌, ◌≢◌, ℕ, suc, ◌+◌, ◌<◌, Bool, true, false, cond, not, List, [], ◌∷◌, ◌++◌, length, map, take, get_or, None, Some, refl, sym, ap, ◌∙◌, arith, ◌||◌, nat_lt, bytes_eq, AllPairs, position, ltb-false, get_or-take, length-take-le}
 use Rattle.std.specs.List.{list_any, position_or_len}
 use Rattle.std.proofs.lemmas.{List.get_or_default, List.length-map, List.map_push, List.take-map, List.take_more, List.Sums.position_or_len_is, List.Sums.prefix_len-le-length, Slice.Eq.bytes_eq-Decides}

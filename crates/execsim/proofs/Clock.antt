@@ -1,4 +1,5 @@
--- The clock of the abstract machine gains what ticks bring, and nothing else moves it; so how much time is left is known.
+-- The clock of the abstract machine gains what ticks bring, and nothing else moves it; so how much time is left is
+-- known.
 use Rattle.std.proofs.Common.{◌≡◌, ℕ, zero, suc, ◌+◌, ◌*◌, ◌^◌, ◌<◌, ◌≤◌, Bool, true, false, cond, List, [], ◌∷◌, length, take, get_or, Option, None, Some, subst, refl, ap, sym, ◌∙◌, arith, sum_by}
 use Rattle.std.proofs.lemmas.{List.Sums.sum_by-cons, List.Sums.sum_by_more_le, Nat.mul-le}
 use Rattle.execlist.specs.Disciplines.{by_arrival}

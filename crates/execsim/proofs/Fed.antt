@@ -1,4 +1,5 @@
--- A machine to whose task a command is fed shows the state with that command, and sees the end of a body as the abstract machine does.
+-- A machine to whose task a command is fed shows the state with that command, and sees the end of a body as the
+-- abstract machine does.
 use Rattle.std.proofs.Common.{◌≡◌, ℕ, zero, suc, ◌≤◌, Bool, true, false, ◌||◌, if◌then◌else◌, is_some, List, [], ◌∷◌, length, slice_get, slice_index_or, slice_set, Option, None, Some, Result, Ok, Err, OnOk, OnErr, arith, refl, ap, ap₂, sym, subst, ◌∙◌}
 use Rattle.script.specs.Commands.{CommandData}
 use Rattle.scheduler.specs.Schedule.{Schedule}

@@ -6,7 +6,7 @@ use Rattle.execmodel.specs.{State.Memory, State.Object, State.on_heap, Places.fr
 use Rattle.execlib.specs.Libraries.{public_memory}
 use Rattle.execsim.specs.Agreement.{queues_in_order}
 
--- a library is freed, or is open so often
+-- a library is freed, or is open that many times
 pub freed_or-in_order : (leaves : Bool) (base count : ℕ) (delayed : Bool) (y : Memory)
     → cond leaves (freed base (queues_in_order y)) (on_heap (with_library base count delayed) (queues_in_order y))
     ≡ queues_in_order (cond leaves (freed base y) (on_heap (with_library base count delayed) y))

@@ -1,5 +1,6 @@
--- The scheduler keeps its ready tasks in the order in which they are to run, and so are the caused software interrupts kept; the abstract
--- machine has both in order of arrival: each change of a schedule or of the pending interrupts goes the same way in both.
+-- The scheduler keeps its ready tasks in the order in which they are to run, and so are the caused software interrupts
+-- kept; the abstract machine has both in order of arrival: each change of a schedule or of the pending interrupts goes
+-- the same way in both.
 use Rattle.std.proofs.Common.{◌≡◌, ◌≢◌, ℕ, zero, suc, ◌+◌, ◌<◌, ℤ, List, [], ◌∷◌, length, get_or, slice_set, Bool, true, false, ◌&&◌, ◌||◌, nat_lt, cond, Option, None, Some, refl, ap, sym, ◌∙◌, subst, arith, pos, not, if◌then◌else◌, ◌==◌, fold, eq-eqb, get_or-set_other}
 use Rattle.std.specs.List.{list_any}
 use Rattle.std.proofs.lemmas.Bool.{cond-true}

@@ -1,5 +1,5 @@
--- The machine keeps its public ports in the order in which they are searched, the abstract machine in order of arrival: each change of them
--- goes the same way in both, and each reading is the same.
+-- The machine keeps its public ports in the order in which they are searched, the abstract machine in order of arrival:
+-- each change of them goes the same way in both, and each reading is the same.
 use Rattle.std.proofs.Common.{◌≡◌, ℕ, ℤ, ◌≤◌, List, [], ◌∷◌, length, Bool, true, false, cond, refl, ap, sym, ◌∙◌, not, ◌||◌, ◌==◌, find, fold}
 use Rattle.std.specs.List.{list_any}
 use Rattle.std.proofs.lemmas.List.{get_or_past}

@@ -475,8 +475,8 @@ abbrev finishes_from : (Clock → Option ℕ) → ℕ → Option ℕ → State �
 finishes_from next n found s =
     elim found as (λ (x : Option ℕ). Outcome) [ None ↦ quiet s | Some request ↦ andthen (finishes request) (finishes_each next n) s ]
 
--- The requests that finish, by which one does so next: what follows is for those whose time has come, and for those that wait for system
--- time.
+-- The requests that finish, by which one does so next: what follows is for those whose time has come, and for those
+-- that wait for system time.
 module _ (next : Clock → Option ℕ) where
   next_same : {m : Seen} (s : State) → Agrees m s → next s.memory.timer ≡ next m.memory.timer
   next_same s e = sym (ap (λ (y : Memory). next y.timer) e.memory)

@@ -1,6 +1,6 @@
--- What is done for a message that has arrived, or for the new owner of a semaphore, with the ready tasks and the caused software interrupts in
--- the order in which they are to run; how a call on a port or a semaphore ends that has more to do than its change of memory; and which
--- interrupt runs next.
+-- What is done for a message that has arrived, or for the new owner of a semaphore, with the ready tasks and the caused
+-- software interrupts in the order in which they are to run; how a call on a port or a semaphore ends that has more to
+-- do than its change of memory; and which interrupt runs next.
 use Rattle.std.specs.Int.{cast_unsigned, w32}
 use Rattle.std.specs.Prelude.{ℕ, ◌^◌, false, if◌then◌else◌, length, List, Option, None, Some, Result, Ok, Err}
 use Rattle.exectrace.specs.Trace.{Serve, Softint, Timer}
@@ -36,7 +36,8 @@ performed_or_alerted_by (Err why) c call s = alerted_by (code_of why) c call s
 abbrev pub performed_or_alerted : Result Action Refusal → ℕ → Call → State → Outcome
 performed_or_alerted tried t call s = performed_or_alerted_by tried (ByTask t) call s
 
--- a call that frees a port of a task and with a signal: the signal is given back, or the machine stops by the call's alert
+-- a call that frees a port of a task and with a signal: the signal is given back, or the machine stops by the call's
+-- alert
 abbrev pub given_back_or_alerted : Result (ℕ × ℕ) Refusal → ℕ → Call → State → Outcome
 given_back_or_alerted (Ok owner) t call s = done t call (on_schedule (frees_signal owner.0 owner.1) s)
 given_back_or_alerted (Err why) t call s = alerted (code_of why) t call s
@@ -46,7 +47,8 @@ abbrev pub obtains_or_alerted : Result Obtained Refusal → ℕ → ℕ → Call
 obtains_or_alerted (Ok how) semaphore t call s = obtains how semaphore t call s
 obtains_or_alerted (Err why) semaphore t call s = alerted (code_of why) t call s
 
--- a call that releases a semaphore: the new owner, if there is one, becomes ready; or the machine stops by the call's alert
+-- a call that releases a semaphore: the new owner, if there is one, becomes ready; or the machine stops by the call's
+-- alert
 abbrev pub passes_or_alerted : Result (Option ℕ) Refusal → ℕ → ℕ → Call → State → Outcome
 passes_or_alerted (Ok owner) semaphore t call s = passes owner semaphore t call s
 passes_or_alerted (Err why) semaphore t call s = alerted (code_of why) t call s
@@ -58,7 +60,8 @@ abbrev pub tells_or_waits : Awaited → ℕ → Call → State → Outcome
 tells_or_waits (awaited.Done error) t call s = answered t call (cast_unsigned w32 error) s
 tells_or_waits (awaited.UnderWay bit) t call s = model.looked None (2 ^ bit) t call s
 
--- a call that aborts a request: what is to be done for its reply is done, if it was in progress; or the machine stops by the call's alert
+-- a call that aborts a request: what is to be done for its reply is done, if it was in progress; or the machine stops
+-- by the call's alert
 abbrev pub aborts_or_alerted : Result (Option Action) Refusal → ℕ → Call → State → Outcome
 aborts_or_alerted (Ok (Some act)) t call s = answered t call 0 (model.performed act s)
 aborts_or_alerted (Ok None) t call s = answered t call 0xffffffff s

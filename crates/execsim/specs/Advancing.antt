@@ -29,8 +29,8 @@ pub record Ends (n : ℕ) (failed : Bool) (out : Tape) (result : Result ℕ Writ
   pub going : IfOk result (λ k. (k ≡ n) × (failed ≡ false))
   pub failing : MatchResult result (λ _. Unit {0}) (λ _. failed ≡ true)
 
--- The machine goes on by a step, whose lines are written, and by as many steps more as the answer says, within a limit, which print nothing and leave
--- the clock as it is. A failed write fails it.
+-- The machine goes on by a step, whose lines are written, and by as many steps more as the answer says, within a limit,
+-- which print nothing and leave the clock as it is. A failed write fails it.
 pub record Advances (more : ℕ) (old new : Shown) (before after : Tape) (result : Result ℕ WriteFault) : Type 0 where
   pub within : IfOk result (λ n. n ≤ more)
   pub agrees : (s : State) → Agrees old.seen s → IfOk result (λ n. Agrees new.seen (steps (n + 1) s).state)

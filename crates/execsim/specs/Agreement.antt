@@ -1,6 +1,6 @@
--- How the machine agrees with the abstract machine, and how a part of it follows an action. The abstract state keeps its ready
--- tasks, its public ports and its caused software interrupts in order of arrival; the machine keeps each in order of priority. All else is
--- equal.
+-- How the machine agrees with the abstract machine, and how a part of it follows an action. The abstract state keeps
+-- its ready tasks, its public ports and its caused software interrupts in order of arrival; the machine keeps each in
+-- order of priority. All else is equal.
 use Rattle.std.specs.Prelude.{◌≡◌, ℕ, Bool, true, false, List, []}
 use Rattle.exectrace.specs.Hearing.{Hearing}
 use Rattle.exectrace.specs.Trace as trace

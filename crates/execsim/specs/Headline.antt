@@ -1,5 +1,5 @@
--- What the public calls promise: a started machine follows the abstract machine event by event, and `simulate` writes exactly the
--- trace of its whole run.
+-- What the public calls promise: a started machine follows the abstract machine event by event, and `simulate` writes
+-- exactly the trace of its whole run.
 use Rattle.std.specs.Prelude.{◌≡◌, Bool, true, false, List, Result, Ok, Err, IfOk, IsOk, ◌↔◌, MatchResult}
 use Rattle.exectrace.specs.{Sink.Tape, Sink.TakesAll, Sink.Breaks, Sink.Writes, Trace.printed, declared.sinks.SinkState.TheVariants.Good, declared.sinks.WriteFault.WriteFault}
 use Rattle.script.specs.{File.MachineData, declared.event.Event.Event}
@@ -24,15 +24,17 @@ abbrev pub flow_of : Bool → Flow
 flow_of true = Alerted
 flow_of false = Going
 
--- The machine goes on as the action says, from any state that it agrees with, and its lines are written. A failed write fails it: a prefix
--- of the lines is written, and what the machine holds then is of no account, since it does nothing more.
+-- The machine goes on as the action says, from any state that it agrees with, and its lines are written. A failed write
+-- fails it: a prefix of the lines is written, and what the machine holds then is of no account, since it does nothing
+-- more.
 pub record Acts (next : State → Outcome) (old new : Shown) (before after : Tape) (result : Result Flow WriteFault) : Type 0 where
   pub agrees : (s : State) → Agrees old.seen s → IsOk result → Agrees new.seen (next s).state
   pub writes : (s : State) → Agrees old.seen s → Writes before after (printed (next s).lines) result
   pub going : IfOk result (λ flow. (flow ≡ flow_of new.seen.stopped) × (new.failed ≡ false))
   pub failing : MatchResult result (λ _. Unit {0}) (λ _. new.failed ≡ true)
 
--- After an action the answer says whether an alert has stopped the machine, or that the sink has failed, which fails the machine.
+-- After an action the answer says whether an alert has stopped the machine, or that the sink has failed, which fails
+-- the machine.
 pub record Finishes (stopped failed : Bool) (out : Tape) (result : Result Flow WriteFault) : Type 0 where
   pub written : IsOk result ↔ (out.state ≡ Good)
   pub going : IfOk result (λ flow. (flow ≡ flow_of stopped) × (failed ≡ false))
@@ -97,8 +99,8 @@ pub record LacksMemory (file : Result MachineData FileFault) (script : Result (L
   pub reads_events : script ≡ Ok events
   pub untouched : after ≡ before
 
--- The headline: the trace of the run of the defined machine over the defined events, exactly; or the first fault of the texts, and
--- nothing written; or a part of that same trace, if the sink failed.
+-- The headline: the trace of the run of the defined machine over the defined events, exactly; or the first fault of the
+-- texts, and nothing written; or a part of that same trace, if the sink failed.
 abbrev pub Simulates : Result MachineData FileFault → Result (List Event) EventFault → Tape → Tape → Result End SimFault → Type 0
 Simulates file script before after (Ok how) = RunsWhole file script before after how
 Simulates file script before after (Err (fault.File why)) = RefusesFile file before after why

@@ -19,8 +19,8 @@ read_fault_of kind = Failed
 abbrev pub Adds : Option (List ℕ) → Option (List ℕ) → List ℕ → List ℕ → Type 0
 Adds before after old new = (bs : List ℕ) × Consumes before after bs × (new ≡ old ++ bs)
 
--- what the reader gave before a fault: exactly one byte past the limit before `TooLong`, none past it before a read that failed, and at most one
--- if memory was refused, to the bytes or to the reader
+-- what the reader gave before a fault: exactly one byte past the limit before `TooLong`, none past it before a read
+-- that failed, and at most one if memory was refused, to the bytes or to the reader
 abbrev pub IsGivenBefore : ℕ → ReadFault → ℕ → Type 0
 IsGivenBefore limit TooLong n = n ≡ limit + 1
 IsGivenBefore limit Failed n = n ≤ limit

@@ -1,4 +1,5 @@
--- When a machine that was used has room for the machine of a file, so that it is put back to that machine's first state and takes no memory.
+-- When a machine that was used has room for the machine of a file, so that it is put back to that machine's first state
+-- and takes no memory.
 use Rattle.std.specs.Prelude.{◌≡◌, ℕ, ℤ, Bool, List, length, map}
 use Rattle.softint.specs.declared.source.Source.{Source}
 use Rattle.script.specs.File.{MachineData, ServerData, SoftintData, TaskData}
@@ -22,7 +23,8 @@ pub record SoftintShape : Type 0 where
 abbrev pub softint_shape : SoftintData → SoftintShape
 softint_shape s = record { name = s.name; pri = s.pri; commands = length s.code }
 
--- what a reset leaves as it is of a server: its name, its source, its priority, whether it ends the chain of its source, and how many commands it has
+-- what a reset leaves as it is of a server: its name, its source, its priority, whether it ends the chain of its
+-- source, and how many commands it has
 pub record ServerShape : Type 0 where
   pub name : List ℕ
   pub source : Source
@@ -38,8 +40,9 @@ pub record AreShaped (stated_softints : List SoftintData) (stated_servers : List
   pub softints : map softint_shape bodies.softints ≡ map softint_shape stated_softints
   pub servers : map server_shape bodies.servers ≡ map server_shape stated_servers
 
--- A machine has room for that of a file: as many tasks, each with as many commands; the same regions and libraries, and as many objects of each kind;
--- the same interrupts, each with as many commands. What commands do, the quantum, the length of a tick, and the names and priorities of tasks may differ.
+-- A machine has room for that of a file: as many tasks, each with as many commands; the same regions and libraries, and
+-- as many objects of each kind; the same interrupts, each with as many commands. What commands do, the quantum, the
+-- length of a tick, and the names and priorities of tasks may differ.
 pub record HasRoomFor (file : MachineData) (seen : Seen) : Type 0 where
   pub tasks : map command_count seen.scripts.programs ≡ map task_command_count file.tasks
   pub memory : IsAsLarge file.regions file.pool (length file.tasks) file.libraries seen.memory

@@ -1,5 +1,5 @@
--- The time that is left: the sums of the clock stay below 2 to the power 64. What is added to it, the longest time of a request and what
--- system time is ahead, is less than 2 to the power 54.
+-- The time that is left: the sums of the clock stay below 2 to the power 64. What is added to it, the longest time of a
+-- request and what system time is ahead, is less than 2 to the power 54.
 use Rattle.std.specs.Prelude.{ℕ, ◌+◌, ◌*◌, ◌^◌, ◌≤◌}
 use Rattle.execmodel.specs.State.{State}
 use Rattle.execsim.specs.{Agreement.Seen, Agreement.Agrees, Reached.IsReached}

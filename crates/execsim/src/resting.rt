@@ -11,8 +11,8 @@ use script::Word;
 use taskq::TaskId;
 
 impl<S: ListSpace> Kernel<S> {
-    /// Task t, which rests, does plain words that print nothing, as long as its next command is one, and at most that
-    /// many. The answer is how many.
+    /// Task t, which runs in a settled machine, does plain words that print nothing, as long as its next command is
+    /// one, and at most that many. The answer is how many.
     #[inline(always)]
     fn silent_words(&mut self, t: TaskId, most: u32) -> u32
         requires { Rests t self.old }
@@ -27,8 +27,8 @@ impl<S: ListSpace> Kernel<S> {
         most
     }
 
-    /// Task t, which rests, does plain words, as long as its next command is one, and at most that many; it prints to a
-    /// good sink only. The answer is how many.
+    /// Task t, which runs in a settled machine, does plain words, as long as its next command is one, and at most that
+    /// many; it prints to a good sink only. The answer is how many.
     #[inline(never)]
     fn plain_words<W: Witness>(&mut self, t: TaskId, most: u32, out: &mut W) -> u32
         requires { Rests t self.old }

@@ -1,4 +1,5 @@
--- The proof of `simulate_on`: runs a machine as `simulate` does, over list spaces of the type S: the trace is the same whatever the space.
+-- The proof of `simulate_on`: runs a machine as `simulate` does, over list spaces of the type S: the trace is the same
+-- whatever the space.
 use Rattle.execsim.proofs.{Acting.simulates, Clock.time_for_fewer}
 use Rattle.execsim.proofs.simulation.simulate_on.Goals as goal
 

@@ -1,4 +1,5 @@
--- A request that waits for system time, which has come to its time, lives and is in progress; it is done, and waits no more.
+-- A request that waits for system time, which has come to its time, lives and is in progress; it is done, and waits no
+-- more.
 use Rattle.std.proofs.Common.{ap, sym, subst, ◌∙◌, ◌+◌, pos}
 use Rattle.iorequest.specs.{Request.reply_port, Requests.request_at}
 use Rattle.timerdev.specs.Held.{on_timer, taken_off}

@@ -1,4 +1,5 @@
--- Insert asks for its list, its node and its predecessor, and then for a node that is not linked and a predecessor of that list.
+-- Insert asks for its list, its node and its predecessor, and then for a node that is not linked and a predecessor of
+-- that list.
 use Rattle.std.proofs.Common.{sym, ◌∙◌}
 use Rattle.execheap.proofs.{Alerts.insert_by_link, Alerts.insert_by_list, Alerts.insert_by_node, Alerts.insert_by_pred, Alerts.insert_found, Passed.passed_on}
 use Rattle.execheap.proofs.objects.Objects.to_insert.Goals as goal

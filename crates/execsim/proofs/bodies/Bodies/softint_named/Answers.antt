@@ -1,4 +1,5 @@
--- The proof of `Bodies::softint_named`: the number of the software interrupt of a name; if none has it, a number that none has.
+-- The proof of `Bodies::softint_named`: the number of the software interrupt of a name; if none has it, a number that
+-- none has.
 use Rattle.std.proofs.Common.{ap, ◌∙◌, map, refl}
 use Rattle.std.proofs.lemmas.List.{length-map}
 use Rattle.execmodel.specs.{State.Bodies, Pending.softint_number}

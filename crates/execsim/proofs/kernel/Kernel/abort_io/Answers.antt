@@ -1,5 +1,5 @@
--- The proof of `Kernel::abort_io`: AbortIO request: a request that is in progress is replied at once, with the error IOERR_ABORTED (-2), and
--- 0 is answered; for any other the word of -1.
+-- The proof of `Kernel::abort_io`: AbortIO request: a request that is in progress is replied at once, with the error
+-- IOERR_ABORTED (-2), and 0 is answered; for any other the word of -1.
 use Rattle.execsim.proofs.Requesting.{abort_tried}
 use Rattle.execsim.proofs.kernel.Kernel.abort_io.Goals as goal
 

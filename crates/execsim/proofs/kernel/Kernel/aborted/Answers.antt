@@ -1,5 +1,5 @@
--- The proof of `Kernel::aborted`: a call that aborts a request: one that was in progress is replied, and 0 is answered, for any other the
--- word of -1; or the call is refused by its alert.
+-- The proof of `Kernel::aborted`: a call that aborts a request: one that was in progress is replied, and 0 is answered,
+-- for any other the word of -1; or the call is refused by its alert.
 use Rattle.execsim.proofs.Requesting.{aborted_answers}
 use Rattle.execsim.proofs.kernel.Kernel.aborted.Goals as goal
 

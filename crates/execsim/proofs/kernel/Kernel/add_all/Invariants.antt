@@ -1,4 +1,5 @@
--- What holds in the loops of `Kernel::add_all`: the tasks that start with the machine are added in the order of the file.
+-- What holds in the loops of `Kernel::add_all`: the tasks that start with the machine are added in the order of the
+-- file.
 use Rattle.std.proofs.Common.{◌≡◌}
 use Rattle.execmodel.specs.{State.on_schedule, Step.all_added}
 use Rattle.execsim.specs.Agreement.{Moves}

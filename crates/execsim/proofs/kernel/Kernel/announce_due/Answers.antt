@@ -1,4 +1,5 @@
--- The proof of `Kernel::announce_due`: a request that is done says so, and then what is to be done for its reply is done.
+-- The proof of `Kernel::announce_due`: a request that is done says so, and then what is to be done for its reply is
+-- done.
 use Rattle.execsim.proofs.Requesting.{announced_due}
 use Rattle.execsim.proofs.kernel.Kernel.announce_due.Goals as goal
 

@@ -1,4 +1,5 @@
--- The proof of `Kernel::ask_at_place`: the command at a place of a body is done, unless an alert has stopped the machine.
+-- The proof of `Kernel::ask_at_place`: the command at a place of a body is done, unless an alert has stopped the
+-- machine.
 use Rattle.std.proofs.Common.{ap, refl, sym, ◌∙◌}
 use Rattle.script.specs.Commands.{command_view}
 use Rattle.execmodel.specs.Calls.{call_in_body}

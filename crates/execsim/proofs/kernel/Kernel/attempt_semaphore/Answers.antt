@@ -1,5 +1,5 @@
--- The proof of `Kernel::attempt_semaphore`: AttemptSemaphore semaphore: as ObtainSemaphore if no wait is needed, and answers 1; else
--- nothing changes and the answer is 0.
+-- The proof of `Kernel::attempt_semaphore`: AttemptSemaphore semaphore: as ObtainSemaphore if no wait is needed, and
+-- answers 1; else nothing changes and the answer is 0.
 use Rattle.execsim.proofs.Obtaining.{attempt_made, attempt_refused}
 use Rattle.execsim.proofs.kernel.Kernel.attempt_semaphore.Goals as goal
 

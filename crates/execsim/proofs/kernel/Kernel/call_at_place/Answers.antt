@@ -1,4 +1,5 @@
--- The proof of `Kernel::call_at_place`: the command at a place of a body is done by its call, unless an alert has stopped the machine.
+-- The proof of `Kernel::call_at_place`: the command at a place of a body is done by its call, unless an alert has
+-- stopped the machine.
 use Rattle.std.proofs.Common.{ap, sym, take, ◌∙◌}
 use Rattle.script.specs.Commands.{argument_view, command_view}
 use Rattle.execmodel.specs.Calls.{evaluated_in_body}

@@ -1,4 +1,5 @@
--- The proof of `Kernel::causing_in_body`: the number of the software interrupt that a command of the body of that name causes.
+-- The proof of `Kernel::causing_in_body`: the number of the software interrupt that a command of the body of that name
+-- causes.
 use Rattle.script.specs.Commands.{command_view}
 use Rattle.execmodel.specs.Calls.{call_in_body}
 use Rattle.execsim.proofs.BodyCalls.{caused_as}

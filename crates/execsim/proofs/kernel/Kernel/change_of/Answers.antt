@@ -1,5 +1,5 @@
--- The proof of `Kernel::change_of`: what a command of task t of that plain word changes, if the next one is at that place; none for a word
--- that prints.
+-- The proof of `Kernel::change_of`: what a command of task t of that plain word changes, if the next one is at that
+-- place; none for a word that prints.
 use Rattle.std.proofs.Common.{ap, ◌∙◌}
 use Rattle.script.specs.{declared.word.Word.TheVariants.Plain, Commands.command_view}
 use Rattle.execmodel.specs.{Calls.call_of, Calls.silent, Plain.jumps}

@@ -1,5 +1,5 @@
--- The proof of `Kernel::check_io`: CheckIO request: answers 0 for a request that is in progress, and else the request, and leaves its reply
--- where it is.
+-- The proof of `Kernel::check_io`: CheckIO request: answers 0 for a request that is in progress, and else the request,
+-- and leaves its reply where it is.
 use Rattle.std.specs.Prelude.{if◌then◌else◌}
 use Rattle.iorequest.specs.Request.{is_under_way}
 use Rattle.execmodel.specs.Requests.{does_check_io, request_alert, request_of}

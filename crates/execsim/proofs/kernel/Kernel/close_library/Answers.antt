@@ -1,5 +1,5 @@
--- The proof of `Kernel::close_library`: CloseLibrary base: the library is open one time less, and is freed if it is to be expunged and is no
--- longer open; 0 does nothing.
+-- The proof of `Kernel::close_library`: CloseLibrary base: the library is open one time less, and is freed if it is to
+-- be expunged and is no longer open; 0 does nothing.
 use Rattle.execsim.proofs.Opening.{close_none, close_tried}
 use Rattle.execsim.proofs.kernel.Kernel.close_library.Goals as goal
 

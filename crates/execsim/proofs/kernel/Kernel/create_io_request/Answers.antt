@@ -1,5 +1,5 @@
--- The proof of `Kernel::create_io_request`: CreateIORequest port: answers the address of a new request with that reply port, or 0; 0 for
--- port 0.
+-- The proof of `Kernel::create_io_request`: CreateIORequest port: answers the address of a new request with that reply
+-- port, or 0; 0 for port 0.
 use Rattle.execsim.proofs.Requesting.{create_made, create_none, create_refused}
 use Rattle.execsim.proofs.kernel.Kernel.create_io_request.Goals as goal
 

@@ -1,4 +1,5 @@
--- The proof of `Kernel::delete_msg_port`: DeleteMsgPort port: frees a port and gives its signal back to its task; 0 does nothing.
+-- The proof of `Kernel::delete_msg_port`: DeleteMsgPort port: frees a port and gives its signal back to its task; 0
+-- does nothing.
 use Rattle.execsim.proofs.Porting.{delete_none, delete_tried}
 use Rattle.execsim.proofs.kernel.Kernel.delete_msg_port.Goals as goal
 

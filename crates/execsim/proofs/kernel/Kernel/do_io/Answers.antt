@@ -1,5 +1,5 @@
--- The proof of `Kernel::do_io`: DoIO request: begins a request with IOF_QUICK set; if that does it at once, its error is answered, else
--- the task waits for it as by WaitIO.
+-- The proof of `Kernel::do_io`: DoIO request: begins a request with IOF_QUICK set; if that does it at once, its error
+-- is answered, else the task waits for it as by WaitIO.
 use Rattle.execsim.specs.Views.{call_view}
 use Rattle.execsim.proofs.Requesting.{do_again, do_found, do_refused}
 use Rattle.execsim.proofs.kernel.Kernel.do_io.Goals as goal

@@ -1,4 +1,5 @@
--- The proof of `Kernel::end_freeing`: a call that frees a port: its signal is given back to its task, or the call is refused by its alert.
+-- The proof of `Kernel::end_freeing`: a call that frees a port: its signal is given back to its task, or the call is
+-- refused by its alert.
 use Rattle.execsim.proofs.Porting.{gives_back_done}
 use Rattle.execsim.proofs.kernel.Kernel.end_freeing.Goals as goal
 

@@ -1,5 +1,5 @@
--- What holds in the loops of `Kernel::evaluate_all`: puts the values of that many arguments of a command for task t where they are to be;
--- what is past them is unused.
+-- What holds in the loops of `Kernel::evaluate_all`: puts the values of that many arguments of a command for task t
+-- where they are to be; what is past them is unused.
 use Rattle.std.proofs.Common.{◌≡◌, ℕ, List, length, map, take}
 use Rattle.exectrace.specs.Short.{short_argument}
 use Rattle.execmodel.specs.Calls.{evaluated}

@@ -1,5 +1,5 @@
--- The proof of `Kernel::evaluate_all_in_body`: puts the values of the first `count` arguments of a command of a body if they are to be;
--- what is past them is unused.
+-- The proof of `Kernel::evaluate_all_in_body`: puts the values of the first `count` arguments of a command of a body if
+-- they are to be; what is past them is unused.
 use Rattle.std.proofs.Common.{◌≡◌, ◌<◌, ℕ, arith, length, map, subst, take, length-set}
 use Rattle.std.proofs.lemmas.List.{get_or_default}
 use Rattle.exectrace.specs.Short.{short_argument}

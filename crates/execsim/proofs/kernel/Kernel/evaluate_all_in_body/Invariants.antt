@@ -1,5 +1,5 @@
--- What holds in the loops of `Kernel::evaluate_all_in_body`: puts the values of the first `count` arguments of a command of a body if they
--- are to be; what is past them is unused.
+-- What holds in the loops of `Kernel::evaluate_all_in_body`: puts the values of the first `count` arguments of a
+-- command of a body if they are to be; what is past them is unused.
 use Rattle.std.proofs.Common.{◌≡◌, ℕ, List, length, map, take}
 use Rattle.exectrace.specs.Short.{short_argument}
 use Rattle.execmodel.specs.Calls.{evaluated_in_body}

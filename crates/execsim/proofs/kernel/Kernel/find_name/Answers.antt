@@ -1,4 +1,5 @@
--- The proof of `Kernel::find_name`: FindName start name: answers the first node of that name in a list, or after a linked node, or 0.
+-- The proof of `Kernel::find_name`: FindName start name: answers the first node of that name in a list, or after a
+-- linked node, or 0.
 use Rattle.std.specs.Prelude.{[], unwrap_or}
 use Rattle.execmodel.specs.{Calls.name_argument, Deeds.performs, Lists.find_alert, Lists.found_node, Lists.list_deed}
 use Rattle.execsim.specs.Views.{call_view}

@@ -1,5 +1,5 @@
--- The proof of `Kernel::finish_all_due`: all requests whose time has come finish, one after another: by the due time when it came, and
--- those of one due time in the order in which they were begun.
+-- The proof of `Kernel::finish_all_due`: all requests whose time has come finish, one after another: by the due time
+-- when it came, and those of one due time in the order in which they were begun.
 use Rattle.timerdev.specs.Timing.{due_next}
 use Rattle.execsim.proofs.Requesting.{all_begin, all_due_ended, due_takes_one, one_less, shorter}
 use Rattle.execsim.proofs.kernel.Kernel.finish_all_due.Goals as goal

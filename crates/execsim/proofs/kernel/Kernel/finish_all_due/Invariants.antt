@@ -1,5 +1,5 @@
--- What holds in the loops of `Kernel::finish_all_due`: all requests whose time has come finish, one after another: by the due time when it
--- came, and those of one due time in the order in which they were begun.
+-- What holds in the loops of `Kernel::finish_all_due`: all requests whose time has come finish, one after another: by
+-- the due time when it came, and those of one due time in the order in which they were begun.
 use Rattle.std.proofs.Common.{length}
 use Rattle.timerdev.specs.Timing.{due_next}
 use Rattle.execsim.proofs.Requesting.{EndsAll}

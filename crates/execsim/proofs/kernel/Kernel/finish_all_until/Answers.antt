@@ -1,5 +1,5 @@
--- The proof of `Kernel::finish_all_until`: all requests that wait for system time and whose time has come finish, one after another: by
--- their times, and those of one time in the order in which they were begun.
+-- The proof of `Kernel::finish_all_until`: all requests that wait for system time and whose time has come finish, one
+-- after another: by their times, and those of one time in the order in which they were begun.
 use Rattle.timerdev.specs.Timing.{until_next}
 use Rattle.execsim.proofs.Requesting.{all_begin, all_ended, one_less, shorter, until_takes_one}
 use Rattle.execsim.proofs.kernel.Kernel.finish_all_until.Goals as goal

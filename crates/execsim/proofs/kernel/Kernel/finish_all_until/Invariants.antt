@@ -1,5 +1,5 @@
--- What holds in the loops of `Kernel::finish_all_until`: all requests that wait for system time and whose time has come finish, one after
--- another: by their times, and those of one time in the order in which they were begun.
+-- What holds in the loops of `Kernel::finish_all_until`: all requests that wait for system time and whose time has come
+-- finish, one after another: by their times, and those of one time in the order in which they were begun.
 use Rattle.std.proofs.Common.{length}
 use Rattle.timerdev.specs.Timing.{until_next}
 use Rattle.execsim.proofs.Requesting.{EndsAll}

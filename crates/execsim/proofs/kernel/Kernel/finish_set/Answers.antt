@@ -1,5 +1,5 @@
--- The proof of `Kernel::finish_set`: what follows a call on requests: if it set system time, all requests finish that wait for system time
--- and whose time has come.
+-- The proof of `Kernel::finish_set`: what follows a call on requests: if it set system time, all requests finish that
+-- wait for system time and whose time has come.
 use Rattle.std.proofs.Common.{sym, ◌∙◌}
 use Rattle.execsim.proofs.Requesting.{not_set, set_finishes}
 use Rattle.execsim.proofs.kernel.Kernel.finish_set.Goals as goal

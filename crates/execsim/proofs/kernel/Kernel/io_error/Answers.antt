@@ -1,5 +1,5 @@
--- The proof of `Kernel::io_error`: IOError request: answers its error as a word: 0, or that of IOERR_OPENFAIL (-1), IOERR_ABORTED (-2) or
--- IOERR_NOCMD (-3).
+-- The proof of `Kernel::io_error`: IOError request: answers its error as a word: 0, or that of IOERR_OPENFAIL (-1),
+-- IOERR_ABORTED (-2) or IOERR_NOCMD (-3).
 use Rattle.std.specs.Int.{cast_unsigned, w32}
 use Rattle.execmodel.specs.Requests.{does_io_error, request_alert, request_of}
 use Rattle.execsim.proofs.Listing.{heap_read}

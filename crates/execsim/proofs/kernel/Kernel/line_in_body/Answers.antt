@@ -1,4 +1,5 @@
--- The proof of `Kernel::line_in_body`: prints the line of a call that answers nothing, of the body of that name, from its command.
+-- The proof of `Kernel::line_in_body`: prints the line of a call that answers nothing, of the body of that name, from
+-- its command.
 use Rattle.script.specs.Words.{word_text}
 use Rattle.std.proofs.Common.{◌∷◌, [], subst, take, ◌∙◌}
 use Rattle.exectrace.specs.Trace as trace

@@ -1,5 +1,5 @@
--- The proof of `Kernel::new_msg`: NewMsg port word: answers the address of a new message with that reply port, or none for 0, and that
--- word; or 0.
+-- The proof of `Kernel::new_msg`: NewMsg port word: answers the address of a new message with that reply port, or none
+-- for 0, and that word; or 0.
 use Rattle.execsim.proofs.Porting.{message_made, message_refused}
 use Rattle.execsim.proofs.kernel.Kernel.new_msg.Goals as goal
 

@@ -1,4 +1,5 @@
--- The proof of `Kernel::next_call`: task t, which runs, tries the call again that it waits in, or makes that of its next command, or ends.
+-- The proof of `Kernel::next_call`: task t, which runs, tries the call again that it waits in, or makes that of its
+-- next command, or ends.
 use Rattle.std.proofs.Common.{refl, ap, sym, take, ◌∙◌, ◌+◌, Some}
 use Rattle.std.proofs.lemmas.Option.{slice_get_within}
 use Rattle.execmodel.specs.{State.program_of, Calls.call_of, Calls.evaluated}

@@ -1,4 +1,5 @@
--- The proof of `Kernel::next_change`: what task t changes by what it does next, if that is a plain word that prints nothing.
+-- The proof of `Kernel::next_change`: what task t changes by what it does next, if that is a plain word that prints
+-- nothing.
 use Rattle.std.proofs.Common.{ℕ, Some, refl, ap, ◌∙◌, ◌+◌}
 use Rattle.execmodel.specs.State.{Program, program_of}
 use Rattle.execsim.proofs.Changing.{next_changes}

@@ -1,4 +1,5 @@
--- The proof of `Kernel::number_at`: the number that is at an argument of a command of task t, counted from 0; 0 if none does.
+-- The proof of `Kernel::number_at`: the number that is at an argument of a command of task t, counted from 0; 0 if none
+-- does.
 use Rattle.std.proofs.Common.{sym}
 use Rattle.execmodel.specs.Calls.{call_of, evaluated}
 use Rattle.execsim.proofs.Changing.{number_there, number_past}

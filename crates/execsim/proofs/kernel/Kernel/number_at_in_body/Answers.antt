@@ -1,4 +1,5 @@
--- The proof of `Kernel::number_at_in_body`: the number at an argument of a command of a body, counted from 0; 0 if there is none.
+-- The proof of `Kernel::number_at_in_body`: the number at an argument of a command of a body, counted from 0; 0 if
+-- there is none.
 use Rattle.std.proofs.Common.{sym}
 use Rattle.execmodel.specs.Calls.{evaluated_in_body}
 use Rattle.execsim.proofs.Changing.{number_there, number_past}

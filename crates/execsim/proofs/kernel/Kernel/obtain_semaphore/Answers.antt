@@ -1,5 +1,5 @@
--- The proof of `Kernel::obtain_semaphore`: ObtainSemaphore semaphore: a free semaphore is the caller's, with the count 1; the owner's
--- count is one more; any other task waits, after those that asked before.
+-- The proof of `Kernel::obtain_semaphore`: ObtainSemaphore semaphore: a free semaphore is the caller's, with the count
+-- 1; the owner's count is one more; any other task waits, after those that asked before.
 use Rattle.execsim.specs.Views.{call_view}
 use Rattle.execsim.proofs.Obtaining.{obtain_again, obtain_tried}
 use Rattle.execsim.proofs.kernel.Kernel.obtain_semaphore.Goals as goal

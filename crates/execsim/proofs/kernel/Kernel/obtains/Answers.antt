@@ -1,5 +1,5 @@
--- The proof of `Kernel::obtains`: a call by which task t asks for a semaphore: it is done if the task has it, else the task waits; or it
--- is refused by its alert.
+-- The proof of `Kernel::obtains`: a call by which task t asks for a semaphore: it is done if the task has it, else the
+-- task waits; or it is refused by its alert.
 use Rattle.execsim.proofs.Obtaining.{waits}
 use Rattle.execsim.proofs.kernel.Kernel.obtains.Goals as goal
 

@@ -1,5 +1,5 @@
--- The proof of `Kernel::open_device`: OpenDevice name unit request: opens a request for a unit of timer.device, and answers 0; or the word
--- of IOERR_OPENFAIL (-1) if there is no such device or unit, and the request is then not open.
+-- The proof of `Kernel::open_device`: OpenDevice name unit request: opens a request for a unit of timer.device, and
+-- answers 0; or the word of IOERR_OPENFAIL (-1) if there is no such device or unit, and the request is then not open.
 use Rattle.execsim.proofs.Requesting.{open_tried}
 use Rattle.execsim.proofs.kernel.Kernel.open_device.Goals as goal
 

@@ -1,5 +1,5 @@
--- The proof of `Kernel::passes`: a call that releases a semaphore: the new owner, if there is one, becomes ready; or the call is refused
--- by its alert.
+-- The proof of `Kernel::passes`: a call that releases a semaphore: the new owner, if there is one, becomes ready; or
+-- the call is refused by its alert.
 use Rattle.execsim.proofs.Obtaining.{passed_on}
 use Rattle.execsim.proofs.kernel.Kernel.passes.Goals as goal
 

@@ -1,4 +1,5 @@
--- The proof of `Kernel::release_semaphore`: ReleaseSemaphore semaphore: the owner has to release the semaphore once less.
+-- The proof of `Kernel::release_semaphore`: ReleaseSemaphore semaphore: the owner has to release the semaphore once
+-- less.
 use Rattle.execsim.specs.Views.{call_view}
 use Rattle.execsim.proofs.{Obtaining.release_tried, Reached.heirs_wait}
 use Rattle.execsim.proofs.kernel.Kernel.release_semaphore.Goals as goal

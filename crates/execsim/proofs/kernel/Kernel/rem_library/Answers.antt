@@ -1,4 +1,5 @@
--- The proof of `Kernel::rem_library`: RemLibrary base: the library is expunged, or is to be when it is closed for the last time.
+-- The proof of `Kernel::rem_library`: RemLibrary base: the library is expunged, or is to be when it is closed for the
+-- last time.
 use Rattle.execmodel.specs.Libraries.{does_rem_library, library_alert, after_expunge}
 use Rattle.execsim.proofs.{LowMemory.removed-in_order, Listing.heap_changed}
 use Rattle.execsim.proofs.kernel.Kernel.rem_library.Goals as goal

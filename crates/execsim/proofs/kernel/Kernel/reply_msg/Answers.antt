@@ -1,4 +1,5 @@
--- The proof of `Kernel::reply_msg`: ReplyMsg message: puts a message at its reply port; one without gets the type NT_FREEMSG.
+-- The proof of `Kernel::reply_msg`: ReplyMsg message: puts a message at its reply port; one without gets the type
+-- NT_FREEMSG.
 use Rattle.execsim.proofs.Porting.{reply_tried}
 use Rattle.execsim.proofs.kernel.Kernel.reply_msg.Goals as goal
 

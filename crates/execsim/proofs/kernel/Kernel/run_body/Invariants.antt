@@ -1,4 +1,5 @@
--- What holds in the loops of `Kernel::run_body`: a whole body: its commands one after another; after an alert there is no other.
+-- What holds in the loops of `Kernel::run_body`: a whole body: its commands one after another; after an alert there is
+-- no other.
 use Rattle.std.proofs.Common.{take}
 use Rattle.execmodel.specs.Bodies.{runs_body}
 use Rattle.execsim.specs.{Agreement.Follows, Views.code_of_body}

@@ -1,5 +1,5 @@
--- The proof of `Kernel::run_chain`: the servers of a source run one after another, until one claims the interrupt, or an alert stops the
--- machine.
+-- The proof of `Kernel::run_chain`: the servers of a source run one after another, until one claims the interrupt, or
+-- an alert stops the machine.
 use Rattle.std.proofs.Common.{◌≤◌, ap, sym, ◌∙◌, arith, length}
 use Rattle.execmodel.specs.Interrupts.{server_at}
 use Rattle.execsim.specs.Agreement.{Seen}

@@ -1,5 +1,5 @@
--- What holds in the loops of `Kernel::run_chain`: the servers of a source run one after another, until one claims the interrupt, or an
--- alert stops the machine.
+-- What holds in the loops of `Kernel::run_chain`: the servers of a source run one after another, until one claims the
+-- interrupt, or an alert stops the machine.
 use Rattle.execsim.specs.Agreement.{Follows, Seen}
 use Rattle.execsim.proofs.Serving.{IsKnownFrom, rest_of_chain}
 use Rattle.execsim.proofs.kernel.Kernel.run_chain.Given as goal

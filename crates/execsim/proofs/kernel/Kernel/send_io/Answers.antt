@@ -1,4 +1,5 @@
--- The proof of `Kernel::send_io`: SendIO request: begins a request with IOF_QUICK cleared; if that does it at once, it is replied.
+-- The proof of `Kernel::send_io`: SendIO request: begins a request with IOF_QUICK cleared; if that does it at once, it
+-- is replied.
 use Rattle.execsim.proofs.Requesting.{send_tried}
 use Rattle.execsim.proofs.kernel.Kernel.send_io.Goals as goal
 

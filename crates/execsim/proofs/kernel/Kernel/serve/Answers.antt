@@ -1,5 +1,5 @@
--- The proof of `Kernel::serve`: a source is served, whose latch is cleared: VERTB counts the quantum and finishes the requests that are
--- due, and then the servers run.
+-- The proof of `Kernel::serve`: a source is served, whose latch is cleared: VERTB counts the quantum and finishes the
+-- requests that are due, and then the servers run.
 use Rattle.execsim.proofs.Serving.{serves_with}
 use Rattle.execsim.proofs.kernel.Kernel.serve.Goals as goal
 

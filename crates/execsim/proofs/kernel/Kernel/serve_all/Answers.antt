@@ -1,5 +1,5 @@
--- The proof of `Kernel::serve_all`: all that asks is served, if interrupts are allowed: there are three sources, and no serving sets a
--- latch.
+-- The proof of `Kernel::serve_all`: all that asks is served, if interrupts are allowed: there are three sources, and no
+-- serving sets a latch.
 use Rattle.std.proofs.Common.{◌≡◌, ℕ, suc, ◌+◌, ◌-◌, ap, sym, ◌∙◌, arith, subst}
 use Rattle.execmodel.specs.Interrupts.{servings}
 use Rattle.execsim.specs.Agreement.{Follows, Seen}

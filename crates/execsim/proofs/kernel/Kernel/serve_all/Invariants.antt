@@ -1,5 +1,5 @@
--- What holds in the loops of `Kernel::serve_all`: all that asks is served, if interrupts are allowed: there are three sources, and no
--- serving sets a latch.
+-- What holds in the loops of `Kernel::serve_all`: all that asks is served, if interrupts are allowed: there are three
+-- sources, and no serving sets a latch.
 use Rattle.std.proofs.Common.{◌≡◌, ℕ, ◌+◌}
 use Rattle.execmodel.specs.Interrupts.{servings}
 use Rattle.execsim.specs.Agreement.{Follows, Seen}

@@ -1,4 +1,5 @@
--- The proof of `Kernel::server_at`: the server at a place of the chain of a source, from 0, or none if the chain is shorter.
+-- The proof of `Kernel::server_at`: the server at a place of the chain of a source, from 0, or none if the chain is
+-- shorter.
 use Rattle.std.proofs.Common.{ap, ◌∙◌, slice_get}
 use Rattle.execsim.proofs.ServerChains.{chain_same}
 use Rattle.execsim.proofs.kernel.Kernel.server_at.Goals as goal

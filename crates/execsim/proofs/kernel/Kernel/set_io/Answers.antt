@@ -1,4 +1,5 @@
--- The proof of `Kernel::set_io`: SetIO request cmd secs micros: gives a request a command and a time in seconds and microseconds.
+-- The proof of `Kernel::set_io`: SetIO request cmd secs micros: gives a request a command and a time in seconds and
+-- microseconds.
 use Rattle.execsim.proofs.Requesting.{set_outside, set_tried, set_unknown}
 use Rattle.execsim.proofs.kernel.Kernel.set_io.Goals as goal
 

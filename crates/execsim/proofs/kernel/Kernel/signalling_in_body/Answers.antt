@@ -1,4 +1,5 @@
--- The proof of `Kernel::signalling_in_body`: the signalling of a command of the body of that name, if it is of the word Signal and is not refused.
+-- The proof of `Kernel::signalling_in_body`: the signalling of a command of the body of that name, if it is of the word
+-- Signal and is not refused.
 use Rattle.script.specs.Commands.{command_view}
 use Rattle.execmodel.specs.Calls.{call_in_body}
 use Rattle.execsim.proofs.BodyCalls.{signalled_pair}

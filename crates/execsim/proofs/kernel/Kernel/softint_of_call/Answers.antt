@@ -1,4 +1,5 @@
--- The proof of `Kernel::softint_of_call`: the number of the software interrupt of the name that is the first argument of a call.
+-- The proof of `Kernel::softint_of_call`: the number of the software interrupt of the name that is the first argument
+-- of a call.
 use Rattle.std.proofs.Common.{[], ap, ◌∙◌, unwrap_or}
 use Rattle.execmodel.specs.Pending.{softint_number}
 use Rattle.execsim.proofs.kernel.Kernel.softint_of_call.Goals as goal

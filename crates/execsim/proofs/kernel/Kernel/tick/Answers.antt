@@ -1,4 +1,5 @@
--- The proof of `Kernel::tick`: one tick of the vertical blank: the clock gains it, and VERTB is requested; a stopped machine does nothing.
+-- The proof of `Kernel::tick`: one tick of the vertical blank: the clock gains it, and VERTB is requested; a stopped
+-- machine does nothing.
 use Rattle.std.proofs.Common.{ap, sym, ◌∙◌}
 use Rattle.execsim.specs.Agreement.{Seen}
 use Rattle.execsim.proofs.Stepping.{tick_stopped, tick_going}

@@ -1,4 +1,5 @@
--- The proof of `Kernel::value_in_body`: the value that a command of a body stores, if it is of a plain word that prints nothing.
+-- The proof of `Kernel::value_in_body`: the value that a command of a body stores, if it is of a plain word that prints
+-- nothing.
 use Rattle.script.specs.Commands.{command_view}
 use Rattle.execmodel.specs.Calls.{call_in_body}
 use Rattle.execsim.proofs.BodyCalls.{plain_in_body}

@@ -1,5 +1,6 @@
--- The proof of `Kernel::wait_io`: WaitIO request: answers the error of a request that is done, and takes its reply, if it has one; if it
--- is in progress, the task waits for the signal of its reply port, and looks again when it next runs, after that signal is cleared.
+-- The proof of `Kernel::wait_io`: WaitIO request: answers the error of a request that is done, and takes its reply, if
+-- it has one; if it is in progress, the task waits for the signal of its reply port, and looks again when it next runs,
+-- after that signal is cleared.
 use Rattle.execsim.proofs.Requesting.{wait_found, wait_refused}
 use Rattle.execsim.proofs.kernel.Kernel.wait_io.Goals as goal
 

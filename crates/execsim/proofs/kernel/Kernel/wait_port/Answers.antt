@@ -1,5 +1,5 @@
--- The proof of `Kernel::wait_port`: WaitPort port: answers the first message of the port, and leaves it there; if there is none, the task
--- waits for the port's signal, and looks again when it next runs, after that signal is cleared.
+-- The proof of `Kernel::wait_port`: WaitPort port: answers the first message of the port, and leaves it there; if there
+-- is none, the task waits for the port's signal, and looks again when it next runs, after that signal is cleared.
 use Rattle.execsim.specs.Views.{call_view}
 use Rattle.execsim.proofs.Porting.{wait_looked, wait_refused}
 use Rattle.execsim.proofs.kernel.Kernel.wait_port.Goals as goal

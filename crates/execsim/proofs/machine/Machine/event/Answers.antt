@@ -1,5 +1,5 @@
--- The proof of `Machine::event`: does one event: that many steps or ticks, each followed by a settle, or a request of an interrupt,
--- followed by one.
+-- The proof of `Machine::event`: does one event: that many steps or ticks, each followed by a settle, or a request of
+-- an interrupt, followed by one.
 use Rattle.std.proofs.Common.{◌+◌, sym, subst}
 use Rattle.script.specs.Events.{event_ticks}
 use Rattle.execsim.specs.{Headline.Shown, Reached.after_event, Time.HasTimeFor}
