@@ -10,7 +10,8 @@ use Rattle.escape.specs.declared.TheConstants.{HIDDEN}
 abbrev pub is_hidden : ℕ → Bool
 is_hidden c = is_control c || list_any (λ (row : ℕ × ℕ). nat_le row.0 c && nat_le c row.1) HIDDEN
 
--- a tab, a line feed and a carriage return by their letters, and any other character by its number in hexadecimal digits
+-- a tab, a line feed and a carriage return by their letters, and any other character by its number in hexadecimal
+-- digits
 abbrev pub escape_of : ℕ → List ℕ
 escape_of c =
     if c == 9 then codes "\\t" else

@@ -1,4 +1,5 @@
--- A name is found among the nodes of all libraries exactly if the first library of that name is; and how these nodes are made.
+-- A name is found among the nodes of all libraries exactly if the first library of that name is; and how these nodes
+-- are made.
 use Rattle.std.proofs.Common.{◌≡◌, ℕ, suc, ◌+◌, ◌<◌, ◌≤◌, Bool, cond, List, [], ◌∷◌, ◌++◌, length, map, slice_index_or, slice_set, take, refl, sym, ap, ◌∙◌, arith, Option, Some, None, bytes_eq, find, get_or-set_other}
 use Rattle.std.specs.List.{position_from, range_with_len}
 use Rattle.std.proofs.lemmas.List.{get_or-map, take_more, take_more_set}

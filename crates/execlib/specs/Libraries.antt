@@ -151,8 +151,8 @@ abbrev pub asked_each : (size reqs : ℕ) → List ℕ → Lent → Lent
 asked_each size reqs [] l = l
 asked_each size reqs (i ∷ others) l = asked_each size reqs others (asked_one size reqs i l)
 
--- Before a block of that many bytes is taken, if it fits nowhere, all libraries are asked in the order of the file. A block of no bytes
--- is never taken, and nothing is asked for it (project rule).
+-- Before a block of that many bytes is taken, if it fits nowhere, all libraries are asked in the order of the file. A
+-- block of no bytes is never taken, and nothing is asked for it (project rule).
 unfoldable pub after_asking : (size reqs : ℕ) → Lent → Lent
 after_asking size reqs l =
     if l.libraries.asks && not (nat_eq size 0) then asked_each size reqs (numbers (length l.libraries.known)) l else l

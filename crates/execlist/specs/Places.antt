@@ -46,8 +46,8 @@ places_met step (suc most) (Some place) = place ∷ places_met step most (step p
 abbrev pub AreInOneSequence : List (List ℕ) → List (Option ℕ) → Type 0
 AreInOneSequence seqs homes = (h n : ℕ) → times n (sequence seqs h) ≡ (if is_at (home homes n) h then 1 else 0)
 
--- From the head of a header `next_place` meets its nodes in their order, then its tail, and ends there; from the tail `prev_place` meets them
--- from the last to the first, then the head, and ends there.
+-- From the head of a header `next_place` meets its nodes in their order, then its tail, and ends there; from the tail
+-- `prev_place` meets them from the last to the first, then the head, and ends there.
 pub record MeetsSequence (seqs : List (List ℕ)) (homes : List (Option ℕ)) (h most : ℕ) : Type 0 where
   pub onwards : places_met (next_place seqs homes) most (Some (Head h)) ≡ Head h ∷ map (λ n. Node n) (sequence seqs h) ++ Tail h ∷ []
   pub back : places_met (prev_place seqs homes) most (Some (Tail h)) ≡ Tail h ∷ map (λ n. Node n) (reverse (sequence seqs h)) ++ Head h ∷ []

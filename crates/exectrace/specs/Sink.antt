@@ -52,8 +52,8 @@ pub record Puts (old new : Tape) (bytes : List ℕ) : Type 0 where
   pub while_good : old.state ≡ Good → TakesAll old new bytes ⊎ Breaks old new bytes
   pub afterwards : old.state ≢ Good → new ≡ old
 
--- A text was added to a line that is built before it is handed over: what of the line was not yet handed over, and the text after it, is
--- what was handed over meanwhile and what is left.
+-- A text was added to a line that is built before it is handed over: what of the line was not yet handed over, and the
+-- text after it, is what was handed over meanwhile and what is left.
 pub record Adds (old new : Tape) (before after text : List ℕ) : Type 0 where
   pub handed : List ℕ
   pub puts : Puts old new handed

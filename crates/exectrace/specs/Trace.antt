@@ -1,4 +1,5 @@
--- The lines of a trace, and their bytes. A name, a word, a code and a source are lists of bytes; a value is a 32-bit word.
+-- The lines of a trace, and their bytes. A name, a word, a code and a source are lists of bytes; a value is a 32-bit
+-- word.
 use Rattle.std.specs.Prelude.{ℕ, ◌/◌, ◌%◌, ◌^◌, List, [], ◌∷◌, ◌++◌, map, codes, slice_index_or, Bool, true, false, count_by, flat_map}
 
 -- an argument of a call

@@ -5,8 +5,8 @@
 //! [`PageSink`] makes one of a [`PagedWrite`], a std writer with such cells. What a machine says is a [`Said`], and a
 //! [`Witness`] hears it; each sink is one, which prints. A [`Line`] is one line of a trace, and [`emit`] writes it. Who
 //! prints many lines in a row uses [`printing`], whose calls do not fail, and asks [`sinks::written`] at the end. The
-//! text of each line, and that a sink is given up after 16 writes in a row that took no byte, are this project's project
-//! rule.
+//! text of each line, and that a sink is given up after 16 writes in a row that took no byte, are this project's
+//! project rule.
 #![tactic(auto)]
 
 mod cells;

@@ -7,10 +7,10 @@ use crate::cells::Text;
 use crate::sinks::{Sink, SinkFault, SinkState};
 use std::io::Write;
 
-/// A std writer with cells of its own, in which what it was handed last stands, and into which a text may be written.
+/// A std writer with cells of its own, that hold what it was handed last, and into which a text may be written.
 pub trait PagedWrite: Write {
-    /// Takes a text into its cells, if 160 of them are left, and the text is found to fit. The answer is whether it did; if not, what it holds
-    /// is what it held.
+    /// Takes a text into its cells, if 160 of them are left, and the text is found to fit. The answer is whether it
+    /// did; if not, what it holds is what it held.
     fn take_text<T: Text>(&mut self, text: &T) -> bool
         ensures taken { result ≡ true → Appends (Self.contents self.old) (Self.contents self.new) (T.bytes text.now) }
         ensures left { result ≡ false → Self.contents self.new ≡ Self.contents self.old };

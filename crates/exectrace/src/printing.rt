@@ -67,8 +67,8 @@ fn hand_over<W: Sink>(line: &Draft, out: &mut W)
     put(line.as_slice(), out);
 }
 
-/// Puts a text that is not taken at once: into cells of the stack, and from there in one piece, if it is found to fit them. The answer is
-/// whether it is.
+/// Puts a text that is not taken at once: into cells of the stack, and from there in one piece, if it is found to fit
+/// them. The answer is whether it is.
 #[inline(never)]
 fn put_copied<T: Text, W: Sink>(text: &T, out: &mut W) -> bool
     ensures put { result ≡ true → Puts (W.tape out.old) (W.tape out.new) (T.bytes text.now) }
@@ -84,7 +84,8 @@ fn put_copied<T: Text, W: Sink>(text: &T, out: &mut W) -> bool
     }
 }
 
-/// Puts a text into cells that the sink lends, or else from cells of the stack, if it is found to fit them. The answer is whether it is.
+/// Puts a text into cells that the sink lends, or else from cells of the stack, if it is found to fit them. The answer
+/// is whether it is.
 #[inline(always)]
 fn put_whole<T: Text, W: Sink>(text: &T, out: &mut W) -> bool
     ensures put { result ≡ true → Puts (W.tape out.old) (W.tape out.new) (T.bytes text.now) }

@@ -56,8 +56,8 @@ pub trait Sink {
     fn state(&self) -> SinkState
         ensures { result ≡ (tape self.now).state };
 
-    /// Takes a text into cells of its own: if it is good, has 160 of them left, and the text is found to fit. The answer is whether it did;
-    /// if not, nothing was taken. A sink that has no such cells does not write this call.
+    /// Takes a text into cells of its own: if it is good, has 160 of them left, and the text is found to fit. The
+    /// answer is whether it did; if not, nothing was taken. A sink that has no such cells does not write this call.
     #[inline(always)]
     fn take_text<T: Text>(&mut self, _text: &T) -> bool
         ensures taken { result ≡ true → Puts (tape self.old) (tape self.new) (T.bytes _text.now) }

@@ -8,7 +8,8 @@ use crate::draft::{write_at, write_short};
 use crate::lines::{CallOutcome, Name, ShortArg};
 use crate::values::{answer_end, spaced_digits};
 
-/// Writes a part whose length is fixed, and which has room, over the cells from a place on. The answer is where it ends.
+/// Writes a part whose length is fixed, and which has room, over the cells from a place on. The answer is where it
+/// ends.
 #[inline(always)]
 fn place_part(cells: &mut [u8; ROOM], at: usize, part: &[u8]) -> usize
     requires { at + length part.now ≤ 160 }
@@ -53,7 +54,8 @@ impl Text for Between<'_> {
     }
 }
 
-/// Writes a name, a space and a word over the first cells, if the word is short. The answer is where they end; there is room for an end too.
+/// Writes a name, a space and a word over the first cells, if the word is short. The answer is where they end; there is
+/// room for an end too.
 #[inline(always)]
 fn place_head(cells: &mut [u8; ROOM], name: &Name, word: &str) -> Option<usize>
     ensures { IfSome result (λ end. (end ≤ 146) × (take end cells.new ≡ name.now.bytes ++ codes " " ++ word.now)) }
@@ -66,8 +68,8 @@ fn place_head(cells: &mut [u8; ROOM], name: &Name, word: &str) -> Option<usize>
     Some(place_text(cells, at, word.as_bytes()))
 }
 
-/// Writes a space and the name between double quotes over the cells from a place on, if there is room for it and for an end. The answer is
-/// where it ends.
+/// Writes a space and the name between double quotes over the cells from a place on, if there is room for it and for an
+/// end. The answer is where it ends.
 #[inline(always)]
 fn place_quoted(cells: &mut [u8; ROOM], at: usize, name: &Name) -> Option<usize>
     ensures { IfSome result (λ end. (end ≤ 146) × (take end cells.new ≡ take at cells.old ++ argument_text (Quoted name.now.bytes))) }
@@ -80,7 +82,8 @@ fn place_quoted(cells: &mut [u8; ROOM], at: usize, name: &Name) -> Option<usize>
     Some(place_part(cells, at, b"\""))
 }
 
-/// Writes a space and the value over the cells from a place on, if there is room for it and for an end. The answer is where it ends.
+/// Writes a space and the value over the cells from a place on, if there is room for it and for an end. The answer is
+/// where it ends.
 #[inline(always)]
 fn place_value(cells: &mut [u8; ROOM], at: usize, n: u32) -> Option<usize>
     ensures { IfSome result (λ end. (end ≤ 146) × (take end cells.new ≡ take at cells.old ++ argument_text (Value n))) }
@@ -91,8 +94,8 @@ fn place_value(cells: &mut [u8; ROOM], at: usize, n: u32) -> Option<usize>
     Some(place_part(cells, at, &spaced_digits(n)))
 }
 
-/// Writes a space and the argument, which is that name if it is quoted, over the cells from a place on, if there is room for it and for an
-/// end. The answer is where it ends.
+/// Writes a space and the argument, which is that name if it is quoted, over the cells from a place on, if there is
+/// room for it and for an end. The answer is where it ends.
 #[inline(always)]
 fn place_short(
     cells: &mut [u8; ROOM],
@@ -109,7 +112,8 @@ fn place_short(
     }
 }
 
-/// Writes the arguments over the cells from a place on, if there is room for them and for an end. The answer is where they end.
+/// Writes the arguments over the cells from a place on, if there is room for them and for an end. The answer is where
+/// they end.
 #[inline(always)]
 fn place_arguments(
     cells: &mut [u8; ROOM],
@@ -131,7 +135,8 @@ fn place_arguments(
     Some(at)
 }
 
-/// Writes how a call ended, and the line feed, which have room, over the cells from a place on. The answer is where they end.
+/// Writes how a call ended, and the line feed, which have room, over the cells from a place on. The answer is where
+/// they end.
 #[inline(always)]
 fn place_end(cells: &mut [u8; ROOM], at: usize, outcome: CallOutcome) -> usize
     requires { at ≤ 146 }

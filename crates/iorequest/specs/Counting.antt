@@ -2,7 +2,8 @@
 use Rattle.std.specs.Prelude.{◌≡◌, ℕ, ◌/◌, ◌%◌, ◌<◌, nat_eq, ◌&&◌, if◌then◌else◌, List, length, slice_index_or, sum_by, Option, Some, None}
 use Rattle.iorequest.specs.{declared.request.Request.Request, Request.is_under_way}
 
--- the key of a reply port, below `keys`: no two blocks begin within 8 bytes, so ports that are near each other have different keys
+-- the key of a reply port, below `keys`: no two blocks begin within 8 bytes, so ports that are near each other have
+-- different keys
 abbrev pub key_of : (keys port : ℕ) → ℕ
 key_of keys port = port / 8 % keys
 

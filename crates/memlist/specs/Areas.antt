@@ -46,8 +46,9 @@ pub record IsHeader (region : Region) (slots : List Slot) (space : Space) : Type
   pub end : space.end ≡ region_end region
   pub free : space.gaps ≡ gaps_between region.base (entries region.base slots) (region_end region)
 
--- The words of a region are the chain of its gaps: each gap's first two words hold where the next one begins and its size, the
--- list that is read from the first one on is that of all gaps, and these are in order of address and do not touch.
+-- The words of a region are the chain of its gaps: each gap's first two words hold where the next one begins and its
+-- size, the list that is read from the first one on is that of all gaps, and these are in order of address and do not
+-- touch.
 pub record IsFreeChain (region : Region) (words : List ℕ) (free : List Gap) : Type 0 where
   pub size : 4 * length words ≡ region.size
   pub apart : AreApart region.base free (region_end region)

@@ -36,6 +36,7 @@ abbrev pub gaps_between : ℕ → Blocks → ℕ → List Gap
 gaps_between from [] to = stretch from to
 gaps_between from (block ∷ rest) to = stretch from block.0 ++ gaps_between (block.0 + block.1.0) rest to
 
--- a region's gaps, the lowest first: the maximal stretches of the region outside all blocks (RKM Libraries, Exec Memory Allocation)
+-- a region's gaps, the lowest first: the maximal stretches of the region outside all blocks (RKM Libraries, Exec Memory
+-- Allocation)
 unfoldable pub gaps : Region → Blocks → List Gap
 gaps region blocks = gaps_between region.base (blocks_in region blocks) (region_end region)

@@ -1,5 +1,5 @@
--- Free memory as a chain of chunks inside its own words: the first two words of a chunk are the address of the next chunk,
--- or 0 at the end, and its size in bytes.
+-- Free memory as a chain of chunks inside its own words: the first two words of a chunk are the address of the next
+-- chunk, or 0 at the end, and its size in bytes.
 use Rattle.std.specs.Prelude.{◌≡◌, ℕ, zero, suc, ◌+◌, ◌-◌, ◌*◌, ◌/◌, ◌%◌, ◌<◌, ◌≤◌, Bool, false, nat_eq, if◌then◌else◌, List, [], ◌∷◌, ◌++◌, length, get_or, set, Option, None, Some, sum_by}
 use Rattle.std.specs.List.{AllByRecursion}
 use Rattle.memlist.specs.{declared.gap.Gap.Gap, Fit.lowest_gap}
@@ -18,7 +18,8 @@ abbrev pub last_or : ℕ → List Gap → ℕ
 last_or none [] = none
 last_or none (gap ∷ rest) = last_or gap.address rest
 
--- each gap's first two words hold where the next gap begins and the gap's size; the last one is followed by what is given
+-- each gap's first two words hold where the next gap begins and the gap's size; the last one is followed by what is
+-- given
 abbrev pub IsLinked : ℕ → List ℕ → List Gap → ℕ → Type 0
 IsLinked base words [] next = Unit {0}
 IsLinked base words (gap ∷ rest) next =
@@ -57,7 +58,8 @@ ends_at address [] = false
 ends_at address (gap ∷ []) = nat_eq (gap.address + gap.size) address
 ends_at address (gap ∷ other ∷ rest) = ends_at address (other ∷ rest)
 
--- where the next chunk begins and what size there is, once a block of n bytes is joined with the first of some gaps if that touches it
+-- where the next chunk begins and what size there is, once a block of n bytes is joined with the first of some gaps if
+-- that touches it
 abbrev pub upper_next : ℕ → List Gap → ℕ
 upper_next end [] = 0
 upper_next end (gap ∷ rest) = if nat_eq gap.address end then first_or 0 rest else gap.address

@@ -7,8 +7,8 @@ use Rattle.memlist.specs.{declared.descent.Look.Look, declared.slot.Slot.Slot, B
 abbrev pub last_left : ℕ → List Slot → ℕ → ℕ
 last_left base slots top = last_or 0 (gaps_between base (entries base slots) top)
 
--- What the unit above some others says of the last gap below an address: where it begins, or that it is the last one which those
--- others leave below a lower address.
+-- What the unit above some others says of the last gap below an address: where it begins, or that it is the last one
+-- which those others leave below a lower address.
 abbrev pub IsLook : ℕ → List Slot → Slot → ℕ → Look → Type 0
 IsLook base slots slot top (Chunk address) = address ≡ last_left base (slots ++ slot ∷ []) top
 IsLook base slots slot top (Below lower) = (last_left base slots lower ≡ last_left base (slots ++ slot ∷ []) top) × (base + 8 * length slots ≤ lower)

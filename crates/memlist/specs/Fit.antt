@@ -3,7 +3,8 @@ use Rattle.std.specs.Prelude.{ℕ, ℤ, ◌+◌, ◌*◌, ◌/◌, ◌^◌, max,
 use Rattle.execlist.specs.Order.{chosen}
 use Rattle.memlist.specs.{declared.gap.Gap.Gap, declared.region.Region.Region, Regions.total_size, Blocks.Blocks, Blocks.gaps}
 
--- the least multiple of 8 that is at least n; it has no upper bound and so never wraps (RKM Libraries, Exec Memory Allocation)
+-- the least multiple of 8 that is at least n; it has no upper bound and so never wraps (RKM Libraries, Exec Memory
+-- Allocation)
 abbrev pub round : ℕ → ℕ
 round n = (n + 7) / 8 * 8
 

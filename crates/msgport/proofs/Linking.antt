@@ -1,5 +1,5 @@
--- What is linked where: a port that is not public is in no list, a message that is not held in none of those, a free port has no message, and what
--- is freed leaves nothing after.
+-- What is linked where: a port that is not public is in no list, a message that is not held in none of those, a free
+-- port has no message, and what is freed leaves nothing after.
 use Rattle.std.proofs.Common.{◌≡◌, ◌≢◌, ℕ, zero, suc, ◌<◌, ◌≤◌, true, false, cond, not, eqb, List, [], ◌∷◌, ◌++◌, length, refl, sym, ◌∙◌, ap, subst, arith, inl, inr, Option, Some, None, is_some, slice_set, IsTrue, drop, replicate, length-append, ◌⊎◌, ◌||◌, Bool, nat_lt, unwrap_or, IsSome, eq-eqb, ne_eqb, lt-ltb, length-set, length-drop}
 use Rattle.std.proofs.lemmas.{Bool.cond-true, Bool.cond-false, Bool.cases_eq, Bool.cases_lt, List.length-replicate}
 use Rattle.execlist.specs.{Order.first, Order.without_item, Lists.sequence, Lists.home, Lists.is_at, Lists.times, Pool.slot, Pool.Pooled, Pool.free_below}

@@ -20,8 +20,8 @@ acting_by Signal port = action.Signal port.task (2 ^ port.bit)
 acting_by (Cause i) port = action.Cause i
 acting_by Ignore port = action.Nothing
 
--- what a port does when a message arrives: it signals its task, causes its software interrupt, or does nothing (RKM Libraries, Exec
--- Messages and Ports: mp_Flags)
+-- what a port does when a message arrives: it signals its task, causes its software interrupt, or does nothing (RKM
+-- Libraries, Exec Messages and Ports: mp_Flags)
 abbrev pub arrival_action : Port → Action
 arrival_action port = acting_by port.action port
 

@@ -1,5 +1,5 @@
--- What calls on ports see: the ports and the messages by number, the messages of each port, those that are held, and the public ports
--- (RKM Libraries, Exec Messages and Ports).
+-- What calls on ports see: the ports and the messages by number, the messages of each port, those that are held, and
+-- the public ports (RKM Libraries, Exec Messages and Ports).
 use Rattle.std.specs.Prelude.{◌≡◌, ℕ, nat_lt, ℤ, Bool, not, ◌||◌, is_some, IsTrue, if◌then◌else◌, List, [], ◌∷◌, ◌++◌, length, drop, replicate, slice_set, Option, Some, None, unwrap_or}
 use Rattle.execlist.specs.{Order.enqueue, Order.first, Order.without_item, Lists.KeyData, Lists.blank, Lists.sequence, Lists.home, Lists.is_at, Lists.pri_of, Lists.times, Pool.Pooled, Pool.all_free, Pool.free_below, Pool.given, Pool.released, Pool.slot, Pool.written}
 use Rattle.msgport.specs.declared.fault.PortFault.TheVariants.{NotEmpty, Link, Unknown}
@@ -204,8 +204,8 @@ made_private p s = record s { public = without_item p s.public }
 
 -- ---- what always holds
 
--- What the code keeps: one list of public ports and one of held messages, and what is linked lives. The listings say which port is in the
--- first, the holdings which message is in the second.
+-- What the code keeps: one list of public ports and one of held messages, and what is linked lives. The listings say
+-- which port is in the first, the holdings which message is in the second.
 pub record KeepsPorts (lists : ℕ) (listings : List (Option ℕ)) (stores : ℕ) (holdings : List (Option ℕ)) (s : MessagePorts) : Type 0 where
   pub one_list : lists ≡ 1
   pub one_store : stores ≡ 1
@@ -219,8 +219,8 @@ pub record KeepsPorts (lists : ℕ) (listings : List (Option ℕ)) (stores : ℕ
   pub live_port : (m p : ℕ) → home s.places m ≡ Some p → IsTrue (is_port p s)
   pub live_listed : (p h : ℕ) → home listings p ≡ Some h → IsTrue (is_port p s)
 
--- A message that is queued is once in the port that has it and in no other, one that is held is once among those, and in no port, and
--- a public port is once among the public ones. What is linked lives.
+-- A message that is queued is once in the port that has it and in no other, one that is held is once among those, and
+-- in no port, and a public port is once among the public ones. What is linked lives.
 pub record IsSoundPorts (s : MessagePorts) : Type 0 where
   pub stands : (p m : ℕ) → times m (messages_of p s) ≡ (if is_at (home s.places m) p then 1 else 0)
   pub stands_held : (m : ℕ) → times m s.holding ≡ (if is_held m s then 1 else 0)

@@ -29,8 +29,8 @@ abbrev pub displaced : Discipline → Option ℕ → Schedule → Schedule
 displaced d None s = s
 displaced d (Some r) s = arrives d r s
 
--- the schedule after a switch: the chosen task begins, and the one that ran arrives anew; or the machine is idle; without a switch a
--- quantum that has ended may begin anew
+-- the schedule after a switch: the chosen task begins, and the one that ran arrives anew; or the machine is idle;
+-- without a switch a quantum that has ended may begin anew
 abbrev pub after_switch : Discipline → Option Switch → Schedule → Schedule
 after_switch d None s = renewed s.running s
 after_switch d (Some Idle) s = record s { idle = true }

@@ -1,5 +1,5 @@
--- What is known of the tasks as they are scheduled: lists by task number, the ready sequence, and the running task. The functions
--- here leave open how the ready sequence is kept: none of them puts a task into it.
+-- What is known of the tasks as they are scheduled: lists by task number, the ready sequence, and the running task. The
+-- functions here leave open how the ready sequence is kept: none of them puts a task into it.
 use Rattle.std.specs.Prelude.{ℕ, ◌-◌, ◌<◌, ℤ, Bool, true, false, not, ◌&&◌, ◌||◌, if◌then◌else◌, nat_eq, int_lt, int_le, bit_and, List, [], length, find, replicate, Option, None, Some, Result, Ok, Err, slice_index_or, slice_set}
 use Rattle.std.specs.List.{range_with_len}
 use Rattle.execlist.specs.{Order.without_item, Disciplines.pri_at}
@@ -93,8 +93,8 @@ is_switching_allowed (Some r) s = may_switch (nesting_of s r)
 abbrev pub is_quantum_over : Schedule → Bool
 is_quantum_over s = nat_eq s.left 0
 
--- Ready task t takes the place of running task r: it has a higher priority, or an equal one and the quantum of r has ended. (RKM Libraries,
--- Exec Tasks: scheduling)
+-- Ready task t takes the place of running task r: it has a higher priority, or an equal one and the quantum of r has
+-- ended. (RKM Libraries, Exec Tasks: scheduling)
 abbrev pub takes_over : ℕ → ℕ → Schedule → Bool
 takes_over t r s = int_lt (priority_of s r) (priority_of s t) || (int_le (priority_of s r) (priority_of s t) && is_quantum_over s)
 
@@ -197,7 +197,8 @@ come_for mask sets = if nat_eq (taken_signals mask sets) 0 then None else Some (
 abbrev pub after_wait : ℕ → ℕ → Schedule → Schedule
 after_wait t mask s = if nat_eq (taken_signals mask (signals_of s t)) 0 then waits_for t mask s else takes_signals t mask s
 
--- the running task clears the signals of the mask that it has received, and waits for new ones (autodoc WaitPort; project rule)
+-- the running task clears the signals of the mask that it has received, and waits for new ones (autodoc WaitPort;
+-- project rule)
 abbrev pub clears_and_waits : ℕ → ℕ → Schedule → Schedule
 clears_and_waits t mask s = waits_for t mask (takes_signals t mask s)
 

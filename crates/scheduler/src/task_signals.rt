@@ -127,7 +127,7 @@ impl<S: ListSpace> Sched<S> {
     /// Answers -1 and changes nothing if `n` is allocated, if `n` is neither -1 nor from 16 to 31, and
     /// for -1 if all of 16 to 31 are allocated. A signal that was allocated just now is not received.
     ///
-    /// Source: autodoc exec.library/AllocSignal. Own choices: the highest one, and the answer to other numbers.
+    /// Source: autodoc exec.library/AllocSignal. Project rule: the highest one, and the answer to other numbers.
     #[tactic(auto, unfolding(crate::specs::Schedule::allocates_signal))]
     pub fn alloc_signal(&mut self, n: i32) -> i32
         requires { IsSome self.old.running }

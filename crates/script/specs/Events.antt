@@ -27,7 +27,8 @@ turns (Run n) = n
 turns (Tick n) = n
 turns (Irq source) = 1
 
--- what holds of the events of every text that is accepted: each asks for at least one turn, and they are within the limits
+-- what holds of the events of every text that is accepted: each asks for at least one turn, and they are within the
+-- limits
 pub record AreWithin (events : List Event) : Type 0 where
   pub some : All (λ event. 1 ≤ turns event) events
   pub steps : sum_by event_steps events ≤ 1000000

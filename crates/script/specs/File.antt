@@ -4,7 +4,8 @@ use Rattle.memlist.specs.declared.region.Region.{Region}
 use Rattle.softint.specs.declared.source.Source.{Source}
 use Rattle.script.specs.Commands.{CommandData}
 
--- a task: its name (1 to 31 characters), its priority (-128 to 127), whether it is added at the start, and its commands in the order of its lines
+-- a task: its name (1 to 31 characters), its priority (-128 to 127), whether it is added at the start, and its commands
+-- in the order of its lines
 pub record TaskData : Type 0 where
   pub name : List ℕ
   pub pri : ℤ
@@ -23,8 +24,8 @@ pub record SoftintData : Type 0 where
   pub pri : ℤ
   pub code : List CommandData
 
--- a server: its name, the source that it serves, its priority (-128 to 127), whether it ends the chain of its source, and its commands in the
--- order of its lines
+-- a server: its name, the source that it serves, its priority (-128 to 127), whether it ends the chain of its source,
+-- and its commands in the order of its lines
 pub record ServerData : Type 0 where
   pub name : List ℕ
   pub source : Source
@@ -32,8 +33,10 @@ pub record ServerData : Type 0 where
   pub claim : Bool
   pub code : List CommandData
 
--- a machine: the version of its rules (1 or 2), the quantum in servings of VERTB (1 to 255), the microseconds of a tick (1 to 1,000,000), the number of objects of each kind that may live (1 to 1,024), and its regions of
--- memory, its libraries, its software interrupts, its servers and its tasks, each in the order of the file; the first task is task 1
+-- a machine: the version of its rules (1 or 2), the quantum in servings of VERTB (1 to 255), the microseconds of a tick
+-- (1 to 1,000,000), the number of objects of each kind that may live (1 to 1,024), and its regions of memory, its
+-- libraries, its software interrupts, its servers and its tasks, each in the order of the file; the first task is task
+-- 1
 pub record MachineData : Type 0 where
   pub version : ℕ
   pub quantum : ℕ

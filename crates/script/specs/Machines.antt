@@ -74,8 +74,9 @@ softints_named _ _ = []
 abbrev pub NamesSoftints : List (List ℕ) → CommandData → Type 0
 NamesSoftints softints c = All (λ name. list_any (bytes_eq name) softints ≡ true) (softints_named (kinds c.word) c.arguments)
 
--- the commands of a body, in a file with software interrupts of those names: at most 1,024, each with its word's arguments, of which at
--- most one is a name, with variables within the limits, and with a software interrupt of the file if its word asks for one
+-- the commands of a body, in a file with software interrupts of those names: at most 1,024, each with its word's
+-- arguments, of which at most one is a name, with variables within the limits, and with a software interrupt of the
+-- file if its word asks for one
 pub record IsCode (softints : List (List ℕ)) (code : List CommandData) : Type 0 where
   pub few : length code ≤ 1024
   pub commands : All CommandFits code
@@ -128,8 +129,9 @@ task_names tasks = map (λ (t : TaskData). t.name) tasks
 abbrev pub body_names : MachineData → List (List ℕ)
 body_names machine = softint_names machine.softints ++ (server_names machine.servers ++ task_names machine.tasks)
 
--- a machine of a file: a version of 1 or 2, a quantum of 1 to 255, ticks of 1 to 1,000,000 microseconds, a pool of 1 to 1,024, regions that memory may have, at most 32 libraries, whose names differ,
--- and at most 32 software interrupts, 32 servers and 64 tasks, whose names differ together
+-- a machine of a file: a version of 1 or 2, a quantum of 1 to 255, ticks of 1 to 1,000,000 microseconds, a pool of 1 to
+-- 1,024, regions that memory may have, at most 32 libraries, whose names differ, and at most 32 software interrupts, 32
+-- servers and 64 tasks, whose names differ together
 pub record IsMachine (machine : MachineData) : Type 0 where
   pub some_version : 1 ≤ machine.version
   pub known_version : machine.version ≤ 2

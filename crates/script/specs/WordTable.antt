@@ -13,7 +13,8 @@ may_be_name Name = true
 may_be_name NameOrNone = true
 may_be_name Softint = true
 
--- a word has at most four arguments and at most one place for a name; it is the word of its text, which begins with no small letter
+-- a word has at most four arguments and at most one place for a name; it is the word of its text, which begins with no
+-- small letter
 abbrev InTable : Word → Type 0
 InTable w =
     (length (kinds w) ≤ 4)

@@ -1,4 +1,5 @@
--- Who waits where: at a semaphore without waiters nobody waits, so that it may become free, and at a free one nobody waits.
+-- Who waits where: at a semaphore without waiters nobody waits, so that it may become free, and at a free one nobody
+-- waits.
 use Rattle.std.proofs.Common.{◌≡◌, ◌≢◌, ℕ, ◌<◌, true, false, cond, List, [], ◌∷◌, length, refl, sym, ◌∙◌, ap, subst, arith, inl, inr, Option, Some, None, is_some, slice_set, IsTrue, length-set, ◌⊎◌, unwrap_or, eq-eqb, ne_eqb}
 use Rattle.std.proofs.lemmas.Bool.{cond-true, cond-false, cases_eq}
 use Rattle.execlist.specs.{Order.first, Lists.is_at, Lists.times, Pool.slot, Pool.written}

@@ -49,7 +49,8 @@ outcome_for t sem = if is_free_for t sem then Owner else Waits
 abbrev pub is_too_deep : ℕ → Sem → Bool
 is_too_deep t sem = is_owner t sem && nat_lt most_obtained (sem.count + 1)
 
--- task t owns the semaphore, and has to release it once more than before (autodocs ObtainSemaphore and ReleaseSemaphore)
+-- task t owns the semaphore, and has to release it once more than before (autodocs ObtainSemaphore and
+-- ReleaseSemaphore)
 abbrev pub once_more : ℕ → Sem → Sem
 once_more t sem = record { owner = Some t; count = sem.count + 1 }
 
@@ -149,7 +150,8 @@ handed_on s None m = with_sem s free_sem m
 handed_on s (Some t) m = with_sem s (owned_by t)
     (record m { queues = slice_set m.queues s (drop 1 (waiters_of s m)); places = slice_set m.places t None })
 
--- the owner of semaphore s has to release it once less; the last release hands it on (autodoc exec.library/ReleaseSemaphore)
+-- the owner of semaphore s has to release it once less; the last release hands it on (autodoc
+-- exec.library/ReleaseSemaphore)
 abbrev pub let_go : ℕ → Semaphores → Semaphores
 let_go s m =
     if is_last (sem_at s m) then handed_on s (first (waiters_of s m)) m else with_sem s (once_less (sem_at s m)) m
@@ -170,8 +172,8 @@ pub record KeepsSemaphores (m : Semaphores) : Type 0 where
   pub counted : (s : ℕ) → IsCounted (sem_at s m)
   pub owned : (t s : ℕ) → waits_at t m ≡ Some s → IsTrue (is_owned (sem_at s m))
 
--- A task that waits is once in the queue of the semaphore where it waits and in no other, and that semaphore lives and is owned: at a
--- free one nobody waits. A free semaphore has the count 0, an owned one a count from 1 to 32767.
+-- A task that waits is once in the queue of the semaphore where it waits and in no other, and that semaphore lives and
+-- is owned: at a free one nobody waits. A free semaphore has the count 0, an owned one a count from 1 to 32767.
 pub record IsSoundSemaphores (m : Semaphores) : Type 0 where
   pub stands : (s t : ℕ) → times t (waiters_of s m) ≡ (if is_at (waits_at t m) s then 1 else 0)
   pub live : (t s : ℕ) → waits_at t m ≡ Some s → IsTrue (is_sem s m)

@@ -1,5 +1,5 @@
--- What calls on interrupts see: the software interrupts by number, which of them are caused, the latches, and the servers
--- (RKM Libraries, Exec Interrupts).
+-- What calls on interrupts see: the software interrupts by number, which of them are caused, the latches, and the
+-- servers (RKM Libraries, Exec Interrupts).
 use Rattle.std.specs.Prelude.{◌≡◌, ℕ, ℤ, pos, negsuc, ◌-ℤ◌, ◌*◌, ◌⊎◌, ◌==◌, Bool, true, false, not, if◌then◌else◌, List, [], ◌∷◌, ◌++◌, length, map, filter, slice_index_or, Option, Some, None, All}
 use Rattle.std.specs.List.{range_with_len}
 use Rattle.execlist.specs.{Order.enqueue, Order.order, Order.without_item, Disciplines.pri_at, Lists.home, Lists.times}
@@ -26,8 +26,8 @@ IsPriority pri = (pri ≡ pos 32) ⊎ (pri ≡ pos 16) ⊎ (pri ≡ pos 0) ⊎ (
 abbrev pub is_caused : ℕ → Interrupts → Bool
 is_caused i m = not (times i m.caused == 0)
 
--- software interrupt i is among the caused ones, after those of its priority; one that is caused already stays where it is
--- (autodoc exec.library/Cause)
+-- software interrupt i is among the caused ones, after those of its priority; one that is caused already stays where it
+-- is (autodoc exec.library/Cause)
 abbrev pub causes : ℕ → Interrupts → Interrupts
 causes i m = if is_caused i m then m else record m { caused = enqueue (pri_at m.priorities) m.caused i }
 

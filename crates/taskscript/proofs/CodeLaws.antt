@@ -1,4 +1,5 @@
--- What holds of the code of a body without a fault: its variables are within their limits, and so are the shared names after it.
+-- What holds of the code of a body without a fault: its variables are within their limits, and so are the shared names
+-- after it.
 use Rattle.std.proofs.Common.{◌≡◌, ℕ, suc, ◌+◌, ◌≤◌, arith, Bool, true, false, ◌&&◌, nat_le, List, [], ◌∷◌, ◌++◌, length, map, All, Option, Some, None, IfSome, option_map, refl, ◌∙◌, flat_map}
 use Rattle.std.specs.List.{cons_option}
 use Rattle.std.proofs.lemmas.List.Elements.{All-nil, All-cons, All-head, All-tail, All-map, All-weaker}
@@ -44,7 +45,8 @@ no_fault false f h = absurd cc
 
 -- ---- the commands of a body without a fault
 
--- a command without a fault: the software interrupts that it names are there, it may be in its body, and its variables are within their limits
+-- a command without a fault: the software interrupts that it names are there, it may be in its body, and its variables
+-- are within their limits
 pub record Stands (s : Setting) (names : Names) (c : NamedCommandData) : Type 0 where
   pub named : names_softints s c ≡ true
   pub stands : may_have s c ≡ true

@@ -1,4 +1,5 @@
--- The commands of a body whose lines have no fault: their variables are within the limits, and at most one argument of each is a name.
+-- The commands of a body whose lines have no fault: their variables are within the limits, and at most one argument of
+-- each is a name.
 use Rattle.std.proofs.Common.{◌≡◌, ℕ, List, [], map, All, None, sym, ap, subst, ◌∙◌, slice_index_or}
 use Rattle.std.proofs.lemmas.List.Elements.{All-map, All-weaker}
 use Rattle.execlist.specs.Order.{first}

@@ -1,5 +1,5 @@
--- What holds of the code of a body without a fault by its setting: the software interrupts that it names are those of the file, and the body of
--- an interrupt has few words and no variables of its own.
+-- What holds of the code of a body without a fault by its setting: the software interrupts that it names are those of
+-- the file, and the body of an interrupt has few words and no variables of its own.
 use Rattle.std.proofs.Common.{◌≡◌, ℕ, Bool, true, bytes_eq, List, [], ◌∷◌, ◌++◌, map, All, Option, Some, None, IfSome, option_map, refl, ap, ◌∙◌}
 use Rattle.std.specs.List.{list_all, list_any, cons_option}
 use Rattle.std.proofs.lemmas.{Bool.and_parts, List.Elements.All-nil, List.Elements.All-cons}

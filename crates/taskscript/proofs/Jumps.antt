@@ -1,4 +1,5 @@
--- The jumps of a body stay in it: as many commands are before a label as lines before it say, and these are no more than all its commands.
+-- The jumps of a body stay in it: as many commands are before a label as lines before it say, and these are no more
+-- than all its commands.
 use Rattle.std.proofs.Common.{◌≡◌, ℕ, zero, suc, ◌≤◌, List, [], ◌∷◌, length, map, take, All, Option, Some, None, arith}
 use Rattle.std.specs.List.{position_or_len, cons_option}
 use Rattle.std.proofs.lemmas.{List.length-map, List.Elements.All-nil, List.Elements.All-cons}

@@ -1,5 +1,6 @@
--- What holds of the machine of a tree without faults: a version, a quantum, ticks and a pool within their ranges, few libraries with versions and sizes within
--- theirs, few software interrupts, servers and tasks, names that differ, short bodies, variables within the limits, and in the body of an interrupt what it may have.
+-- What holds of the machine of a tree without faults: a version, a quantum, ticks and a pool within their ranges, few
+-- libraries with versions and sizes within theirs, few software interrupts, servers and tasks, names that differ, short
+-- bodies, variables within the limits, and in the body of an interrupt what it may have.
 use Rattle.std.proofs.Common.{is_none, ◌+◌, ◌≡◌, ◌≢◌, ◌⊎◌, ℕ, ◌≤◌, Bool, true, false, not, if◌then◌else◌, nat_le, List, [], ◌∷◌, ◌++◌, length, map, All, bytes_eq, codes, ℤ, pos, negsuc, inl, inr, lit≤, ◌&&◌, ◌||◌, Option, Some, None, refl, sym, ap, subst, ◌∙◌, append_assoc, arith, AllPairs, int_eq, append-nil}
 use Rattle.std.specs.List.{list_any}
 use Rattle.std.proofs.lemmas.{Bool.or_parts, Bool.Decides.nat_tests, Bool.Decides.not_from_Decides, Bool.Decides.Decides-int_eq, List.Elements.All-nil, List.Elements.All-cons, List.Folds.list_any-append, List.Kept.AllPairs-cons, Slice.Eq.bytes_eq-Decides}

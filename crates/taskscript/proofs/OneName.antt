@@ -1,4 +1,5 @@
--- At most one argument of a command is a name, since a command has its word's arguments and no word has two places for a name.
+-- At most one argument of a command is a name, since a command has its word's arguments and no word has two places for
+-- a name.
 use Rattle.std.proofs.Common.{ℕ, ◌+◌, ◌≡◌, ◌≤◌, arith, lit≤, Bool, if◌then◌else◌, List, [], ◌∷◌, All, count_by, slice_index_or}
 use Rattle.std.proofs.lemmas.List.Sums.{sum_by-cons}
 use Rattle.script.specs.declared.word.row.Kind.TheVariants.{Value, Label, Name, NameOrNone, Softint}

@@ -1,4 +1,5 @@
--- One turn of the loops over what has a name and a code: the first pass, which keeps heads, and the second one, which reads bodies.
+-- One turn of the loops over what has a name and a code: the first pass, which keeps heads, and the second one, which
+-- reads bodies.
 use Rattle.std.proofs.Common.{◌≡◌, ℕ, ◌+◌, ◌<◌, ◌≤◌, List, [], ◌∷◌, ◌++◌, map, length, get_or, drop, take, None, refl, sym, ap, ◌∙◌, append_assoc, length-append, arith, suc, zero}
 use Rattle.std.proofs.lemmas.List.{map_push, length-map}
 use Rattle.arrayvec.specs.ArrayString.{ArrayString}

@@ -1,4 +1,5 @@
--- A line that is fed to a task of a machine that runs: a command of numbers and names, which is the same in whichever body it is.
+-- A line that is fed to a task of a machine that runs: a command of numbers and names, which is the same in whichever
+-- body it is.
 use Rattle.std.specs.Prelude.{◌≡◌, ℕ, Bool, true, false, ◌&&◌, not, is_some, if◌then◌else◌, List, Option, None, Some}
 use Rattle.std.specs.List.{list_all}
 use Rattle.script.specs.Commands.{CommandData}
@@ -20,7 +21,8 @@ abbrev pub fed_said : Option LineData → Option NamedCommandData
 fed_said (Some (command_line c)) = if may_be_fed c then Some c else None
 fed_said _ = None
 
--- The line says this command, which may be fed: in each body, whatever the numbers of variables and the places of labels are in it.
+-- The line says this command, which may be fed: in each body, whatever the numbers of variables and the places of
+-- labels are in it.
 pub record IsFed (line : List ℕ) (command : CommandData) : Type 0 where
   pub named : NamedCommandData
   pub said : fed_said (line_meaning line) ≡ Some named

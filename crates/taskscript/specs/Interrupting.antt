@@ -6,7 +6,8 @@ use Rattle.script.specs.{declared.word.row.Kind.Kind, declared.word.row.Kind.The
 use Rattle.taskscript.specs.{Lines.NamedVariableData, Lines.NamedArgumentData, Lines.variable, Lines.quoted, Lines.NamedCommandData, Numbering.variables_of}
 use Rattle.script.specs.Interrupting.{is_word_of_interrupt}
 
--- what a body is judged by, besides its lines: whether it is that of an interrupt, and the names of the software interrupts of the file
+-- what a body is judged by, besides its lines: whether it is that of an interrupt, and the names of the software
+-- interrupts of the file
 pub record Setting : Type 0 where
   pub of_interrupt : Bool
   pub softints : List (List ℕ)

@@ -4,12 +4,14 @@ use Rattle.std.specs.List.{range_with_len}
 use Rattle.toml.specs.Data.{Data, Members}
 use Rattle.taskscript.specs.{Code.command_said, Code.names_of, File.code_lines, File.shared_after_bodies, File.shared_after_servers, File.shared_after_softints, File.servers_in, File.softints_in, File.tasks_in, File.with_bodies, Lines.LineData, Meaning.line_meaning, Tree.document_of}
 
--- a body: the number (from 0) of the line of each command, and the name of each private variable, both in the order of their numbers
+-- a body: the number (from 0) of the line of each command, and the name of each private variable, both in the order of
+-- their numbers
 pub record BodyListingData : Type 0 where
   pub lines : List ℕ
   pub private : List (List ℕ)
 
--- a file: the bodies of its software interrupts, servers and tasks, and the name of each shared variable in the order of their numbers
+-- a file: the bodies of its software interrupts, servers and tasks, and the name of each shared variable in the order
+-- of their numbers
 pub record ListingData : Type 0 where
   pub softints : List BodyListingData
   pub servers : List BodyListingData

@@ -1,4 +1,5 @@
--- Of requests of two kinds the chosen one is the better of the chosen of each kind, and if these are equal the one that is first.
+-- Of requests of two kinds the chosen one is the better of the chosen of each kind, and if these are equal the one that
+-- is first.
 use Rattle.std.proofs.Common.{◌≡◌, ℕ, suc, Bool, true, false, cond, not, eqb, List, [], ◌∷◌, refl, sym, ap, ◌∙◌, arith, inl, inr, Option, Some, None, ◌⊎◌, ◌||◌, ◌&&◌, ℤ, int_lt, filter, eq-eqb, ne_eqb, true≢false}
 use Rattle.std.proofs.lemmas.{Bool.cond-true, Bool.cond-false, Bool.cases_eq, Bool.both_ways, Bool.false≢true, Int.ints}
 use Rattle.execlist.specs.{Order.chosen, Order.chosen_or, Order.is_lower, Lists.part_before, Lists.times}

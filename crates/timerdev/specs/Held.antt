@@ -1,4 +1,5 @@
--- What the code of the timer keeps: each kind of request that waits by its time, and all of them in the order in which they were begun.
+-- What the code of the timer keeps: each kind of request that waits by its time, and all of them in the order in which
+-- they were begun.
 use Rattle.std.specs.Prelude.{◌≡◌, ℕ, ℤ, pos, neg_ℤ, ◌<◌, ◌≤◌, ◌==◌, Bool, not, List, [], ◌∷◌, length, map, Option, Some, None, is_some, slice_index_or, filter, ⊤, if◌then◌else◌}
 use Rattle.execlist.specs.{Lists.home, Lists.is_at, Lists.part_before, Lists.sequence, Lists.times, Order.order}
 use Rattle.timerdev.specs.Timing.{AtClock, AtSystem, Due, Timer, Waiting, waits_no_more}
@@ -56,8 +57,8 @@ begun_in homes header begun = filter (λ r. is_at (home homes r) header) begun
 abbrev pub is_before : (a b : ℕ) → List ℕ → Bool
 is_before a b begun = not (times a (part_before b begun) == 0)
 
--- Two headers hold the requests that wait, those of the clock and those of system time, each by its times; a third one, in a space of its
--- own, holds all of them in the order in which they were begun. Each request has a time.
+-- Two headers hold the requests that wait, those of the clock and those of system time, each by its times; a third one,
+-- in a space of its own, holds all of them in the order in which they were begun. Each request has a time.
 pub record KeepsTimer (queues : List (List ℕ)) (homes : List (Option ℕ)) (all : List (List ℕ)) (begun : List (Option ℕ)) (dues : List ℕ)
     : Type 0 where
   pub two_headers : length queues ≡ 2

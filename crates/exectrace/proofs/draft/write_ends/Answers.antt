@@ -1,4 +1,5 @@
--- The proof of `write_ends`: writes a text over the cells from a place on, by its first bytes and by its last ones, of that width.
+-- The proof of `write_ends`: writes a text over the cells from a place on, by its first bytes and by its last ones, of
+-- that width.
 use Rattle.std.proofs.Common.{◌≤◌, length, refl, rules}
 use Rattle.exectrace.proofs.Drafts.{both_ends}
 use Rattle.exectrace.proofs.draft.write_ends.Goals as goal

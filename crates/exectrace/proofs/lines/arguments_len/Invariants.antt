@@ -1,4 +1,5 @@
--- What holds in the loops of `arguments_len`: how many bytes these arguments take in a line: 10 each, and up to 24 more if one is quoted.
+-- What holds in the loops of `arguments_len`: how many bytes these arguments take in a line: 10 each, and up to 24 more
+-- if one is quoted.
 use Rattle.std.proofs.Common.{◌≡◌, ◌≤◌, ◌+◌, ◌*◌, length, take, count_by, map, flat_map}
 use Rattle.exectrace.specs.{Trace.argument_text, Trace.is_quoted, Shown.shown_argument}
 use Rattle.exectrace.proofs.lines.arguments_len.Given as goal

@@ -1,5 +1,5 @@
--- The proof of `put_alert`: puts `alert CODE NAME WORD`: the call of this word, by the task, server or software interrupt of this name,
--- was refused for the reason that the code names.
+-- The proof of `put_alert`: puts `alert CODE NAME WORD`: the call of this word, by the task, server or software
+-- interrupt of this name, was refused for the reason that the code names.
 use Rattle.std.proofs.Common.{refl}
 use Rattle.exectrace.proofs.Pieces.{adds_then, adds_all}
 use Rattle.exectrace.proofs.printing.put_alert.Goals as goal

@@ -1,5 +1,5 @@
--- The proof of `put_call`: puts `NAME WORD{ ARG}`, and ` -> VALUE` or ` waits` by the outcome: the task, server or software interrupt of
--- this name made the call of this word.
+-- The proof of `put_call`: puts `NAME WORD{ ARG}`, and ` -> VALUE` or ` waits` by the outcome: the task, server or
+-- software interrupt of this name made the call of this word.
 use Rattle.std.proofs.Common.{refl, codes}
 use Rattle.exectrace.specs.{Trace.outcome_text, Shown.shown_outcome}
 use Rattle.exectrace.proofs.Pieces.{adds_then, adds_both, adds_all}

@@ -1,5 +1,5 @@
--- The proof of `write_rest`: writes these bytes, at least one, in as many writes as it needs, to a sink whose last 16 writes did not all
--- take none.
+-- The proof of `write_rest`: writes these bytes, at least one, in as many writes as it needs, to a sink whose last 16
+-- writes did not all take none.
 use Rattle.exectrace.proofs.Pieces.{Appends-rest, rest_fits, good_at_end, Breaks-exhausted}
 use Rattle.std.proofs.Common.{◌≡◌, ◌<◌, ◌≤◌, refl, false, true, arith}
 use Rattle.exectrace.specs.Sink.{empties}

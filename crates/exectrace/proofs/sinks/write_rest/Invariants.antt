@@ -1,5 +1,5 @@
--- What holds in the loops of `write_rest`: writes these bytes, at least one, in as many writes as it needs, to a sink whose last 16 writes
--- did not all take none.
+-- What holds in the loops of `write_rest`: writes these bytes, at least one, in as many writes as it needs, to a sink
+-- whose last 16 writes did not all take none.
 use Rattle.std.proofs.Common.{length, take, ◌-◌, ◌≡◌, ◌<◌, ◌≤◌, ◌+◌, ◌*◌}
 use Rattle.std.specs.Io.KnownBytes.{Appends}
 use Rattle.exectrace.specs.{Sink.empties, declared.sinks.SinkState.TheVariants.Good}

@@ -3,7 +3,7 @@ use Rattle.std.proofs.Common.{◌≡◌, ◌≤◌, ◌++◌, take, map, flat_ma
 use Rattle.exectrace.specs.{Trace.argument_text, Short.short_argument}
 use Rattle.exectrace.proofs.whole.place_arguments.Given as goal
 
--- the arguments so far stand there, and there is room for an end
+-- the arguments so far are there, and there is room for an end
 abbrev pub invariant-loop-argument : goal.invariant-loop-argument
 invariant-loop-argument l = record {
   within : l.at ≤ 146;

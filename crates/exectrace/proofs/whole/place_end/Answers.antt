@@ -1,4 +1,5 @@
--- The proof of `place_end`: writes how a call ended, and the line feed, which have room, over the cells from a place on.
+-- The proof of `place_end`: writes how a call ended, and the line feed, which have room, over the cells from a place
+-- on.
 use Rattle.std.proofs.Common.{◌++◌, ap, sym, codes, take, append_assoc, ◌∙◌}
 use Rattle.exectrace.specs.{Trace.outcome_text, Shown.shown_outcome}
 use Rattle.exectrace.proofs.whole.place_end.Goals as goal

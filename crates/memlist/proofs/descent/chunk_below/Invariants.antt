@@ -1,4 +1,5 @@
--- What holds in the loops of `chunk_below`: the chunk before a block that has that many units below it, or 0 if there is none.
+-- What holds in the loops of `chunk_below`: the chunk before a block that has that many units below it, or 0 if there
+-- is none.
 use Rattle.std.proofs.Common.{◌+◌, ◌*◌, ◌≤◌, take}
 use Rattle.memlist.specs.{Chain.IsClimbed, Chain.IsLastBelow, Descent.last_left}
 use Rattle.memlist.proofs.descent.chunk_below.Given as goal

@@ -1,5 +1,5 @@
--- The proof of `blocks_are_placed`: if a block fits, no block begins, and there it lies on whole units; so does each block of a well-
--- formed memory.
+-- The proof of `blocks_are_placed`: if a block fits, no block begins, and there it lies on whole units; so does each
+-- block of a well- formed memory.
 use Rattle.memlist.proofs.Fitting.{fitted_fresh, fitted_placed, live_placed}
 use Rattle.memlist.proofs.laws.blocks_are_placed.Goals as goal
 

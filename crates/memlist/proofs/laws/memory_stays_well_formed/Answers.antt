@@ -1,5 +1,5 @@
--- The proof of `memory_stays_well_formed`: a memory in which nothing is allocated is well formed, and it stays so when a block is put if
--- it fits and when one is freed.
+-- The proof of `memory_stays_well_formed`: a memory in which nothing is allocated is well formed, and it stays so when
+-- a block is put if it fits and when one is freed.
 use Rattle.memlist.proofs.{Fitting.fitted_well_formed, Keeping.freed_well_formed, Keeping.untouched_well_formed}
 use Rattle.memlist.proofs.laws.memory_stays_well_formed.Goals as goal
 

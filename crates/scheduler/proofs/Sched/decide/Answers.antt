@@ -1,4 +1,5 @@
--- What is made of the switch that is due is `rescheduled`, which is nothing if it stays; its task was ready, so it is one of the file.
+-- What is made of the switch that is due is `rescheduled`, which is nothing if it stays; its task was ready, so it is
+-- one of the file.
 use Rattle.std.proofs.Common.{sym, ◌∙◌}
 use Rattle.scheduler.proofs.{ScheduleLemmas.rescheduled-is, Settling.made_nothing, Settling.settled_found}
 use Rattle.scheduler.proofs.Sched.decide.Goals as goal

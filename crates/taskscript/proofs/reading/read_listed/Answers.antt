@@ -1,4 +1,5 @@
--- The proof of `read_listed`: reads a machine file as `read_machine` does, with the lines of its commands and the names of its variables.
+-- The proof of `read_listed`: reads a machine file as `read_machine` does, with the lines of its commands and the names
+-- of its variables.
 use Rattle.std.proofs.Common.{Ok, Err}
 use Rattle.taskscript.proofs.Whole.{placed_is}
 use Rattle.taskscript.proofs.reading.read_listed.Goals as goal

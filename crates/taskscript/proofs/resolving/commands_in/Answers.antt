@@ -1,5 +1,5 @@
--- The proof of `commands_in`: the commands with numbers and places for their names, or BadLabel if one jumps to a label that is not among
--- these.
+-- The proof of `commands_in`: the commands with numbers and places for their names, or BadLabel if one jumps to a label
+-- that is not among these.
 use Rattle.std.proofs.Common.{◌≡◌, ◌∙◌, ◌+◌, ◌∷◌, drop, get_or, map, arith}
 use Rattle.std.proofs.lemmas.List.{drop_more, map_push}
 use Rattle.script.specs.{Commands.CommandFits, Commands.command_view, Machines.QuotesOnce}

@@ -1,5 +1,5 @@
--- What holds in the loops of `commands_in`: the commands with numbers and places for their names, or BadLabel if one jumps to a label that
--- is not among these.
+-- What holds in the loops of `commands_in`: the commands with numbers and places for their names, or BadLabel if one
+-- jumps to a label that is not among these.
 use Rattle.std.proofs.Common.{◌≡◌, ◌++◌, drop, map}
 use Rattle.script.specs.Commands.{command_view}
 use Rattle.taskscript.specs.{Labels.jumps_faults_in, Labels.marks_view, Labels.place_at, Lines.named_command_view, Numbering.names_view, Numbering.command_in}

@@ -1,4 +1,5 @@
--- The proof of `variable_of`: the variable that a field names, if it names one: `name`, or `@name` for a shared one (project rule).
+-- The proof of `variable_of`: the variable that a field names, if it names one: `name`, or `@name` for a shared one
+-- (project rule).
 use Rattle.std.proofs.Common.{arith}
 use Rattle.std.proofs.lemmas.{Str.IsCharBoundary-after_ascii, Bool.Decides.nat_tests}
 use Rattle.taskscript.proofs.variable.variable_of.Goals as goal

@@ -1,4 +1,5 @@
--- What is sought is sought in the nodes ahead; the last of them is `back`, or is before it, and `found` is the number of what is after `back`.
+-- What is sought is sought in the nodes ahead; the last of them is `back`, or is before it, and `found` is the number
+-- of what is after `back`.
 use Rattle.std.proofs.Common.{◌≡◌, ℕ, ◌<◌, length, Bool, Some, find}
 use Rattle.std.specs.Option.{ForSome}
 use Rattle.execlist.specs.{Lists.sequence, Lists.home, Lists.key_at, Lists.times, Lists.ahead, Lists.part_after, DigestKeys.keys_in, Chains.lists_of, Chains.homes_of, Chains.node_at}

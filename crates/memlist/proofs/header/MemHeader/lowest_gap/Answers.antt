@@ -1,4 +1,5 @@
--- The proof of `MemHeader::lowest_gap`: the chunk before the lowest gap of at least that many bytes, or 0 if that gap is the first.
+-- The proof of `MemHeader::lowest_gap`: the chunk before the lowest gap of at least that many bytes, or 0 if that gap
+-- is the first.
 use Rattle.std.proofs.Common.{List, subst}
 use Rattle.memlist.specs.{declared.gap.Gap.Gap, Choice.IsLowest}
 use Rattle.memlist.proofs.Headers.{gaps_shown}

@@ -1,4 +1,5 @@
--- The proof of `MemHeader::new`: a region in which nothing is allocated, with a slot for each unit and a word for each 4 bytes.
+-- The proof of `MemHeader::new`: a region in which nothing is allocated, with a slot for each unit and a word for each
+-- 4 bytes.
 use Rattle.std.proofs.Common.{◌/◌, arith, ap}
 use Rattle.memlist.specs.Areas.{Area}
 use Rattle.memlist.proofs.{Headers.aligned_region, Headers.new_header, Headers.reach_region, Resets.unused_none}

@@ -1,5 +1,5 @@
--- The proof of `MemHeader::take`: puts a block at the front of the lowest gap that has room for it, which is the one after the chunk at an
--- address, or the first if that is 0; and answers the block's address.
+-- The proof of `MemHeader::take`: puts a block at the front of the lowest gap that has room for it, which is the one
+-- after the chunk at an address, or the first if that is 0; and answers the block's address.
 use Rattle.std.proofs.Common.{List, ◌≡◌, ◌+◌, ◌-◌, ◌/◌, ◌<◌, ◌++◌, length, arith, set, sym, ap, subst, ◌∙◌, IfSome, nat_cmp}
 use Rattle.std.specs.FinMap.{put}
 use Rattle.memlist.specs.{declared.gap.Gap.Gap, declared.slot.Slot.Slot, Areas.Area, Areas.IsHeader, Areas.entries, Blocks.stretch, Blocks.with_block, Chain.IsSpot, Chain.Space, Fit.lowest_gap, Regions.region_end}

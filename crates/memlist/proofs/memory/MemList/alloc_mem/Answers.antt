@@ -1,5 +1,5 @@
--- The proof of `MemList::alloc_mem`: allocates a block of a size in bytes, which is rounded up to a multiple of 8, and answers its
--- address.
+-- The proof of `MemList::alloc_mem`: allocates a block of a size in bytes, which is rounded up to a multiple of 8, and
+-- answers its address.
 use Rattle.std.proofs.Common.{◌≡◌, List, arith, sym, ap, subst, ◌∙◌, Some, None}
 use Rattle.memlist.specs.{Areas.Area, Areas.area_gaps, Blocks.is_in, Blocks.with_block, Choice.IsLowest, Choice.IsOffer, Choice.chosen_of, Fit.fit, Fit.lowest_gap, Memory.Memory}
 use Rattle.memlist.proofs.Memories.{fit_none, fit_nothing, fit_some, gap_inside, kept_memory, memory_put, offer_within, offered_gap, read_at}

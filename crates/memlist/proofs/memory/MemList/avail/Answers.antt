@@ -1,5 +1,5 @@
--- The proof of `MemList::avail`: the bytes that are free in the regions that have each of bits 0 to 2 that is asked for; with bit 17
--- (MEMF_LARGEST) the size of their greatest gap, with bit 19 (MEMF_TOTAL) their installed size.
+-- The proof of `MemList::avail`: the bytes that are free in the regions that have each of bits 0 to 2 that is asked
+-- for; with bit 17 (MEMF_LARGEST) the size of their greatest gap, with bit 19 (MEMF_TOTAL) their installed size.
 use Rattle.std.proofs.Common.{List, arith, sym, ap, ◌∙◌}
 use Rattle.memlist.specs.{Areas.Area, Choice.free_of, Choice.installed_of, Choice.largest_of, Fit.avail, Memory.Memory}
 use Rattle.memlist.proofs.Memories.{free_bound_of, installed_bound_of, limit_memory, avail_largest, avail_installed, avail_free, asked, unasked}

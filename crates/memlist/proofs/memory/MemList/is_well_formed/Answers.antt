@@ -1,4 +1,5 @@
--- The proof of `MemList::is_well_formed`: the law of every memory list: its blocks lie in its regions, in order and beside one another.
+-- The proof of `MemList::is_well_formed`: the law of every memory list: its blocks lie in its regions, in order and
+-- beside one another.
 use Rattle.std.proofs.Common.{subst}
 use Rattle.memlist.specs.Memory.{IsWellFormed, Memory}
 use Rattle.memlist.proofs.Keeping.{well_formed}

@@ -1,5 +1,5 @@
--- The proof of `MemList::new`: the memory of a machine with these regions, in the order of its file, which may have `total` bytes in all,
--- with nothing allocated.
+-- The proof of `MemList::new`: the memory of a machine with these regions, in the order of its file, which may have
+-- `total` bytes in all, with nothing allocated.
 use Rattle.std.proofs.Common.{arith}
 use Rattle.memlist.proofs.Memories.{new_memory, new_shown, small_reach, sound_regions}
 use Rattle.memlist.proofs.memory.MemList.new.Goals as goal

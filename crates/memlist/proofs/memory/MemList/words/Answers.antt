@@ -1,5 +1,5 @@
--- The proof of `MemList::words`: the words of a region, named by its place in the machine's file: word i represents the region's base plus
--- 4 times i.
+-- The proof of `MemList::words`: the words of a region, named by its place in the machine's file: word i represents the
+-- region's base plus 4 times i.
 use Rattle.std.proofs.Common.{arith, sym, subst, length, ◌<◌, IfSome, slice_get}
 use Rattle.memlist.specs.{Areas.IsFreeChain, Blocks.gaps, Memory.Memory}
 use Rattle.memlist.proofs.Memories.{free_chain, read_area, within_areas}

@@ -1,4 +1,5 @@
--- The proof of `FreeSpace::lowest_gap`: the chunk before the lowest gap of at least that many bytes, or 0 if that gap is the first.
+-- The proof of `FreeSpace::lowest_gap`: the chunk before the lowest gap of at least that many bytes, or 0 if that gap
+-- is the first.
 use Rattle.std.proofs.Common.{arith, ◌<◌}
 use Rattle.memlist.specs.declared.gap.Gap.{Gap}
 use Rattle.memlist.proofs.Walking.{found_nothing, found_spot, pass, pass_start, passed_walk}

@@ -1,5 +1,5 @@
--- What holds in the loops of `FreeSpace::lowest_gap`: the chunk before the lowest gap of at least that many bytes, or 0 if that gap is the
--- first.
+-- What holds in the loops of `FreeSpace::lowest_gap`: the chunk before the lowest gap of at least that many bytes, or 0
+-- if that gap is the first.
 use Rattle.std.proofs.Common.{◌-◌, ◌<◌}
 use Rattle.memlist.specs.Chain.{IsPassed}
 use Rattle.memlist.proofs.space.FreeSpace.lowest_gap.Given as goal

@@ -1,4 +1,5 @@
--- The proof of `FreeSpace::next`: if the chunk after the one at an address begins, or the first if that is 0; 0 if there is none.
+-- The proof of `FreeSpace::next`: if the chunk after the one at an address begins, or the first if that is 0; 0 if
+-- there is none.
 use Rattle.std.proofs.Common.{arith, ap, get_or, ◌∙◌, ◌<◌}
 use Rattle.std.proofs.lemmas.Grind.{get_or_default_zero}
 use Rattle.memlist.specs.Chain.{Space}

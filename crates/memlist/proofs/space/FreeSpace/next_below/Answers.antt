@@ -1,5 +1,5 @@
--- The proof of `FreeSpace::next_below`: the chunk after the one at an address, or the first if that is 0, if it begins below another
--- address.
+-- The proof of `FreeSpace::next_below`: the chunk after the one at an address, or the first if that is 0, if it begins
+-- below another address.
 use Rattle.std.proofs.Common.{arith, ◌<◌}
 use Rattle.memlist.specs.declared.gap.Gap.{Gap}
 use Rattle.memlist.proofs.Walking.{parted_before, parted_end, pass, passed_walk}

@@ -1,5 +1,5 @@
--- The proof of `FreeSpace::take`: takes that many bytes off the front of the lowest gap that has them, which is the one after the chunk at
--- an address, and answers where they begin.
+-- The proof of `FreeSpace::take`: takes that many bytes off the front of the lowest gap that has them, which is the one
+-- after the chunk at an address, and answers where they begin.
 use Rattle.std.proofs.Common.{◌≡◌, ◌+◌, ◌-◌, ◌++◌, refl, arith, ap, sym, ◌∙◌, subst, length, IsSome}
 use Rattle.memlist.specs.{declared.gap.Gap.Gap, Blocks.stretch, Chain.IsCount, Chain.IsSpot, Chain.Space, Chain.cut_rest, Chain.cut_words}
 use Rattle.memlist.proofs.{Chains.IsShown, Chains.before_within, Chains.seen, Chains.shown, Writing.bytes_taken, Writing.IsSpotIn, Writing.cut_len, Writing.link_len, Writing.space_written, Writing.spot_in, Writing.taken_chain, Walking.past, Walking.same_gap, Walking.seen_spot, Walking.up_to, space.FreeSpace.take.Goals.After-link, space.FreeSpace.take.Goals.After-unwrap-gap}

@@ -1,5 +1,5 @@
--- The proof of `FreeSpace::upper`: the chunk that a block of that many bytes becomes with the gap that begins at its end, if one does, if
--- the chunk before it begins at an address.
+-- The proof of `FreeSpace::upper`: the chunk that a block of that many bytes becomes with the gap that begins at its
+-- end, if one does, if the chunk before it begins at an address.
 use Rattle.std.proofs.Common.{◌∙◌}
 use Rattle.memlist.proofs.Walking.{next_alone, next_apart, next_touching, size_alone, size_apart, size_touching, step}
 use Rattle.memlist.proofs.space.FreeSpace.upper.Goals as goal
