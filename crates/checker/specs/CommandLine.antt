@@ -31,7 +31,8 @@ pub record AreGivenBy (words : List Text) (asked : Asked) : Type 0 where
   pub serves : first_of (codes "serves") (matches_of command_line words) ≡ None → asked.serves.items ≡ []
   pub fixes : one_of (codes "fix") (matches_of command_line words) ≡ Some (codes "false") → asked.fixes ≡ false
 
--- The words give a machine file, and no option that could be refused: no color, no name that is to serve, and no name that is to be explained.
+-- The words give a machine file, and no option that could be refused: no color, no name that is to serve, and no name
+-- that is to be explained.
 pub record ArePlain (words : List Text) : Type 0 where
   pub machine : IsSome (first_of (codes "MACHINE") (matches_of command_line words))
   pub explain : first_of (codes "explain") (matches_of command_line words) ≡ None

@@ -15,8 +15,8 @@ IsRefusedMachine bytes = IsSome (fault_of (file_of bytes))
 abbrev pub IsRefusedScript : List ℕ → Type 0
 IsRefusedScript bytes = IsSome (fault_of (script_of bytes))
 
--- The machine file was read, and the event text if there is a path for it: they are those at the paths, as far as it is reported what
--- is there. The status is 1 exactly if one of the two is refused.
+-- The machine file was read, and the event text if there is a path for it: they are those at the paths, as far as it is
+-- reported what is there. The status is 1 exactly if one of the two is refused.
 pub record JudgesTexts (text_at : TextAt) (paths : Paths) (status : ℕ) : Type 0 where
   pub machine : List ℕ
   pub events : Option (List ℕ)
@@ -25,7 +25,8 @@ pub record JudgesTexts (text_at : TextAt) (paths : Paths) (status : ℕ) : Type 
   pub refused : (status ≡ 1) ↔ (IsRefusedMachine machine ⊎ IsSomeAnd events IsRefusedScript)
   pub alerted : IsSomeAnd events (λ text. ends_by_alert (file_of machine) (script_of text) ≡ true) → status ≢ 0
 
--- The same of the texts whose paths the words give, whatever options are with them: if nothing is to be explained, and no proposal written.
+-- The same of the texts whose paths the words give, whatever options are with them: if nothing is to be explained, and
+-- no proposal written.
 pub record JudgesGiven (text_at : TextAt) (words : List Text) (status : ℕ) : Type 0 where
   pub asked : Asked
   pub given : AreGivenBy words asked

@@ -26,12 +26,14 @@ fn is_set<R: Env + AllocGlobal>(rt: &R, name: &str) -> bool {
     }
 }
 
-/// Whether what is written to a writer has colors: it is a terminal, and the environment does not refuse them (no-color.org).
+/// Whether what is written to a writer has colors: it is a terminal, and the environment does not refuse them
+/// (no-color.org).
 fn is_colored<R: Env + AllocGlobal, W: IsTerminal>(rt: &R, out: &W) -> bool {
     out.is_terminal() && !is_set(rt, "NO_COLOR")
 }
 
-/// Says why the arguments could not be had, and answers the status that represents that: memory was refused, or one is no text.
+/// Says why the arguments could not be had, and answers the status that represents that: memory was refused, or one is
+/// no text.
 fn end_without_words<E: Write>(alloc: Global, error: &io::Error, err: &mut E) -> u8
     ensures memory { error_kind error.now ≡ ErrorKind.OutOfMemory → result ≡ 4 }
     ensures not_text { error_kind error.now ≢ ErrorKind.OutOfMemory → result ≡ 2 }
@@ -52,10 +54,10 @@ fn end_without_memory<E: Write>(alloc: Global, err: &mut E) -> u8
     FAILED
 }
 
-/// Runs the program over the system's files on the process's arguments, and answers the status with which it ends. With the word `--lsp` alone it is
-/// a language server on the process's input.
+/// Runs the program over the system's files on the process's arguments, and answers the status with which it ends. With
+/// the word `--lsp` alone it is a language server on the process's input.
 ///
-/// Arguments that are no text are refused as a command line is.
+/// Arguments that are not text are refused as a command line is.
 pub fn run_on_arguments<
     R: Env + Files + Input + AllocGlobal,
     W: Write + IsTerminal + Drop,

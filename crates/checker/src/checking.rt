@@ -192,7 +192,8 @@ pub(crate) fn check_alone<'a, W: Write>(
     finish(alloc, sheet, judged.is_refused, false, manner, out)
 }
 
-/// Checks a machine file, an event text and their run, writes what was found after what is on a sheet already, and answers the status.
+/// Checks a machine file, an event text and their run, writes what was found after what is on a sheet already, and
+/// answers the status.
 pub(crate) fn check_both<'a, W: Write>(
     alloc: Global,
     sheet: Sheet,
@@ -240,12 +241,13 @@ pub(crate) fn give_up<'a, W: Write>(
     }
 }
 
-/// Reads the machine file, checks it, and then does the same of the event text, if there is a path for it, and of the run. What is wrong with the
-/// machine file is reported also if the event text cannot be read.
+/// Reads the machine file, checks it, and then does the same of the event text, if there is a path for it, and of the
+/// run. Mistakes in the machine file are reported even if the event text cannot be read.
 ///
 /// # Errors
 ///
-/// If memory is refused, a text cannot be read, what was found cannot be written, or nobody of the file has a name that is to serve.
+/// If memory is refused, a text cannot be read, what was found cannot be written, or nobody of the file has a name that
+/// is to serve.
 #[tactic(auto, using(crate::proofs::JudgingLemmas::judges_alone, crate::proofs::JudgingLemmas::judges_both))]
 pub fn check_texts<'a, T: Texts, W: Write>(
     texts: &T,

@@ -208,7 +208,8 @@ fn error_of_kind(alloc: Global, error: Error, kind: ErrorKind) -> Result<Error, 
     bare_error(alloc, kind)
 }
 
-/// What `clap` answers to words as they are shown, if it refuses them as they were refused, or a refusal that has none of them.
+/// What `clap` answers to words as they are shown, if it refuses them as they were refused, or a refusal that has none
+/// of them.
 fn error_over(alloc: Global, words: &[String], kind: ErrorKind) -> Result<Error, AllocError>
     ensures { IfOk result (λ error. kind_of error ≡ kind) }
 {
@@ -243,8 +244,8 @@ fn server_error(alloc: Global, kind: ErrorKind) -> Result<Error, AllocError>
     command(alloc)?.error(kind, SERVER_ALONE)
 }
 
-/// What `clap` answers to some words, with the words as they are shown; if it knows one of them not and one asks for the language server, it is said
-/// how that is asked for.
+/// What `clap` answers to some words, with the words as they are shown; if it knows one of them not and one asks for
+/// the language server, it is said how that is asked for.
 fn error_shown(alloc: Global, words: &[&str], error: Error) -> Result<Error, AllocError>
     ensures { IfOk result (λ shown. kind_of shown ≡ kind_of error) }
 {
@@ -261,8 +262,8 @@ fn error_shown(alloc: Global, words: &[&str], error: Error) -> Result<Error, All
 ///
 /// # Errors
 ///
-/// What `clap` answers, with the words as they are shown: the text of the help if it is asked for, a mistake in the words, or that memory was
-/// refused.
+/// What `clap` answers, with the words as they are shown: the text of the help if it is asked for, a mistake in the
+/// words, or that memory was refused.
 #[tactic(auto, using(execrun::proofs::CommandLemmas::fails_as_shown))]
 pub fn asked_by<'a>(alloc: Global, words: &'a [&'a str]) -> Result<Asked<'a>, Error>
     ensures given { IfOk result (AreGivenBy (texts words.now)) }

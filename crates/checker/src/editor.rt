@@ -64,8 +64,9 @@ fn report_unserved<E: Write>(why: Unserved, err: &mut E) -> u8
     FAILED
 }
 
-/// Serves an editor by the Language Server Protocol, and answers the status: 0 if the editor had the server end or went away, 1 if it had it end
-/// without a warning, and 4 if memory, reading or writing failed, or what came in was not of the protocol.
+/// Serves an editor by the Language Server Protocol, and answers the status: 0 if the editor had the server end or went
+/// away, 1 if it had it end without a warning, and 4 if memory, reading or writing failed, or what came in was not of
+/// the protocol.
 ///
 /// Source: the Language Server Protocol 3.17; the statuses but 1 are a project rule.
 pub fn serve_editor<T: Texts, I: Read + Drop, W: Write, E: Write>(

@@ -82,8 +82,8 @@ fn refuse<E: Write>(alloc: Global, sentence: &str, err: &mut E) -> u8
     }
 }
 
-/// Says on standard error, in one write, why there is no answer, and answers the status that represents that. A write that fails there changes
-/// nothing.
+/// Says on standard error, in one write, why there is no answer, and answers the status that represents that. A write
+/// that fails there changes nothing.
 pub fn report<E: Write>(alloc: Global, failure: &Failure<'_>, err: &mut E) -> u8
     ensures status { (result ≡ 2) ⊎ (result ≡ 4) }
     ensures usage { result ≡ 2 → IsUsage failure.now }

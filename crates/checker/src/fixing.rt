@@ -92,12 +92,13 @@ fn fix_both<'a, T: Shelf, W: Write>(
     }
 }
 
-/// Reads the machine file, writes what is proposed for it into the file, and does the same of the event text, if there is a path for it. Then both
-/// are checked as they are now. A file is written only if its text is still what was read.
+/// Reads the machine file, writes what is proposed for it into the file, and does the same of the event text, if there
+/// is a path for it. Then both are checked as they are now. A file is written only if its text is still what was read.
 ///
 /// # Errors
 ///
-/// If memory is refused, a text cannot be read or written, what was found cannot be written, or nobody of the file has a name that is to serve.
+/// If memory is refused, a text cannot be read or written, what was found cannot be written, or nobody of the file has
+/// a name that is to serve.
 pub fn fix_texts<'a, T: Shelf, W: Write>(
     texts: &T,
     alloc: Global,

@@ -1,5 +1,5 @@
-//! The command `execcheck` whole, over any texts, any words and any two writers: it says what is wrong with a machine file and an event text,
-//! and where.
+//! The command `execcheck` whole, over any texts, any words and any two writers: it says what is wrong with a machine
+//! file and an event text, and where.
 #![tactic(auto)]
 
 mod arguments;

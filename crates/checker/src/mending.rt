@@ -1,4 +1,5 @@
-//! Texts into which the proposals are written, one after another: each is made for the text that the ones before it have left.
+//! Texts into which the proposals are written, one after another: each is made for the text that the ones before it
+//! have left.
 
 use execadvice::{Diagnostic, Edit, FilePlace, check_events, check_machine};
 use std::alloc::{AllocError, Global};
@@ -56,7 +57,8 @@ fn around<'a>(text: &'a str, edit: &Edit) -> Option<(&'a str, &'a str)> {
     Some((text.get(..from)?, text.get(to..)?))
 }
 
-/// A text in which proposals of that kind are written, and what is before it in the file: the places of a machine file do not count a byte order mark.
+/// A text in which proposals of that kind are written, and what is before it in the file: the places of a machine file
+/// do not count a byte order mark.
 fn counted(kind: Kind, text: &str) -> (&str, &str) {
     match text.strip_prefix(MARK) {
         Some(rest) if kind == Kind::Machine => (MARK, rest),

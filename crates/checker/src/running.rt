@@ -175,12 +175,13 @@ fn answer<'a, T: Shelf, W: Write>(
     }
 }
 
-/// Does what the words of a command line ask for, over any texts, and answers the status: 0 if nothing was found, or notes alone, or the help or an
-/// explanation was printed, 1 if a text is refused, 2 if the command line is, 3 if there are warnings or an alert ended the run, and 4 if memory,
-/// reading or writing failed. After `--fix` it is that of the texts as they are then.
+/// Does what the words of a command line ask for, over any texts, and answers the status: 0 if nothing was found, or
+/// notes alone, or the help or an explanation was printed, 1 if a text is refused, 2 if the command line is, 3 if there
+/// are warnings or an alert ended the run, and 4 if memory, reading or writing failed. After `--fix` it is that of the
+/// texts as they are then.
 ///
-/// What was found goes to `out`, and what went wrong to `err`, where a write that fails changes nothing. `is_colored` says whether there are colors if
-/// the words do not say so.
+/// What was found goes to `out`, and what went wrong to `err`, where a write that fails changes nothing. `is_colored`
+/// says whether there are colors if the words do not say so.
 pub fn run_on_texts<T: Shelf, W: Write, E: Write>(
     texts: &T,
     alloc: Global,

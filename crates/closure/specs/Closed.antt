@@ -1,4 +1,5 @@
--- What a machine comes to by events of some kinds, and when a set of its states is closed. A walker is in one of them, and its key says in which.
+-- What a machine comes to by events of some kinds, and when a set of its states is closed. A walker is in one of them,
+-- and its key says in which.
 use Rattle.std.specs.Prelude.{◌≡◌, ◌<◌, ◌⊎◌, ◌==◌, ℕ, Bool, true, false, List, [], ◌∷◌, ◌++◌, length, map, slice_index_or, if◌then◌else◌}
 use Rattle.exectrace.specs.Trace.{printed}
 use Rattle.script.specs.{File.MachineData, declared.event.Event.Event}
@@ -101,8 +102,8 @@ module _ {S : Type 0} (machine_of : S → MachineData) (stands : S → List Even
   KeysTell = (one other : S) (list others : List Event) → machine_of one ≡ machine_of other → key one ≡ key other → stands one list → stands other others
       → stands other list
 
-  -- whatever events of these kinds come, in whatever order and however many: the state is one of those found, or one of the alerts has ended the
-  -- run
+  -- whatever events of these kinds come, in whatever order and however many: the state is one of those found, or one of
+  -- the alerts has ended the run
   abbrev pub IsEverything : MachineData → List Event → (keys alerts : List (List ℕ)) → Type 0
   IsEverything machine kinds keys alerts =
       (list : List Event) → AreOf kinds list → IsFound machine keys list ⊎ EndsBy machine alerts list

@@ -4,7 +4,8 @@ use Rattle.script.specs.{File.MachineData, declared.event.Event.Event}
 use Rattle.taskscript.specs.File.{file_of}
 use Rattle.statewalk.specs.Every.{SaysEvery}
 
--- The text states a machine, and the report is of all its states by every list of events of some kinds, which are in its first line.
+-- The text states a machine, and the report is of all its states by every list of events of some kinds, which are in
+-- its first line.
 pub record Reports (text name : List ℕ) (is_closed : Bool) (number : ℕ) (report : List ℕ) : Type 0 where
   pub machine : MachineData
   pub kinds : List Event

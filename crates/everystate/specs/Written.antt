@@ -9,8 +9,8 @@ use Rattle.everystate.specs.{CommandLine.command_line, Searched.Reports}
 abbrev pub status_of : (is_closed : Bool) → (alerts : ℕ) → ℕ
 status_of is_closed alerts = if is_closed then (if alerts == 0 then 0 else 3) else 5
 
--- The machine file at the path was read, as far as it is reported what is there, and the writer took the report of all its states, whole. The status
--- says whether the set of states is closed, and whether there are alerts.
+-- The machine file at the path was read, as far as it is reported what is there, and the writer took the report of all
+-- its states, whole. The status says whether the set of states is closed, and whether there are alerts.
 pub record WritesStates (text_at : TextAt) (path : Bor (List ℕ)) (before after : Held) (status : ℕ) : Type 0 where
   pub text : List ℕ
   pub text_is : IsTextAt text_at path.now text

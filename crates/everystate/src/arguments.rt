@@ -138,9 +138,9 @@ fn answer_without_work<W: Write, E: Write>(error: &clap::Error, out: &mut W, err
     }
 }
 
-/// Does what the words of a command line ask for, over any texts and any clock, and answers the status: 0 with a closed set and no alert, or after
-/// the help, 1 if the machine file is refused, 2 if the command line is, 3 with alerts, 4 if memory, reading or writing failed, and 5 if the set is
-/// not closed or nothing is decided.
+/// Does what the words of a command line ask for, over any texts and any clock, and answers the status: 0 with a closed
+/// set and no alert, or after the help, 1 if the machine file is refused, 2 if the command line is, 3 with alerts, 4 if
+/// memory, reading or writing failed, and 5 if the set is not closed or nothing is decided.
 ///
 /// Source: project rule.
 pub fn run_on_texts<T: Texts, C: Clock, W: Write, E: Write + IsTerminal>(
@@ -198,8 +198,8 @@ fn run_buffered<R: Env + Files + Clock + AllocGlobal, W: Write + Drop, E: Write 
     Ok(status)
 }
 
-/// Runs the command on the process's arguments, and answers the status with which it ends. Arguments that are no text are refused as a
-/// command line is.
+/// Runs the command on the process's arguments, and answers the status with which it ends. Arguments that are not text
+/// are refused as a command line is.
 ///
 /// Source: project rule.
 pub fn run_on_arguments<

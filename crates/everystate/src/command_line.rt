@@ -150,7 +150,8 @@ fn error_of_kind(alloc: Global, error: Error, kind: ErrorKind) -> Result<Error, 
     bare_error(alloc, kind)
 }
 
-/// What `clap` answers to words as they are shown, if it refuses them as they were refused, or a refusal that has none of them.
+/// What `clap` answers to words as they are shown, if it refuses them as they were refused, or a refusal that has none
+/// of them.
 fn error_over(alloc: Global, words: &[String], kind: ErrorKind) -> Result<Error, AllocError>
     ensures { IfOk result (λ error. kind_of error ≡ kind) }
 {
@@ -174,8 +175,8 @@ fn error_shown(alloc: Global, words: &[&str], error: Error) -> Result<Error, All
 ///
 /// # Errors
 ///
-/// What `clap` answers, with the words as they are shown: the text of the help if it is asked for, a mistake in the words, or that memory was
-/// refused.
+/// What `clap` answers, with the words as they are shown: the text of the help if it is asked for, a mistake in the
+/// words, or that memory was refused.
 ///
 /// Source: project rule.
 pub fn asked_by<'a>(alloc: Global, words: &'a [&'a str]) -> Result<Asked<'a>, Error>
@@ -188,7 +189,7 @@ pub fn asked_by<'a>(alloc: Global, words: &'a [&'a str]) -> Result<Asked<'a>, Er
     }
 }
 
-/// The error of a command line whose words are no text.
+/// The error of a command line whose words are not text.
 ///
 /// Source: project rule.
 pub(crate) fn not_text_error(alloc: Global) -> Result<Error, AllocError> {

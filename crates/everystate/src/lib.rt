@@ -1,4 +1,5 @@
-//! The command `execexplore --all`: the states to which a machine comes by every list of events, and the alerts that end such a list.
+//! The command `execexplore --all`: the states to which a machine comes by every list of events, and the alerts that
+//! end such a list.
 #![tactic(auto)]
 
 mod arguments;

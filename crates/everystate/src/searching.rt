@@ -62,8 +62,8 @@ fn report_of<'a, P: Watcher>(
     Ok(report)
 }
 
-/// The report of all states of the machine of a text. The lists of events are of the kinds that are asked for, and of steps; or of steps, ticks and
-/// each source that the file serves.
+/// The report of all states of the machine of a text. The lists of events are of the kinds that are asked for, and of
+/// steps; or of steps, ticks and each source that the file serves.
 ///
 /// # Errors
 ///

@@ -6,7 +6,7 @@ use Rattle.taskscript.specs.{declared.fault.FileFault.FileFault, declared.fault.
 use Rattle.taskscript.proofs.Documents.{no_document, a_document}
 use Rattle.execadvice.specs.Findings.{fault_of}
 
--- bytes that are no document are refused as a whole
+-- bytes that are not a document are refused as a whole
 pub no_tree : (bytes : List ℕ) → (IsUtf8 bytes → parse_document bytes ≡ None) → Err (refused File NotToml) ≡ placed_file_of bytes
 unfolding placed_file_of
 no_tree bytes h = sym (ap placed_file_of_document (no_document bytes h))

@@ -32,7 +32,7 @@ use std::alloc::Global;
 use taskscript::{fields_of, is_identifier, items_at, label_in, quoted_in};
 use toml::{Table, Value};
 
-/// What a line has to be that is no label but ends with a colon.
+/// What a line has to be that is not a label but ends with a colon.
 const LABEL: &str =
     "expected a label: a letter a to z, then letters a to z, digits and _, 1 to 16 characters, and a colon";
 
@@ -202,8 +202,8 @@ fn is_endless(line: &str) -> bool {
     is_one || is_loop && signs.iter().any(|sign| line.contains(*sign))
 }
 
-/// What is said of a name of another system with which a line begins that shows a text, or is a loop that nothing ends; or
-/// else what is said of it in any line.
+/// What is said of a name of another system with which a line begins that shows a text, or is a loop that nothing ends;
+/// or else what is said of it in any line.
 fn instead_in(line: &str, name: &str) -> Option<Instead> {
     if is_endless(line) && instead_of(name).is_some() {
         return Some(Instead::Write(ENDLESS));
@@ -306,8 +306,8 @@ fn begins_foreign(plain: &str) -> bool {
     instead_of(first).is_some() && !first.eq_ignore_ascii_case("if")
 }
 
-/// Whether a line of code is one of a trace: it has an answer after an arrow, or it waits, or it is of a switch or of an
-/// interrupt that is served.
+/// Whether a line of code is one of a trace: it has an answer after an arrow, or it waits, or it is of a switch or of
+/// an interrupt that is served.
 fn is_copied_from_trace(line: &str) -> bool {
     let is_other = line.starts_with("switch ") || line.starts_with("serve ");
     line.contains(" -> $") || line.ends_with(" waits") || is_other && !line.contains('(')
@@ -378,7 +378,7 @@ fn is_assignment(field: &str) -> bool {
     }
 }
 
-/// Why a name is no label. `wanted` is said if it is none with small letters either.
+/// Why a name is not a label. `wanted` is said if it is none with small letters either.
 fn label_reason(alloc: Global, name: &str, wanted: &'static str) -> Made<&'static str> {
     let lower = name.to_ascii_lowercase(alloc)?;
     Ok(if is_identifier(lower.as_str().as_bytes()) {
@@ -401,7 +401,7 @@ fn instead_before_colon(line: &str, parts: &[&str]) -> Option<Instead> {
     }
 }
 
-/// Why a number or a text is no word, of a line with that many parts.
+/// Why a number or a text is not a word, of a line with that many parts.
 fn value_in_place(alloc: Global, text: &str, count: usize) -> Made<Option<&'static str>> {
     match word_near(alloc, text)? {
         Some(near) if text.eq_ignore_ascii_case(near) => return Ok(None),
@@ -422,7 +422,8 @@ fn value_in_place(alloc: Global, text: &str, count: usize) -> Made<Option<&'stat
     Ok(None)
 }
 
-/// What is said of a text that is no word, of a line with that many parts, if it begins with a colon or is a shared variable alone.
+/// What is said of a text that is not a word, of a line with that many parts, if it begins with a colon or is a shared
+/// variable alone.
 fn lone_reason(text: &str, count: usize) -> Option<&'static str> {
     if text.starts_with(":") {
         Some("a label has its colon after its name")
@@ -435,8 +436,8 @@ fn lone_reason(text: &str, count: usize) -> Option<&'static str> {
     }
 }
 
-/// What is said of a line of BASIC, of an assembler, of Python or of a graphics program, which begins with a text that is
-/// no word.
+/// What is said of a line of BASIC, of an assembler, of Python or of a graphics program, which begins with a text that
+/// is not a word.
 fn dialect_reason(text: &str, fields: &[&str]) -> Option<&'static str> {
     let next = fields.get(1).copied().unwrap_or("");
     if next.eq_ignore_ascii_case("equ") {
@@ -468,12 +469,13 @@ fn has_joined_label(part: &str) -> bool {
     }
 }
 
-/// Whether a value may be where a word belongs, in a line whose part of that number is no word: after `=`, and no name of another system.
+/// Whether a value may be where a word belongs, in a line whose part of that number is not a word: after `=`, and no
+/// name of another system.
 fn is_value_place(text: &str, at: usize) -> bool {
     at == 2 && instead_of(text).is_none()
 }
 
-/// What is wrong with a text that is no word, if the characters at its end, or the part after it, show that.
+/// What is wrong with a text that is not a word, if the characters at its end, or the part after it, show that.
 fn joint_reason(text: &str, fields: &[&str], at: usize) -> Option<&'static str> {
     let next = fields.get(1).copied().unwrap_or("");
     if text == "=" {
@@ -509,7 +511,7 @@ fn joint_reason(text: &str, fields: &[&str], at: usize) -> Option<&'static str> 
     }
 }
 
-/// That a text is no word, with the text as names are shown, and what there is to say of it, if there is something.
+/// That a text is not a word, with the text as names are shown, and what there is to say of it, if there is something.
 fn unknown_text(alloc: Global, text: &str, more: &str) -> Made<String> {
     let name = shown_name(alloc, text)?;
     if more.is_empty() {
@@ -518,7 +520,8 @@ fn unknown_text(alloc: Global, text: &str, more: &str) -> Made<String> {
     format!(in alloc; "unknown word {name}; {more}")
 }
 
-/// What is said of a text that is near no word: which words begin so, which are for what it is about, or what a line is.
+/// What is said of a text that is near no word: which words begin so, which are for what it is about, or what a line
+/// is.
 fn far_reason(alloc: Global, text: &str) -> Made<String> {
     let begun = words_begun(alloc, text)?;
     if begun.len() < 2 || begun.len() > 7 {
@@ -529,8 +532,8 @@ fn far_reason(alloc: Global, text: &str) -> Made<String> {
     unknown_text(alloc, text, more.as_str())
 }
 
-/// Why the name of no label is no word, in a line of its own: which words are for what it is about, and that a label ends
-/// with a colon.
+/// Why a name that is not a label is not a word, in a line of its own: which words are for what it is about, and that a
+/// label ends with a colon.
 fn lone_name_reason(alloc: Global, text: &str) -> Made<String> {
     match topic_of(alloc, text)? {
         None => unknown_text(alloc, text, "a label ends with a colon"),
@@ -541,7 +544,7 @@ fn lone_name_reason(alloc: Global, text: &str) -> Made<String> {
     }
 }
 
-/// Why a text is no word. `meant` is the line that is meant, if that is known.
+/// Why a text is not a word. `meant` is the line that is meant, if that is known.
 fn unknown_word_reason(alloc: Global, text: &str, meant: Option<&str>) -> Made<String> {
     let Some(near) = word_near(alloc, text)? else {
         return far_reason(alloc, text);
@@ -562,7 +565,7 @@ fn unknown_word_reason(alloc: Global, text: &str, meant: Option<&str>) -> Made<S
     }
 }
 
-/// Why a name of Exec, of another system or of another language is no word.
+/// Why a name of Exec, of another system or of another language is not a word.
 fn instead_reason(alloc: Global, name: &str, instead: Instead) -> Made<String> {
     match instead {
         Instead::Write(text) => {
@@ -576,7 +579,7 @@ fn instead_reason(alloc: Global, name: &str, instead: Instead) -> Made<String> {
     }
 }
 
-/// Why a field is no variable. `wanted` is said if it is none with small letters either.
+/// Why a field is not a variable. `wanted` is said if it is none with small letters either.
 fn variable_reason(alloc: Global, field: &str, wanted: &'static str) -> Made<&'static str> {
     let lower = field.to_ascii_lowercase(alloc)?;
     Ok(if is_variable(lower.as_str()) {
@@ -596,7 +599,7 @@ fn base_sixteen_reason(digits: &str) -> &'static str {
     }
 }
 
-/// Why a part in capital letters is no number.
+/// Why a part in capital letters is not a number.
 fn constant_reason(field: &str) -> &'static str {
     if field.as_bytes().iter().any(|b| b.is_ascii_alphabetic()) {
         "constants are written as numbers; the number of this one is not known here"
@@ -646,7 +649,7 @@ fn sign_within(field: &str) -> Option<&'static str> {
     }
 }
 
-/// Why a part is no number and no variable, if its characters show that.
+/// Why a part is neither a number nor a variable, if its characters show that.
 fn shape_reason(field: &str) -> Option<&'static str> {
     if is_operator(field) {
         Some(ONE_VALUE)
@@ -663,7 +666,7 @@ fn shape_reason(field: &str) -> Option<&'static str> {
     }
 }
 
-/// Why a part is no number and no variable.
+/// Why a part is neither a number nor a variable.
 fn value_reason(alloc: Global, field: &str) -> Made<&'static str> {
     if let Some(reason) = shape_reason(field) {
         return Ok(reason);
@@ -700,7 +703,7 @@ fn value_reason(alloc: Global, field: &str) -> Made<&'static str> {
     variable_reason(alloc, field, wanted)
 }
 
-/// Why a part is no label.
+/// Why a part is not a label.
 fn label_argument_reason(alloc: Global, field: &str) -> Made<&'static str> {
     let name = field.trim_end_matches(':');
     if name.len() < field.len() && is_identifier(name.as_bytes()) {
@@ -713,7 +716,7 @@ fn label_argument_reason(alloc: Global, field: &str) -> Made<&'static str> {
     )
 }
 
-/// Why a part is no name between double quotes.
+/// Why a part is not a name between double quotes.
 fn quoted_reason(field: &str, wanted: &'static str) -> &'static str {
     if !field.starts_with("\"") && name_within(field).is_some() {
         return "put a name between double quotes";
@@ -980,7 +983,7 @@ impl Line<'_, '_, '_> {
         }
     }
 
-    /// Why a name between double quotes is no task, with the number of the task of that name.
+    /// Why a name between double quotes is not a task, with the number of the task of that name.
     fn task_reason(&self, field: &str) -> Made<String> {
         let name = unquoted(field);
         match position_named(items_at(self.table, "task"), name) {
@@ -994,7 +997,7 @@ impl Line<'_, '_, '_> {
         }
     }
 
-    /// Why a field is no argument of that kind.
+    /// Why a field is not an argument of that kind.
     fn kind_reason(&self, kind: Kind, field: &str) -> Made<&'static str> {
         Ok(match kind {
             Kind::Value => value_reason(self.alloc, field)?,
@@ -1071,8 +1074,8 @@ impl Line<'_, '_, '_> {
         None
     }
 
-    /// The first argument of a word that is not right: it is of another kind, or there is none, or it is one too many. `first` is the number of
-    /// the part that is the first argument.
+    /// The first argument of a word that is not right: it is of another kind, or there is none, or it is one too many.
+    /// `first` is the number of the part that is the first argument.
     fn argument_mistake(&self, word: Word, after: &[&str], first: usize) -> Made<Option<Mistake>> {
         let count = word.kinds().len();
         if let Some(place) = self.lacked_before(word, after) {
@@ -1123,7 +1126,7 @@ impl Line<'_, '_, '_> {
         Ok(None)
     }
 
-    /// Why a text is no word that is no name of another system.
+    /// Why a text that is not a name of another system is not a word.
     fn unknown_reason(&self, text: &str) -> Made<String> {
         let has_quote = self.text.contains('"') || self.text.contains('\'');
         if has_quote && self.meant.is_none() && text.eq_ignore_ascii_case("print") {
@@ -1132,7 +1135,7 @@ impl Line<'_, '_, '_> {
         unknown_word_reason(self.alloc, text, self.meant)
     }
 
-    /// Why the part of that number is no word.
+    /// Why the part of that number is not a word.
     fn word_reason(&self, fields: &[&str], at: usize) -> Made<String> {
         let alloc = self.alloc;
         let text = fields.get(at).copied().unwrap_or("");
@@ -1241,7 +1244,7 @@ impl Line<'_, '_, '_> {
         }
     }
 
-    /// Why a name of another system is no word, if the line is written in the manner of C or of an assembler.
+    /// Why a name of another system is not a word, if the line is written in the manner of C or of an assembler.
     fn foreign_reason(&self, name: &str) -> Made<Option<String>> {
         let has_sign = self.text.contains('#')
             || self.text.contains(',')
@@ -1521,11 +1524,11 @@ impl Line<'_, '_, '_> {
     }
 }
 
-/// The part of a line for which it is not a command, and why, with the line that is meant if that can be told as a
+/// The part of a line for which it is not a command, and why, with the line that is meant if that is known as a
 /// whole. `body` is the body of the line.
 ///
-/// A tab, a part that no line has or a space that separates nothing goes before the mistake in its words: a word that is wanted or is not
-/// known, a target, or an argument. In a line with no mistake it is the first part.
+/// A tab, a part that no line has or a space that separates nothing goes before the mistake in its words: a word that
+/// is wanted or is not known, a target, or an argument. In a line with no mistake it is the first part.
 pub fn line_advice(body: Mending<'_>, text: &str) -> Made<Advice> {
     let Mending {
         alloc,

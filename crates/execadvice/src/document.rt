@@ -212,7 +212,7 @@ fn begins_as_head(line: &str) -> bool {
     inside.len() < line.len() && is_name && is_whole
 }
 
-/// Whether a line sets a kind of tables to what is no array.
+/// Whether a line sets a kind of tables to what is not an array.
 fn sets_kind(line: &str) -> bool {
     match line.split_once("=") {
         None => false,
@@ -230,7 +230,8 @@ fn has_one_bracket(text: &str) -> bool {
     text.starts_with("[") && !text.starts_with("[[") && text.ends_with("]]") && !text.contains('"')
 }
 
-/// Whether a line begins a table, or sets a kind of tables, in another way than a head does. `text` is it without the spaces around it.
+/// Whether a line begins a table, or sets a kind of tables, in another way than a head does. `text` is it without the
+/// spaces around it.
 fn is_wrong_head(line: &str, text: &str) -> bool {
     let is_other = !text.ends_with("]") || text.contains(' ') || has_one_bracket(text);
     begins_as_head(line) && is_other || sets_kind(text)
@@ -274,7 +275,7 @@ fn end_reason(alloc: Global, line: &str, message: &str) -> Made<String> {
     format!(in alloc; "{message}; {what}")
 }
 
-/// Why bytes are no document, at a character of a line that is text, by its number from 0. `message` is what the
+/// Why bytes are not a document, at a character of a line that is text, by its number from 0. `message` is what the
 /// reader of TOML says, and `key` the key of the line if its value is of another form.
 fn reason_in(
     alloc: Global,
@@ -351,7 +352,7 @@ fn line_advice(alloc: Global, line: &str, span: Span, message: &str) -> Made<Adv
     }
 }
 
-/// Why bytes are no text.
+/// Why bytes are not text.
 pub(crate) fn reason_of_bytes(bytes: &[u8]) -> &'static str {
     match bytes {
         [0xFF, 0xFE, ..] | [0xFE, 0xFF, ..] => {
@@ -370,8 +371,8 @@ fn after_mark<'a>(text: &Text<'a>) -> (Text<'a>, usize) {
     }
 }
 
-/// What is said of what is no document: what the reader of TOML says, at its place. A byte order mark is no part of the
-/// first line.
+/// What is said of what is not a document: what the reader of TOML says, at its place. A byte order mark is not a part
+/// of the first line.
 pub(crate) fn no_document(
     text: &Text<'_>,
     rule: &'static str,

@@ -453,7 +453,8 @@ const NO_GRAPHICS: &str = "there is Exec alone, with timer.device";
 const NO_SUSPENDING: &str =
     "no task stops another; x = Wait MASK stops the own one until a signal comes";
 
-/// Names of calls of amiga.lib, of dos.library and of C whose place nothing has, each with the reason, or with what serves.
+/// Names of calls of amiga.lib, of dos.library and of C whose place nothing has, each with the reason, or with what
+/// serves.
 const LACKED: [(&str, &str); 53] = [
     (
         "Open",

@@ -222,7 +222,7 @@ fn is_span(text: &str) -> bool {
     first.is_ascii_digit() && text.ends_with("s")
 }
 
-/// Why what is no digits is no number of turns.
+/// Why what is not digits is not a number of turns.
 fn digits_reason(line: &str, digits: &str) -> &'static str {
     if is_source(digits) {
         "irq PORTS and irq EXTER ask for a source of interrupts; run and tick have a number from 1 to 1000000 here"
@@ -432,7 +432,7 @@ fn joined_event(alloc: Global, text: &str) -> Made<Option<String>> {
     Ok(None)
 }
 
-/// The event that is meant by a line, if that can be told: a line that the reader of events accepts.
+/// The event that is meant by a line, if that is known: a line that the reader of events accepts.
 fn event_meant(alloc: Global, line: &str) -> Made<Option<String>> {
     let plain = plain_event(alloc, without_bullet(line))?;
     let plain = plain.as_str();
@@ -465,7 +465,7 @@ fn is_event_word(word: &str) -> bool {
     word == "run" || word == "tick" || word == "irq"
 }
 
-/// Why a line with more than two parts, of which the first is that word, is no event.
+/// Why a line with more than two parts, of which the first is that word, is not an event.
 fn rest_reason(word: &str, rest: &str) -> &'static str {
     let another = [" run ", " tick ", " irq "];
     let first = rest.as_bytes().first().copied().unwrap_or(b' ');
@@ -506,7 +506,7 @@ fn parts_advice(alloc: Global, line: &str) -> Made<Advice> {
     }
 }
 
-/// Why a line is no event.
+/// Why a line is not an event.
 fn event_advice(alloc: Global, line: &str) -> Made<Advice> {
     if is_of_machine_file(line) && !is_event(line) {
         let reason =
@@ -598,7 +598,7 @@ fn too_many_found(text: &Text<'_>) -> Made<Diagnostic> {
     }
 }
 
-/// What is said of the line of a number, from 1, which is no event.
+/// What is said of the line of a number, from 1, which is not an event.
 fn bad_line_found(text: &Text<'_>, number: usize) -> Made<Diagnostic> {
     let bytes = text.line(number);
     match from_utf8(bytes) {
@@ -649,9 +649,9 @@ fn refusal(alloc: Global, bytes: &[u8], fault: EventFault) -> Made<EventsFinding
 
 /// What the bytes of an event text are refused for, and at which line.
 ///
-/// The text is refused exactly if `execsim` refuses it, with that fault; that of BadLine is the number of the line. What is said of it
-/// has its place and the name of the fault, and shows that line with marks under a part of it; of too many events a line is shown, or
-/// none. Nothing is said of a text that is accepted.
+/// The text is refused exactly if `execsim` refuses it, with that fault; that of BadLine is the number of the line.
+/// What is said of it has its place and the name of the fault, and shows that line with marks under a part of it; of
+/// too many events a line is shown, or none. Nothing is said of a text that is accepted.
 ///
 /// # Errors
 ///

@@ -52,7 +52,8 @@ pub fn span_in(written: &Written<'_>, place: LinePlace, span: Span) -> Option<Fi
     Some(FileSpan { start, end })
 }
 
-/// What puts a text in place of some characters of a line of a body, if the line has them, the file shows it, and its string can hold the text.
+/// What puts a text in place of some characters of a line of a body, if the line has them, the file shows it, and its
+/// string can hold the text.
 fn edit_of(
     alloc: Global,
     written: &Written<'_>,
@@ -73,7 +74,8 @@ fn edit_of(
     }
 }
 
-/// What is said of a line of a body: where it is in the file, its place with a name, and the line with marks under a part of it.
+/// What is said of a line of a body: where it is in the file, its place with a name, and the line with marks under a
+/// part of it.
 ///
 /// # Errors
 ///

@@ -24,7 +24,8 @@ use std::alloc::{AllocError, Global};
 use taskscript::{FileFault, LinePlace, Listed, Place, Refused, TreePlace, read_tree};
 use toml::Table;
 
-/// How many parts of dotted keys a refused file has at most if its tree is looked at again. Each part is a table of its own.
+/// How many parts of dotted keys a refused file has at most if its tree is looked at again. Each part is a table of its
+/// own.
 const MOST_PARTS: usize = 200_000;
 
 /// A machine file that is accepted: its tree, and what was read out of that.
@@ -48,8 +49,8 @@ pub struct Finding {
 }
 
 impl File<'_> {
-    /// What is said with the line of the file in which a part is, without the white space before it, and marks under the part, as far as it is in
-    /// that line.
+    /// What is said with the line of the file in which a part is, without the white space before it, and marks under
+    /// the part, as far as it is in that line.
     fn showing_part(
         &self,
         said: Diagnostic,
@@ -132,8 +133,8 @@ impl File<'_> {
     }
 }
 
-/// What is said of a refused file whose tree takes long to look at, since it has very many dotted keys: where the first of them is, if it is one of
-/// the faulty table.
+/// What is said of a refused file whose tree takes long to look at, since it has very many dotted keys: where the first
+/// of them is, if it is one of the faulty table.
 fn brief_found(alloc: Global, written: &Written<'_>, refused: Refused) -> Made<Diagnostic> {
     let reason = String::from_str(alloc, "no key of a machine file has a dot in it")?;
     let mut found = Diagnostic::refusal(alloc, refused.fault.name(), reason);
@@ -259,11 +260,13 @@ fn tree_finding(alloc: Global, bytes: &[u8], table: Table) -> Made<Finding>
     }
 }
 
-/// What the bytes of a machine file are refused for, and where, or else what is worth a warning. They are read as TOML once.
+/// What the bytes of a machine file are refused for, and where, or else what is worth a warning. They are read as TOML
+/// once.
 ///
-/// The file is refused exactly if `execsim` refuses it, with that fault. Its place is the first faulty place of the file, in the order in
-/// which the file is judged. What is said of it has the line and the column of the file, the place in words, the name of the fault and a
-/// reason, and shows the line with marks under a part of it. Of an accepted file its warnings are said in the same form, and nothing else.
+/// The file is refused exactly if `execsim` refuses it, with that fault. Its place is the first faulty place of the
+/// file, in the order in which the file is judged. What is said of it has the line and the column of the file, the
+/// place in words, the name of the fault and a reason, and shows the line with marks under a part of it. Of an accepted
+/// file its warnings are said in the same form, and nothing else.
 ///
 /// # Errors
 ///

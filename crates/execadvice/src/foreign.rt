@@ -350,7 +350,7 @@ pub(crate) fn undotted(name: &str) -> &str {
     }
 }
 
-/// What is said of a name of Exec, of another system or of another language that is no word.
+/// What is said of a name of Exec, of another system or of another language that is not a word.
 #[derive(Clone, Copy)]
 pub(crate) enum Instead {
     /// What is written in its place.
@@ -390,7 +390,7 @@ fn lack_of(name: &str) -> Option<&'static str> {
     }
 }
 
-/// What is said of a name of Exec, of another system or of another language that is no word.
+/// What is said of a name of Exec, of another system or of another language that is not a word.
 pub(crate) fn instead_of(name: &str) -> Option<Instead> {
     match place_of(name) {
         Some(text) => Some(Instead::Write(text)),

@@ -77,8 +77,8 @@ pub(crate) fn may_be_in_interrupt(alloc: Global, line: &str) -> Made<bool> {
     Ok(interrupt_advice(alloc, line)?.is_none())
 }
 
-/// The part of the first line of the body of an interrupt that may not be there, and why: it is a label, its word is none that an interrupt
-/// may have, or the part is a private variable. None if all may.
+/// The part of the first line of the body of an interrupt that may not be there, and why: it is a label, its word is
+/// none that an interrupt may have, or the part is a private variable. None if all may.
 pub fn not_in_interrupt(alloc: Global, lines: &[Value]) -> Made<Option<Advice>> {
     for item in lines {
         if let Some(advice) = interrupt_advice(alloc, line_in(item))? {

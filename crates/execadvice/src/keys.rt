@@ -59,7 +59,8 @@ fn key_texts(alloc: Global, of: TablePlace) -> Made<Vec<&'static str>> {
     Ok(keys)
 }
 
-/// The first key of a table, in the order of the bytes of their texts, that it may not have; the empty text if there is none.
+/// The first key of a table, in the order of the bytes of their texts, that it may not have; the empty text if there is
+/// none.
 pub fn unknown_key(alloc: Global, of: TablePlace, table: &Table) -> Made<&str> {
     let keys = key_texts(alloc, of)?;
     for (key, _value) in table {

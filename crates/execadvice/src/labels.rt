@@ -126,7 +126,8 @@ fn astray(alloc: Global, table: &Table, labels: &[Label<'_>], line: &str) -> Mad
     }
 }
 
-/// What is wrong with a body of a file that is BadLabel: its first label that was before, or else its first jump to a label that it lacks.
+/// What is wrong with a body of a file that is BadLabel: its first label that was before, or else its first jump to a
+/// label that it lacks.
 pub fn bad_label(alloc: Global, table: &Table, lines: &[Value]) -> Made<Option<Advice>> {
     let labels = labels_of(alloc, lines)?;
     if let Some(advice) = repeated(alloc, &labels)? {

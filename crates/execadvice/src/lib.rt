@@ -1,4 +1,5 @@
-//! Says what is wrong with a machine file or an event text: what `execsim` says of the text, where, and what may have been meant.
+//! Says what is wrong with a machine file or an event text: what `execsim` says of the text, where, and what may have
+//! been meant.
 #![tactic(auto)]
 
 mod advice;

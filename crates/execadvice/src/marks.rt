@@ -19,7 +19,8 @@ fn push_times(out: &mut String, c: char, count: usize) -> Made<()> {
     Ok(())
 }
 
-/// The number of the first character of a line that is shown: 0 if the whole line is short enough, or the marked part is near its start.
+/// The number of the first character of a line that is shown: 0 if the whole line is short enough, or the marked part
+/// is near its start.
 fn first_shown(length: usize, start: usize) -> usize {
     if length <= WIDEST || start <= BEFORE {
         0
@@ -28,8 +29,8 @@ fn first_shown(length: usize, start: usize) -> usize {
     }
 }
 
-/// Adds the part of a line that is shown, and begins the line below it. The answer is the number of columns before the marked part, and that of
-/// its own.
+/// Adds the part of a line that is shown, and begins the line below it. The answer is the number of columns before the
+/// marked part, and that of its own.
 fn push_window(alloc: Global, out: &mut String, line: &str, span: Span) -> Made<(usize, usize)> {
     let first = first_shown(width_of(line), span.start);
     let end = span.start.saturating_add(span.width);
@@ -57,8 +58,8 @@ fn push_window(alloc: Global, out: &mut String, line: &str, span: Span) -> Made<
     Ok((before, width))
 }
 
-/// Adds the line, and below it marks under the part that is wrong, between two texts that set the color and end it. Of a line of more than 160
-/// characters only those near the part are shown.
+/// Adds the line, and below it marks under the part that is wrong, between two texts that set the color and end it. Of
+/// a line of more than 160 characters only those near the part are shown.
 pub(crate) fn push_marked(
     alloc: Global,
     out: &mut String,

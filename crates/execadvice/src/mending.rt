@@ -111,8 +111,8 @@ fn in_order<'a>(alloc: Global, word: Word, fields: &[&'a str]) -> Made<Vec<&'a s
     }
 }
 
-/// The arguments of a word without those that C has, and that have no place here: the flags of OpenDevice, the size of a
-/// request, and all of a word that takes none.
+/// The arguments of a word without those that C has, and that have no place here: the flags of OpenDevice, the size of
+/// a request, and all of a word that takes none.
 fn without_extra<'b, 'a>(word: Word, fields: &'b [&'a str]) -> &'b [&'a str] {
     let text = word.text();
     let count = word.kinds().len();
@@ -466,7 +466,7 @@ impl Mending<'_> {
         Ok(!self.is_interrupt || may_be_in_interrupt(self.alloc, line)?)
     }
 
-    /// The line that is meant by one whose punctuation is as it is given, if that can be told as a whole and may be in
+    /// The line that is meant by one whose punctuation is as it is given, if that is known as a whole and may be in
     /// the body.
     fn meant_by(self, line: &str) -> Made<Option<String>> {
         let plain = plain_line(self.alloc, without_quotes(line))?;
@@ -477,7 +477,7 @@ impl Mending<'_> {
         }
     }
 
-    /// The line that is meant by another one, if that can be told as a whole: a line that says something, and may be
+    /// The line that is meant by another one, if that is known as a whole: a line that says something, and may be
     /// in the body.
     pub(crate) fn line_meant(self, line: &str) -> Made<Option<String>> {
         if is_store(line) || is_declaration(line) || has_other_meaning(line) {

@@ -11,8 +11,8 @@ pub fn are_digits(text: &str) -> bool {
     text.as_bytes().iter().all(|b| b.is_ascii_digit())
 }
 
-/// The one of some texts that was likely meant: it differs in at most a third of its letters, and no other in fewer. Upper and lower case are
-/// the same, and two letters that changed places are one.
+/// The one of some texts that was likely meant: it differs in at most a third of its letters, and no other in fewer.
+/// Upper and lower case are the same, and two letters that changed places are one.
 ///
 /// # Errors
 ///

@@ -200,8 +200,9 @@ fn reason_of(alloc: Global, found: Found) -> Made<String> {
     }
 }
 
-/// The region that does not fit: the first whose base or size is no multiple of 8, whose size is 0 or whose base is below 4096; else that with
-/// which all have too many bytes together; else the first that ends past 2 GB; else the second of the first two that overlap.
+/// The region that does not fit: the first whose base or size is not a multiple of 8, whose size is 0 or whose base is
+/// below 4096; else that with which all have too many bytes together; else the first that ends past 2 GB; else the
+/// second of the first two that overlap.
 pub fn unfit_region(alloc: Global, table: &Table) -> Made<Unfit> {
     let extents = extents_of(alloc, table)?;
     match first_found(&extents, u64::from(total_at(table))) {

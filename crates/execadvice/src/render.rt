@@ -1,4 +1,5 @@
-//! What was found as text: its place, how grave it is, by which rule and why in one line, and below it the place in words, and the line with marks.
+//! What was found as text: its place, how grave it is, by which rule and why in one line, and below it the place in
+//! words, and the line with marks.
 
 use crate::diagnostic::{Diagnostic, Severity};
 use crate::made::Made;
@@ -77,8 +78,8 @@ fn push_rest(alloc: Global, out: &mut String, found: &Diagnostic, look: Look) ->
     }
 }
 
-/// What was found in a text as it is shown, in its order. `path` is before each place. Characters of the path and of the lines that a terminal
-/// obeys or does not show are escaped.
+/// What was found in a text as it is shown, in its order. `path` is before each place. Characters of the path and of
+/// the lines that a terminal obeys or does not show are escaped.
 ///
 /// # Errors
 ///

@@ -50,7 +50,8 @@ pub fn width_of(text: &str) -> usize {
     text.chars().count()
 }
 
-/// The part of a line between single spaces that has this number, from 0; after the last one, the place after the line's end.
+/// The part of a line between single spaces that has this number, from 0; after the last one, the place after the
+/// line's end.
 pub fn field_span(line: &str, number: usize) -> Span {
     let mut start = 0usize;
     for (i, field) in line.split(' ').enumerate() {

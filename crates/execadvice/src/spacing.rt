@@ -71,9 +71,10 @@ pub fn hidden_advice(alloc: Global, line: &str, start: usize) -> Made<Advice> {
     Ok(Advice { span, reason, fix })
 }
 
-/// What is wrong with a line, which has these parts, before its words are looked at, and where: the first tab or other character that is not seen;
-/// or else the first part that begins as a comment (`#`, `;` or `//`) or has a comma or a semicolon at its end; or else the first space that
-/// separates nothing, as one does at the beginning, at the end, after another, or if the line is empty. None if there is none of these.
+/// What is wrong with a line, which has these parts, before its words are looked at, and where: the first tab or other
+/// character that is not seen; or else the first part that begins as a comment (`#`, `;` or `//`) or has a comma or a
+/// semicolon at its end; or else the first space that separates nothing, as one does at the beginning, at the end,
+/// after another, or if the line is empty. None if there is none of these.
 pub fn spacing_advice(alloc: Global, line: &str, parts: &[&str]) -> Made<Option<Advice>> {
     match line.chars().position(is_hidden) {
         None => parts_advice(alloc, line, parts),

@@ -18,12 +18,12 @@ pub(crate) fn is_line_feed(byte: &u8) -> bool {
     *byte == b'\n'
 }
 
-/// Bytes as text; what is no text is shown as the empty line.
+/// Bytes as text; what is not text is shown as the empty line.
 pub(crate) fn text_or_nothing(line: &[u8]) -> &str {
     from_utf8(line).unwrap_or("")
 }
 
-/// Bytes that are no text as a text: a `?` for each byte that is not ASCII.
+/// Bytes that are not text as a text: a `?` for each byte that is not ASCII.
 fn lossy_line(alloc: Global, bytes: &[u8]) -> Made<String> {
     let mut line = String::new(alloc);
     for byte in bytes {
@@ -42,7 +42,7 @@ impl<'a> Text<'a> {
             .unwrap_or(&[])
     }
 
-    /// What is said of the line of a number, from 1, which is no text from a byte on.
+    /// What is said of the line of a number, from 1, which is not text from a byte on.
     pub(crate) fn bytes_found(
         &self,
         number: usize,

@@ -1,4 +1,5 @@
-//! What is wrong at a place of the tree of a machine file: the place in words, the part that is marked, and why, in one sentence.
+//! What is wrong at a place of the tree of a machine file: the place in words, the part that is marked, and why, in one
+//! sentence.
 
 use crate::escaped::shown_name;
 use crate::file::{File, item_word, name_at};
@@ -19,8 +20,8 @@ pub struct Wrong<'a> {
     /// The place, by its path.
     pub words: String,
     pub reason: String,
-    /// The part of the file that is marked: the key that is unknown, the value that is wrong, or the head of the table that lacks a key. None if
-    /// the file does not show it.
+    /// The part of the file that is marked: the key that is unknown, the value that is wrong, or the head of the table
+    /// that lacks a key. None if the file does not show it.
     pub part: Option<Part<'a>>,
     /// What is likely meant in place of the part, if that is known.
     pub fix: Option<String>,
@@ -97,7 +98,7 @@ fn held_text(alloc: Global, value: &Value) -> Made<String> {
     String::from_str(alloc, text)
 }
 
-/// The number, from 0, of the first item of the code of a table that is no string.
+/// The number, from 0, of the first item of the code of a table that is not a string.
 fn line_without_string(own: &Table) -> Option<usize> {
     items_at(own, "code").iter().position(|item| !item.is_str())
 }
@@ -171,7 +172,7 @@ impl<'a> File<'a> {
         }
     }
 
-    /// The table of a place; if the item is no table, the top table.
+    /// The table of a place; if the item is not a table, the top table.
     fn table_at(&self, of: TablePlace) -> &Table {
         let TablePlace::Item(array, item) = of else {
             return &self.table;
@@ -198,8 +199,8 @@ impl<'a> File<'a> {
         })
     }
 
-    /// Whether a table may have what it has at a key, which is that part of the file, at one of that name: an array of tables has tables
-    /// alone, and no key is there twice.
+    /// Whether a table may have what it has at a key, which is that part of the file, at one of that name: an array of
+    /// tables has tables alone, and no key is there twice.
     fn may_be_renamed(&self, of: TablePlace, key: &str, part: Part<'_>, name: &str) -> bool {
         let own = self.table_at(of);
         let is_head = part.text.starts_with("[");
@@ -210,7 +211,8 @@ impl<'a> File<'a> {
         }
     }
 
-    /// Why a key is none of a table; of one that is meant to be an array of tables also how these are written, if nothing is proposed.
+    /// Why a key is none of a table; of one that is meant to be an array of tables also how these are written, if
+    /// nothing is proposed.
     fn unknown_reason(
         &self,
         of: TablePlace,
@@ -256,7 +258,8 @@ impl<'a> File<'a> {
         })
     }
 
-    /// The first item that has a name, in the arrays in which it may be before that of an item of one: the key of its array, and its number from 0.
+    /// The first item that has a name, in the arrays in which it may be before that of an item of one: the key of its
+    /// array, and its number from 0.
     fn first_named(&self, array: Array, name: &str) -> Option<(&'static str, usize)> {
         for other in named_arrays(array) {
             if let Some(before) = position_named(items_at(&self.table, other.key()), name) {
@@ -328,7 +331,8 @@ impl<'a> File<'a> {
         })
     }
 
-    /// Why an array as a whole is faulty, and what is marked: the first item that is too many, the region that does not fit, or the key.
+    /// Why an array as a whole is faulty, and what is marked: the first item that is too many, the region that does not
+    /// fit, or the key.
     fn array_reason(&self, array: Array, fault: FileFault) -> Made<(String, Option<Part<'a>>)> {
         let (alloc, key) = (self.alloc, array.key());
         match fault {
@@ -371,7 +375,7 @@ impl<'a> File<'a> {
         })
     }
 
-    /// What is wrong with an item of an array, which is no table.
+    /// What is wrong with an item of an array, which is not a table.
     fn wrong_item(&self, array: Array, item: usize) -> Made<Wrong<'a>> {
         Ok(Wrong {
             words: self.item_words(array, item)?,

@@ -44,7 +44,8 @@ fn argument(one: &Spoken<'_>, number: usize) -> Option<u32> {
     number_of(one.said.arguments.get(number).copied()?.as_bytes())
 }
 
-/// Why no region has the memory that AllocMem asks for, and the number of the argument that asks for too much; none if one has it.
+/// Why no region has the memory that AllocMem asks for, and the number of the argument that asks for too much; none if
+/// one has it.
 fn reason_of(
     alloc: Global,
     regions: &[Value],

@@ -1,4 +1,4 @@
-//! Lines to which nothing gets: they follow a jump or the end of the task, and are no labels.
+//! Lines to which nothing gets: they follow a jump or the end of the task, and are not labels.
 
 use crate::bodies::{Body, Spoken};
 use crate::made::Made;

@@ -17,7 +17,8 @@ fn add_read<'a>(read: &mut Variables<'a>, one: &Spoken<'a>, is_whole: bool) -> M
     Ok(())
 }
 
-/// Adds a warning for the variable that a line sets, if it is none of those that are read, and takes it as read from then on.
+/// Adds a warning for the variable that a line sets, if it is none of those that are read, and takes it as read from
+/// then on.
 fn add_unread_at<'a>(out: &mut Warnings, one: &Spoken<'a>, read: &mut Variables<'a>) -> Made<()> {
     let Some(name) = one.said.target else {
         return Ok(());
@@ -31,8 +32,8 @@ fn add_unread_at<'a>(out: &mut Warnings, one: &Spoken<'a>, read: &mut Variables<
     out.push(one.place, "unused-variable", advice)
 }
 
-/// Adds a warning for each variable that a body sets and that is none of those that are read: the shared ones that any body reads, those that its own
-/// body reads, and those with a warning.
+/// Adds a warning for each variable that a body sets and that is none of those that are read: the shared ones that any
+/// body reads, those that its own body reads, and those with a warning.
 pub(crate) fn add_unread<'a>(out: &mut Warnings, bodies: &[Body<'a>]) -> Made<()> {
     let mut read = Variables::new(out.alloc);
     for body in bodies {

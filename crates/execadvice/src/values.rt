@@ -71,7 +71,8 @@ pub(crate) fn is_begun_by_digit(text: &str) -> bool {
         .is_ascii_digit()
 }
 
-/// The number of digits, in the base that the sign before them has, or the letter of an assembler after them. It is in small letters.
+/// The number of digits, in the base that the sign before them has, or the letter of an assembler after them. It is in
+/// small letters.
 fn number_of_digits(text: &str) -> Option<u32> {
     for sign in ["0x", "$", "&h"] {
         if let Some(digits) = text.strip_prefix(sign) {

@@ -77,7 +77,8 @@ fn add_targets<'a>(set: &mut Variables<'a>, body: &Body<'a>) -> Made<()> {
     Ok(())
 }
 
-/// Adds a warning for each variable that a line reads and that is none of those that are set, and takes it as set from then on.
+/// Adds a warning for each variable that a line reads and that is none of those that are set, and takes it as set from
+/// then on.
 fn add_unset_at<'a>(out: &mut Warnings, one: &Spoken<'a>, set: &mut Variables<'a>) -> Made<()> {
     for number in 0..one.said.arguments.len() {
         let Some(name) = one.said.read_at(number) else {
@@ -94,8 +95,8 @@ fn add_unset_at<'a>(out: &mut Warnings, one: &Spoken<'a>, set: &mut Variables<'a
     Ok(())
 }
 
-/// Adds a warning for each variable that a body reads and that is none of those that are set: the shared ones that any body sets, those that its own
-/// body sets, and those with a warning.
+/// Adds a warning for each variable that a body reads and that is none of those that are set: the shared ones that any
+/// body sets, those that its own body sets, and those with a warning.
 fn add_unset<'a>(out: &mut Warnings, bodies: &[Body<'a>]) -> Made<()> {
     let mut set = shared_in(out.alloc, bodies)?;
     for body in bodies {
@@ -230,8 +231,8 @@ impl<'a> Names<'a> {
     }
 }
 
-/// Adds a warning of a name for each line that asks for a name which is none of these, with the nearest of them, until too many pairs were
-/// compared.
+/// Adds a warning of a name for each line that asks for a name which is none of these, with the nearest of them, until
+/// too many pairs were compared.
 fn add_unknown(
     out: &mut Warnings,
     asked: &[Quoted<'_>],
@@ -307,13 +308,14 @@ fn add_all(out: &mut Warnings, bodies: &[Body<'_>], table: &Table) -> Made<()> {
 
 /// What is worth a warning in a file that is accepted, each by the line, the part of it, and why; in this order:
 ///
-/// - variables that are read and never set, in the same body or, if they are shared, in any: the part of the first line that reads
-///   each;
+/// - variables that are read and never set, in the same body or, if they are shared, in any: the part of the first line
+///   that reads each;
 /// - variables that are set and never read, likewise: the first line that sets each;
-/// - labels that no line of their task jumps to, and lines that follow a jump or the end of the task, and are no labels;
+/// - labels that no line of their task jumps to, and lines that follow a jump or the end of the task, and are no
+///   labels;
 /// - tasks that never run: they are not added at the start, and no line has AddTask;
-/// - names that FindPort asks for, and no AddPort gives, names that FindTask asks for, and no task has, and names that OpenLibrary asks for, and
-///   no library has;
+/// - names that FindPort asks for, and no AddPort gives, names that FindTask asks for, and no task has, and names that
+///   OpenLibrary asks for, and no library has;
 /// - memory that no region has: of these attributes, or so much of it.
 pub(crate) fn warnings_of(alloc: Global, table: &Table) -> Made<Vec<Warning>> {
     let bodies = bodies_in(alloc, table)?;

@@ -72,7 +72,8 @@ pub(crate) fn words_begun(alloc: Global, text: &str) -> Made<Vec<&'static str>> 
     Ok(begun)
 }
 
-/// The text of the word that was likely meant, also with what an assembler has after a dot, or another language before it: one in full, the only one that begins so, or the nearest one.
+/// The text of the word that was likely meant, also with what an assembler has after a dot, or another language before
+/// it: one in full, the only one that begins so, or the nearest one.
 pub(crate) fn word_near(alloc: Global, text: &str) -> Made<Option<&'static str>> {
     let text = undotted(text);
     let texts = word_texts(alloc)?;

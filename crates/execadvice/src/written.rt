@@ -81,7 +81,8 @@ pub fn name_in(key: &Key, number: usize) -> &str {
     key.path.get(number).unwrap_or(&key.last).as_str()
 }
 
-/// Whether a key of a table, as it is written, is that name. In the head of a table below an item the name is the second part.
+/// Whether a key of a table, as it is written, is that name. In the head of a table below an item the name is the
+/// second part.
 fn is_key(alloc: Global, of: TablePlace, written: &str, name: &str) -> Made<bool> {
     let is_below = of != TablePlace::Top && written.starts_with("[");
     let inside = written.trim_start_matches('[').trim_start();
@@ -210,7 +211,8 @@ fn rest_of_escape(c: char) -> usize {
     }
 }
 
-/// The inside of a string without the white space that is left out before its next character, as it is after a backslash at the end of a line.
+/// The inside of a string without the white space that is left out before its next character, as it is after a
+/// backslash at the end of a line.
 fn unfolded(inside: &str, is_basic: bool) -> &str {
     let mut rest = inside;
     for _ in 0..inside.len() {
@@ -224,7 +226,8 @@ fn unfolded(inside: &str, is_basic: bool) -> &str {
     rest
 }
 
-/// What of the inside of a string is after its first character, or after the escape that is in its place in a basic string.
+/// What of the inside of a string is after its first character, or after the escape that is in its place in a basic
+/// string.
 fn after_character(inside: &str, is_basic: bool) -> &str {
     let mut characters = inside.chars();
     let width = match (characters.next(), characters.next()) {

@@ -14,6 +14,6 @@ of_option other is = absurd is
 pub by_memory : (refusal : Refusal) → refusal ≡ Command failure.NoMemory → IsOfWords refusal
 by_memory refusal is = rw is tt
 
--- and is no answer that was asked for
+-- and is not an answer that was asked for
 pub no_help_of_memory : (refusal : Refusal) → refusal ≡ Command failure.NoMemory → IsNoHelp refusal
 no_help_of_memory refusal is = rw is tt

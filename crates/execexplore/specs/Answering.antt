@@ -43,7 +43,8 @@ left_in f (Some part) = f.ways * part.number / part.of - f.ways * (part.number -
 abbrev pub is_mixed : (outcomes alerts : ℕ) → Bool
 is_mixed outcomes alerts = nat_lt 1 outcomes || nat_lt 0 alerts
 
--- The answer is that of the ways of a part of a frame: the text is the report of them, if the events of no outcome are asked for.
+-- The answer is that of the ways of a part of a frame: the text is the report of them, if the events of no outcome are
+-- asked for.
 pub record AnswersSearch (see : See) (part : Option Stretch) (events : Option ℕ) (frame : Frame) (answer : Answer) : Type 0 where
   pub names : Paths
   pub window : Window
@@ -70,7 +71,8 @@ pub record WritesFound (see : See) (part : Option Stretch) (events : Option ℕ)
   pub answers : AnswersSearch see part events frame answer
   pub writes : Writes answer before after status
 
--- Both texts were read, as far as it is reported what is at the paths, and the answer is that of a search of their frame.
+-- Both texts were read, as far as it is reported what is at the paths, and the answer is that of a search of their
+-- frame.
 pub record WritesSearch (text_at : TextAt) (paths : Paths) (options : Options) (before after : Held) (status : ℕ) : Type 0 where
   pub frame : Frame
   pub frames : FramesTexts text_at paths options frame
@@ -106,8 +108,8 @@ pub record RefusesText (text_at : TextAt) : Type 0 where
 abbrev pub WritesSome : See → Option Stretch → Option ℕ → Frame → Held → Held → Type 0
 WritesSome see part events frame before after = (status : ℕ) × WritesFound see part events frame before after status
 
--- In the place of what was asked for the answer of a search of these ways was written, whole, and the failure names that part; else nothing is said of
--- a part.
+-- In the place of what was asked for the answer of a search of these ways was written, whole, and the failure names
+-- that part; else nothing is said of a part.
 abbrev pub WritesPart : See → Option Stretch → Option ℕ → Frame → Held → Held → Stretch → Failure → Type 0
 WritesPart see ways events frame before after part (failure.IsPart named) = (named ≡ part) × WritesSome see ways events frame before after
 WritesPart see ways events frame before after part failure.WriteFailed = ⊤
@@ -119,7 +121,8 @@ WritesFront see asked events frame before after (failure.IsPart part) = (skip_in
 WritesFront see asked events frame before after failure.WriteFailed = ⊤
 WritesFront see asked events frame before after other = IsOfSearch other
 
--- The texts at two paths have a frame, and of a search of it the answer of a part was written whole, which begins where the search was to begin.
+-- The texts at two paths have a frame, and of a search of it the answer of a part was written whole, which begins where
+-- the search was to begin.
 pub record WritesPartOf (text_at : TextAt) (before after : Held) (part : Stretch) : Type 0 where
   pub paths : Paths
   pub options : Options

@@ -10,7 +10,8 @@ abbrev pub IsFromOne : Option ℕ → Type 0
 IsFromOne None = ⊤
 IsFromOne (Some number) = 1 ≤ number
 
--- The outcome that is asked for has a number from 1. That the extras and the part are in their range is said by their types.
+-- The outcome that is asked for has a number from 1. That the extras and the part are in their range is said by their
+-- types.
 abbrev pub IsInRange : Asked → Type 0
 IsInRange (Search paths options) = IsFromOne options.events
 IsInRange (Sum paths) = ⊤

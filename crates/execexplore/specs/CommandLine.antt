@@ -34,7 +34,7 @@ command_line = with_rule (with_flag (with_flag of_search (codes "sum")) (codes "
 pub record TakesWords (c : Command) : Type 0 where
   pub app : app_of c ≡ command_line
 
--- what `clap` says is no answer that was asked for
+-- what `clap` says is not an answer that was asked for
 abbrev pub IsNoHelp : Refusal → Type 0
 IsNoHelp (refusal.Words error) = IsNoAnswer error
 IsNoHelp (refusal.Command failure) = ⊤

@@ -50,7 +50,8 @@ pub record IsFrameOf (machine events : List ℕ) (options : Options) (frame : Fr
   pub machine_digest : string_bytes frame.machine ≡ encode_lower (sha256 machine)
   pub events_digest : string_bytes frame.events ≡ encode_lower (sha256 events)
 
--- Memory was refused, a text is refused by its fault, the machine file first, or the options ask for what is not searched.
+-- Memory was refused, a text is refused by its fault, the machine file first, or the options ask for what is not
+-- searched.
 abbrev pub IsOfFrame : (machine events : List ℕ) → Option (Bor (List ℕ)) → Failure → Type 0
 IsOfFrame machine events of failure.NoMemory = ⊤
 IsOfFrame machine events of (failure.Machine fault) = file_of machine ≡ Err fault

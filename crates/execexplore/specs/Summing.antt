@@ -17,8 +17,8 @@ AreAt text_at [] (report ∷ reports) = ⊥
 AreAt text_at (path ∷ paths) [] = ⊥
 AreAt text_at (path ∷ paths) (report ∷ reports) = IsAt text_at path.now report × AreAt text_at paths reports
 
--- The reports at the paths are those of all parts of a search, and what is printed is the report of the whole. It is mixed if there are several
--- outcomes, or an alert.
+-- The reports at the paths are those of all parts of a search, and what is printed is the report of the whole. It is
+-- mixed if there are several outcomes, or an alert.
 pub record SumsTexts (text_at : TextAt) (paths : List (Bor (List ℕ))) (answer : Answer) : Type 0 where
   pub reports : List Report
   pub whole : Report

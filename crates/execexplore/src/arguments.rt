@@ -66,7 +66,8 @@ fn end_with<'a, W: Write>(answer: &Answer, out: &mut W) -> Result<u8, Failure<'a
     }
 }
 
-/// Makes a search of the ways of a frame that the options ask for. It reports how far it is if that is asked for, or if `err` is a terminal.
+/// Makes a search of the ways of a frame that the options ask for. It reports how far it is if that is asked for, or if
+/// `err` is a terminal.
 fn answer_of<'a, C: Clock, E: Write + IsTerminal>(
     clock: &C,
     alloc: Global,
@@ -84,7 +85,8 @@ fn answer_of<'a, C: Clock, E: Write + IsTerminal>(
     searched(alloc, paths.names(), options, frame, window, watcher)
 }
 
-/// Writes what a search of a part prints, in the place of one of more ways, of which this number were tried. It is no answer to what was asked.
+/// Writes what a search of a part prints, in the place of one of more ways, of which this number were tried. It is no
+/// answer to what was asked.
 #[tactic(auto, using(crate::proofs::SearchLemmas::part_of_search))]
 fn write_part<'a, C: Clock, W: Write, E: Write + IsTerminal>(
     clock: &C,
@@ -110,8 +112,8 @@ fn write_part<'a, C: Clock, W: Write, E: Write + IsTerminal>(
     }
 }
 
-/// Writes what is printed of the first ways of a search whose outcomes take too many bytes: of the largest part that was tried whole. It is searched
-/// once more.
+/// Writes what is printed of the first ways of a search whose outcomes take too many bytes: of the largest part that
+/// was tried whole. It is searched once more.
 #[tactic(auto, using(crate::proofs::SearchLemmas::front_written))]
 fn write_front<'a, C: Clock, W: Write, E: Write + IsTerminal>(
     clock: &C,
@@ -311,9 +313,9 @@ fn end_asked<T: Texts, C: Clock, W: Write, E: Write + IsTerminal>(
     }
 }
 
-/// Does what the words of a command line ask for, over any texts and any clock, and answers the status: 0 with one outcome and no alert, or
-/// after the help, 1 if a text is refused, 2 if the command line is or if a search is too large, 3 with several outcomes or an alert, and 4 if memory,
-/// reading or writing failed.
+/// Does what the words of a command line ask for, over any texts and any clock, and answers the status: 0 with one
+/// outcome and no alert, or after the help, 1 if a text is refused, 2 if the command line is or if a search is too
+/// large, 3 with several outcomes or an alert, and 4 if memory, reading or writing failed.
 ///
 /// Source: project rule.
 pub fn run_on_texts<T: Texts, C: Clock, W: Write, E: Write + IsTerminal>(
@@ -376,8 +378,8 @@ fn run_buffered<R: Env + Files + Clock + AllocGlobal, W: Write + Drop, E: Write 
     Ok(status)
 }
 
-/// Runs the command on the process's arguments, and answers the status with which it ends. Arguments that are no text are refused as a
-/// command line is.
+/// Runs the command on the process's arguments, and answers the status with which it ends. Arguments that are not text
+/// are refused as a command line is.
 ///
 /// Source: project rule.
 pub fn run_on_arguments<

@@ -39,7 +39,7 @@ pub enum Failure<'a> {
     TooManyTicks(u64),
     /// The outcome of this number is wanted, and there are fewer.
     NoOutcome(u64, usize),
-    /// The text at this path is no report that can be summed, and why.
+    /// The text at this path is not a report that can be summed, and why.
     NotAReport(ReportFault, &'a str),
     /// The reports have no sum; the path is that of the report that is meant, if one is.
     NoSum(SumFault, Option<&'a str>),
@@ -161,7 +161,7 @@ fn show_no_sum<W: fmt::Write>(
     }
 }
 
-/// Writes why a text is no report that can be summed.
+/// Writes why a text is not a report that can be summed.
 fn show_not_a_report<W: fmt::Write>(
     fault: ReportFault,
     path: &str,

@@ -32,7 +32,8 @@ fn is_front(ways: u64, window: Window, part: Stretch, most: u64) -> bool
     front.skip == window.skip && front.left >= 1 && front.left <= most
 }
 
-/// The first of that many parts of a part, if it begins where a search does, and has at least one way and at most `most`.
+/// The first of that many parts of a part, if it begins where a search does, and has at least one way and at most
+/// `most`.
 fn front_of(ways: u64, window: Window, part: Stretch, parts: u64, most: u64) -> Option<Stretch>
     requires { ways ≤ 1099511627776 }
     ensures { IfSome result (IsFront ways window most) }
@@ -53,8 +54,8 @@ fn part_or_all(part: Option<Stretch>) -> Stretch {
     }
 }
 
-/// The part whose ways are the first of a search, at most as many as were tried and at least one: the largest that is one of equal parts of what was
-/// asked for. None if there is no such part.
+/// The part whose ways are the first of a search, at most as many as were tried and at least one: the largest that is
+/// one of equal parts of what was asked for. None if there is no such part.
 ///
 /// Source: project rule.
 pub fn part_that_fits(

@@ -1,4 +1,5 @@
-//! The command `execexplore`: every way in which interrupts can come among the events of a run, and what is seen of each.
+//! The command `execexplore`: every way in which interrupts can come among the events of a run, and what is seen of
+//! each.
 #![tactic(auto)]
 
 mod arguments;

@@ -5,7 +5,8 @@ use std::rt::Clock;
 use std::time::{Duration, Instant};
 use ways::{MOST_BYTES, Watcher};
 
-/// Reports, at most once a second, the ways tried of the total, the outcomes found, and the time that the rest may take.
+/// Reports, at most once a second, the ways tried of the total, the outcomes found, and the time that the rest may
+/// take.
 #[derive(Drop)]
 pub struct Progress<'a, R, E> {
     alloc: Global,

@@ -127,8 +127,8 @@ fn answer_of(alloc: Global, report: &Report) -> Result<Answer, AllocError>
 ///
 /// # Errors
 ///
-/// `NoMemory` if memory is refused, `CannotRead` and `NotAReport` of the first path of which this is so, and `NoSum` if the reports are not those of
-/// all parts of a search.
+/// `NoMemory` if memory is refused, `CannotRead` and `NotAReport` of the first path of which this is so, and `NoSum` if
+/// the reports are not those of all parts of a search.
 ///
 /// Source: project rule.
 #[tactic(auto, using(crate::proofs::SumLemmas::sum_by_memory))]

@@ -1,5 +1,5 @@
--- The log of a run: an entry for the start, and one for each step, tick and request of an interrupt, with when it was, which command it was, and
--- the lines that it printed.
+-- The log of a run: an entry for the start, and one for each step, tick and request of an interrupt, with when it was,
+-- which command it was, and the lines that it printed.
 use Rattle.std.specs.Prelude.{◌≡◌, ℕ, suc, ◌||◌, if◌then◌else◌, nat_lt, is_some, List, [], ◌∷◌, ◌++◌, length, replicate, Option, None, Some, flat_map}
 use Rattle.exectrace.specs.Trace.{printed}
 use Rattle.script.specs.declared.event.Event.TheVariants.{Run, Tick, Irq}

@@ -43,24 +43,28 @@ abbrev pub source_column : ℕ → List ℕ → List ℕ
 source_column taken [] = []
 source_column taken (c ∷ source) = replicate (43 - taken) 32 ++ codes "  " ++ c ∷ source
 
--- how many of the spaces before the text of a command a line of the trace takes the place of, at most; with no text there are none
+-- how many of the spaces before the text of a command a line of the trace takes the place of, at most; with no text
+-- there are none
 abbrev pub gap_of : List ℕ → ℕ
 gap_of [] = 0
 gap_of (c ∷ source) = 43
 
--- The bytes are the column of a line, and what is after a line of the trace that has no byte: the text of its command, and the line feed.
+-- The bytes are the column of a line, and what is after a line of the trace that has no byte: the text of its command,
+-- and the line feed.
 pub record IsFrame (line : Option ℕ) (source before after : List ℕ) (gap : ℕ) : Type 0 where
   pub before_is : before ≡ line_column line ++ codes "  "
   pub after_is : after ≡ source_column 0 source ++ 10 ∷ []
   pub gap_is : gap ≡ gap_of source
 
--- The cells have, from their first on, what is before and after a line of the trace that has no byte; and the line begins at a place.
+-- The cells have, from their first on, what is before and after a line of the trace that has no byte; and the line
+-- begins at a place.
 pub record IsSheet (before after cells : List ℕ) (at len : ℕ) : Type 0 where
   pub at_is : at ≡ length before
   pub len_is : len ≡ length before + length after
   pub cells_are : take len cells ≡ before ++ after
 
--- The room has, from a place on, the columns of a number and a time and 128 spaces; the last digit of the number is at another place.
+-- The room has, from a place on, the columns of a number and a time and 128 spaces; the last digit of the number is at
+-- another place.
 pub record IsHead (number clock tens start last : ℕ) (room : List ℕ) : Type 0 where
   pub small : number < 2 ^ 64
   pub roomy : length room ≡ 192

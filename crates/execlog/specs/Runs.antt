@@ -29,7 +29,8 @@ pub record Wrote (Goes : List ℕ → Type 0) (Shows : List ℕ → Type 0) : Ty
   pub shows : Shows bytes
   pub goes : Goes bytes
 
--- The machine goes on over some events, one after another, and bytes that show their entries are added, before which there were that many entries.
+-- The machine goes on over some events, one after another, and bytes that show their entries are added, before which
+-- there were that many entries.
 pub record Logs (shows : Entry → List ℕ → Type 0) (list : List Event) (n : ℕ) (old new : Seen) (before after : Output) : Type 0 where
   pub agrees : (s : State) → Agrees old s → Agrees new (events list s).state
   pub puts : (s : State) → Agrees old s → Wrote (Extends before after) (ShowsLog shows (entries_after n list s))

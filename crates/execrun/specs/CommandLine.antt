@@ -52,14 +52,14 @@ AreRight app words = fault_of app words ≡ []
 abbrev pub AskForHelp : App → List Text → Type 0
 AskForHelp app words = fault_of app words ≡ DisplayHelp ∷ []
 
--- the words are no command line for a program, and do not ask for help before that shows
+-- the words are not a command line for a program, and do not ask for help before that shows
 pub record AreRefused (app : App) (words : List Text) : Type 0 where
   pub kind : ErrorKind
   pub only : fault_of app words ≡ kind ∷ []
   pub no_help : kind ≢ DisplayHelp
   pub no_version : kind ≢ DisplayVersion
 
--- this error of `clap` is no answer that was asked for
+-- this error of `clap` is not an answer that was asked for
 pub record IsNoAnswer (error : Error) : Type 0 where
   pub no_help : kind_of error ≢ DisplayHelp
   pub no_version : kind_of error ≢ DisplayVersion

@@ -35,8 +35,8 @@ IsSilent ending.Done = ⊤
 IsSilent ending.Alerted = ⊤
 IsSilent ending = ⊥
 
--- What a writer has after all that there is to say of an end was written to it: the line of a fault, and else nothing. Which text says why a
--- command line is refused, `clap` alone says.
+-- What a writer has after all that there is to say of an end was written to it: the line of a fault, and else nothing.
+-- Which text says why a command line is refused, `clap` alone says.
 abbrev pub Says : Option (List ℕ) → Option (List ℕ) → Ending → Type 0
 Says before after ending.Done = Keeps before after
 Says before after ending.Alerted = Keeps before after

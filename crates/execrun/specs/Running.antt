@@ -1,4 +1,5 @@
--- What the program does with two paths: the files that it reads, the trace that it writes, and the end that comes of it.
+-- What the program does with two paths: the files that it reads, the trace that it writes, and the end that comes of
+-- it.
 use Rattle.std.specs.{Borrow.Bor, Io.KnownBytes.Appends, Io.KnownBytes.Keeps}
 use Rattle.std.specs.Prelude.{◌≡◌, ◌≤◌, ◌⊎◌, ℕ, Bool, true, false, List, length, codes, Option, Some, Result, Ok, Err}
 use Rattle.clap.specs.Words.{Text, first_of, matches_of}
@@ -22,8 +23,9 @@ answer_of (Ok how) true = Ok how
 answer_of (Ok how) false = Err WriteFailed
 answer_of (Err why) flushed = Err (fault_of why)
 
--- The writer took what the headline says of the run of these two texts, by a good sink over what it held before, and it still holds
--- this after the flush. The answer is the simulator's, but for a trace that could not be flushed, which is a failed write.
+-- The writer took what the headline says of the run of these two texts, by a good sink over what it held before, and it
+-- still holds this after the flush. The answer is the simulator's, but for a trace that could not be flushed, which is
+-- a failed write.
 pub record WritesTrace (machine events : List ℕ) (before after : Held) (result : Result End Fault) : Type 0 where
   pub ended : Result End SimFault
   pub sink : Tape
@@ -32,8 +34,8 @@ pub record WritesTrace (machine events : List ℕ) (before after : Held) (result
   pub flushed : Bool
   pub answers : result ≡ answer_of ended flushed
 
--- Both texts were read, and the trace of their run was written: it is that of the machine at the one path over the events at the other,
--- as far as it is reported what is there, and both are within the limit.
+-- Both texts were read, and the trace of their run was written: it is that of the machine at the one path over the
+-- events at the other, as far as it is reported what is there, and both are within the limit.
 pub record RunsFiles (text_at : TextAt) (paths : Paths) (before after : Held) (result : Result End Fault) : Type 0 where
   pub machine : List ℕ
   pub events : List ℕ
@@ -78,8 +80,8 @@ pub record EndsRun (text_at : TextAt) (words : List Text) (before after : Held) 
   pub status : code ≡ code_of (status_of ending)
   pub runs : RunsWords text_at words before after ending
 
--- The writer took the whole trace of the run of the two texts whose paths the words give, as the headline says of a run that ends so, and
--- holds it after the flush.
+-- The writer took the whole trace of the run of the two texts whose paths the words give, as the headline says of a run
+-- that ends so, and holds it after the flush.
 pub record WritesWhole (text_at : TextAt) (words : List Text) (before after : Held) (how : End) : Type 0 where
   pub paths : Paths
   pub given : AreGivenBy words paths

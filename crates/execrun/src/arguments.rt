@@ -20,7 +20,7 @@ use std::{env, io};
 ///
 /// # Errors
 ///
-/// An error of the kind `OutOfMemory` if memory is refused, and another if the arguments are no text.
+/// An error of the kind `OutOfMemory` if memory is refused, and another if the arguments are not text.
 fn run_buffered<R: Env + Files + AllocGlobal, W: Write + Drop, E: Write>(
     rt: &R,
     out: W,
@@ -57,7 +57,7 @@ fn ending_without_words<'a>(alloc: Global, error: &io::Error) -> Ending<'a>
 
 /// Runs the program on the process's arguments, and answers the status with which it ends.
 ///
-/// Arguments that are no text are refused as a command line is.
+/// Arguments that are not text are refused as a command line is.
 pub fn run_on_arguments<R: Env + Files + AllocGlobal, W: Write + Drop, E: Write>(
     rt: &R,
     out: W,

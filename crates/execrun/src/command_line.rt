@@ -85,7 +85,8 @@ fn error_of_kind(alloc: Global, error: Error, kind: ErrorKind) -> Result<Error, 
     bare_error(alloc, kind)
 }
 
-/// What `clap` answers to words as they are shown, if it refuses them as they were refused, or a refusal that has none of them.
+/// What `clap` answers to words as they are shown, if it refuses them as they were refused, or a refusal that has none
+/// of them.
 fn error_over(alloc: Global, words: &[String], kind: ErrorKind) -> Result<Error, AllocError>
     ensures { IfOk result (λ error. kind_of error ≡ kind) }
 {
@@ -109,8 +110,8 @@ fn error_shown(alloc: Global, words: &[&str], error: Error) -> Result<Error, All
 ///
 /// # Errors
 ///
-/// What `clap` answers, with the words as they are shown: the text of the help if it is asked for, a mistake in the words, or that memory was
-/// refused.
+/// What `clap` answers, with the words as they are shown: the text of the help if it is asked for, a mistake in the
+/// words, or that memory was refused.
 #[tactic(auto, using(crate::proofs::CommandLemmas::fails_as_shown))]
 pub fn paths_given<'a>(alloc: Global, words: &'a [&'a str]) -> Result<Paths<'a>, Error>
     ensures given { IfOk result (AreGivenBy (texts words.now)) }
@@ -122,7 +123,7 @@ pub fn paths_given<'a>(alloc: Global, words: &'a [&'a str]) -> Result<Paths<'a>,
     }
 }
 
-/// The error of a command line whose words are no text.
+/// The error of a command line whose words are not text.
 pub fn not_text_error(alloc: Global) -> Result<Error, AllocError>
     ensures { IfOk result (λ error. kind_of error ≡ ErrorKind.InvalidValue) }
 {
@@ -144,7 +145,8 @@ fn write_text<W: Write>(text: &str, out: &mut W) -> io::Result<()>
 ///
 /// # Errors
 ///
-/// `NoMemory` if memory for the text is refused, and nothing is written then; `WriteFailed` if the text cannot be written.
+/// `NoMemory` if memory for the text is refused, and nothing is written then; `WriteFailed` if the text cannot be
+/// written.
 pub fn write_answer<'a, W: Write>(
     alloc: Global,
     answer: &Error,

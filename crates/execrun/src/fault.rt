@@ -1,4 +1,5 @@
-//! What can go wrong once the command line is right, and the line that says so. A path is shown as a terminal may get it.
+//! What can go wrong once the command line is right, and the line that says so. A path is shown as a terminal may get
+//! it.
 ghost use Rattle.std.specs.Prelude.{◌≡◌, Some};
 
 use escape::Shown;

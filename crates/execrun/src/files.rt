@@ -39,7 +39,8 @@ fn read_open<R: Read + Drop>(alloc: Global, text: R) -> Result<Vec<u8>, TextFaul
 ///
 /// # Errors
 ///
-/// `NoMemory` if memory is refused, and `CannotRead` if the text cannot be opened or read, or is longer, with the system's reason.
+/// `NoMemory` if memory is refused, and `CannotRead` if the text cannot be opened or read, or is longer, with the
+/// system's reason.
 #[tactic(auto, using(crate::proofs::ReadLemmas::read_whole))]
 pub fn read_text<T: Texts>(texts: &T, alloc: Global, path: &str) -> Result<Vec<u8>, TextFault>
     ensures whole { IfOk result (λ bytes. IsTextAt (T.text_at texts.now) path.now bytes.items) }

@@ -5,9 +5,9 @@ use std::io::Write;
 
 /// A writer that is lent.
 ///
-/// Code that is generic over writers promises of one only what it holds afterwards, and not that it is still the same loan.
-/// So what this one reports begins with the name of its loan, a number that proofs alone see: who takes it back knows whose bytes
-/// these are.
+/// Code that is generic over writers promises of one only what it holds afterwards, and not that it is still the same
+/// loan. So what this one reports begins with the name of its loan, a number that proofs alone see: who takes it back
+/// knows whose bytes these are.
 #[derive(Drop)]
 pub struct Lent<'a, W> {
     /// The loan.

@@ -1,4 +1,5 @@
-//! The program `execsim` whole, over any texts, any words and any two writers: command line, files, statuses and messages.
+//! The program `execsim` whole, over any texts, any words and any two writers: command line, files, statuses and
+//! messages.
 #![tactic(auto)]
 
 mod arguments;

@@ -58,7 +58,8 @@ fn fill<T: Text>(room: &mut [u8], text: &T) -> Option<usize>
     text.fill(cells)
 }
 
-/// Writes a text over the cells from a place on, if 160 are left there, and it is found to fit them. The answer is where it ends.
+/// Writes a text over the cells from a place on, if 160 are left there, and it is found to fit them. The answer is
+/// where it ends.
 #[inline(always)]
 fn fill_at<T: Text>(cells: &mut [u8], at: usize, text: &T) -> Option<usize>
     requires { at ≤ length cells.old }
@@ -190,8 +191,8 @@ impl<W: Write> Paged<W> {
         self.page.as_slice().is_empty()
     }
 
-    /// Adds bytes of any length to the page. If they have no room there, hands the page over first, and then bytes that are longer than a
-    /// page too. Answers how many of these were taken, or none if a write failed.
+    /// Adds bytes of any length to the page. If they have no room there, hands the page over first, and then bytes that
+    /// are longer than a page too. Answers how many of these were taken, or none if a write failed.
     #[inline(never)]
     fn write_any(&mut self, bytes: &[u8]) -> Option<usize>
         ensures within { IfSome result (λ n. n ≤ length bytes.now) }

@@ -18,7 +18,8 @@ use std::alloc::Global;
 use std::io::Write;
 use std::rt::Files;
 
-/// Reads the machine file, and then the event text, and writes the trace of their run. Nothing is judged before both are read.
+/// Reads the machine file, and then the event text, and writes the trace of their run. Nothing is judged before both
+/// are read.
 fn simulate_files<'a, T: Texts, W: Write, P: Tracing<W>>(
     texts: &T,
     alloc: Global,
@@ -78,10 +79,11 @@ fn ending_of<'a, T: Texts, W: Write, P: Tracing<W>>(
     }
 }
 
-/// Runs the program over any texts on the words of its command line, without its own name, and answers the status with which it
-/// ends. The trace is written in that way.
+/// Runs the program over any texts on the words of its command line, without its own name, and answers the status with
+/// which it ends. The trace is written in that way.
 ///
-/// The trace, or the help, goes to `out`, and is flushed. What went wrong goes to `err`, where a write that fails changes nothing.
+/// The trace, or the help, goes to `out`, and is flushed. What went wrong goes to `err`, where a write that fails
+/// changes nothing.
 pub(crate) fn run_by<T: Texts, W: Write, E: Write, P: Tracing<W>>(
     texts: &T,
     alloc: Global,
@@ -104,10 +106,11 @@ pub(crate) fn run_by<T: Texts, W: Write, E: Write, P: Tracing<W>>(
     report(&ending_of::<T, W, P>(texts, alloc, words, out), err).code()
 }
 
-/// Runs the program over any texts on the words of its command line, without its own name, and answers the status with which it
-/// ends.
+/// Runs the program over any texts on the words of its command line, without its own name, and answers the status with
+/// which it ends.
 ///
-/// The trace, or the help, goes to `out`, and is flushed. What went wrong goes to `err`, where a write that fails changes nothing.
+/// The trace, or the help, goes to `out`, and is flushed. What went wrong goes to `err`, where a write that fails
+/// changes nothing.
 pub fn run_on_texts<T: Texts, W: Write, E: Write>(
     texts: &T,
     alloc: Global,
@@ -130,10 +133,11 @@ pub fn run_on_texts<T: Texts, W: Write, E: Write>(
     run_by::<T, W, E, ByLine>(texts, alloc, words, out, err)
 }
 
-/// Runs the program over the system's files on the words of its command line, without its own name, and answers the status with
-/// which it ends.
+/// Runs the program over the system's files on the words of its command line, without its own name, and answers the
+/// status with which it ends.
 ///
-/// The trace, or the help, goes to `out`, and is flushed. What went wrong goes to `err`, where a write that fails changes nothing.
+/// The trace, or the help, goes to `out`, and is flushed. What went wrong goes to `err`, where a write that fails
+/// changes nothing.
 pub fn run<R: Files, W: Write, E: Write>(
     rt: &R,
     alloc: Global,

@@ -31,8 +31,8 @@ pub(crate) trait Tracing<W: Write> {
     ///
     /// # Errors
     ///
-    /// The simulator's fault, and otherwise `WriteFailed` if what was written cannot be flushed. What was written before a fault
-    /// is flushed too.
+    /// The simulator's fault, and otherwise `WriteFailed` if what was written cannot be flushed. What was written
+    /// before a fault is flushed too.
     fn write_trace<'a>(
         alloc: Global,
         machine: &[u8],

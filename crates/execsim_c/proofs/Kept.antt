@@ -1,4 +1,5 @@
--- The machine values of a handle, and the two ways that it is: at null with no session, or at the block of one. Assumes `Logic`.
+-- The machine values of a handle, and the two ways that it is: at null with no session, or at the block of one. Assumes
+-- `Logic`.
 use Rattle.std.proofs.Common.{◌≡◌, ℕ, List, [], ◌∷◌, ◌++◌, refl, subst, lit<, None, Some}
 use mathlib.Core.Bool.{true, ◌&&◌}
 use lib.Dec.{T}

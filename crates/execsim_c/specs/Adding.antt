@@ -5,8 +5,8 @@ use Rattle.execmodel.specs.{Feeding.Adds, Feeding.does_input, Tasks.is_priority}
 use Rattle.execsim.specs.Adding.{new_task, seen_with_new}
 use Rattle.execsim_c.specs.{Held.Kept, Stepping.Does, declared.session.Session.Session}
 
--- A task is the last one of a machine that goes on, it was never added, and nothing else changes; so the machine goes on as the law of machines to
--- which tasks are added says.
+-- A task is the last one of a machine that goes on, it was never added, and nothing else changes; so the machine goes
+-- on as the law of machines to which tasks are added says.
 pub record AddsTask (task : TaskData) (old new : Session) : Type 0 where
   pub going : old.machine.seen.stopped ≡ false
   pub machine : new.machine ≡ record old.machine { seen = seen_with_new task old.machine.seen }
@@ -22,6 +22,6 @@ pub record HasAdded (name : List ℕ) (pri : ℤ) (number : ℕ) (before now : K
   pub number_is : number ≡ length old.machine.seen.scripts.programs
   pub adds : AddsTask (new_task name pri) old new
 
--- a name that no machine file has, or that is no text; or a priority that no task has
+-- a name that no machine file has, or that is not text; or a priority that no task has
 abbrev pub CannotBeAdded : List ℕ → ℤ → Type 0
 CannotBeAdded name pri = (IsUtf8 name → is_name name ≡ false) ⊎ (is_priority pri ≡ false)

@@ -5,7 +5,8 @@ use Rattle.taskscript.specs.{declared.fault.FileFault.FileFault, declared.fault.
 use Rattle.execadvice.specs.Findings.{fault_of}
 use Rattle.runadvice.specs.Ends.{ends_by_alert}
 
--- The status is 1 exactly if the machine file is refused, and 2 exactly if the event text alone is; an alert is not passed over.
+-- The status is 1 exactly if the machine file is refused, and 2 exactly if the event text alone is; an alert is not
+-- passed over.
 pub record Judges (file : Result MachineData FileFault) (script : Result (List Event) EventFault) (status : ℕ) : Type 0 where
   pub machine : (status ≡ 1) ↔ IsSome (fault_of file)
   pub events : (status ≡ 2) ↔ ((fault_of file ≡ None) × IsSome (fault_of script))

@@ -7,8 +7,8 @@ use Rattle.execmodel.specs.Feeding as model
 use Rattle.execsim.specs.Readers.{task_seen}
 use Rattle.execsim_c.specs.{Held.Kept, Stepping.Does, declared.session.Session.Session}
 
--- The command is the last one of the body of a task that is there, and nothing else changes; so the machine goes on as the law of machines whose bodies
--- grow says.
+-- The command is the last one of the body of a task that is there, and nothing else changes; so the machine goes on as
+-- the law of machines whose bodies grow says.
 pub record FeedsCommand (task : ℕ) (command : CommandData) (old new : Session) : Type 0 where
   pub there : IsSome (task_seen task old.machine.seen)
   pub machine : new.machine ≡ record old.machine { seen = record old.machine.seen { scripts = fed_to task command old.machine.seen.scripts } }

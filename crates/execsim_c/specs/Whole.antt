@@ -25,8 +25,8 @@ pub record IsRunOf (machine : MachineData) (list : List Event) (seen : Seen) (li
   pub agrees : Agrees seen (run machine list).state
   pub prints : lines ≡ printed (run machine list).lines
 
--- A machine that has started, and with which then all that came in time, is that of the whole file over the events that came; its lines, if none were
--- taken, are those of that run.
+-- A machine that has started, and with which then all that came in time, is that of the whole file over the events that
+-- came; its lines, if none were taken, are those of that run.
 abbrev pub GrownMachinesAreWhole : Type 0
 GrownMachinesAreWhole =
     (machine : MachineData) (list : List Input) → IsMachine machine → ComeInTime list (starts (booted machine)).state

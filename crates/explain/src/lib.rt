@@ -1,4 +1,5 @@
-//! What each fault, alert and warning is that a text or a run may have, with texts that show it and texts in which it is mended.
+//! What each fault, alert and warning is that a text or a run may have, with texts that show it and texts in which it
+//! is mended.
 #![tactic(auto)]
 
 mod alerts;

@@ -40,7 +40,8 @@ const VALUE: u32 = 12;
 
 const REFERENCE: u32 = 18;
 
-/// What is written after some parts of a line, of which the last is not done and the first is a word or what may be one.
+/// What is written after some parts of a line, of which the last is not done and the first is a word or what may be
+/// one.
 fn argument_after(parts: &[&str]) -> Wanted {
     match parts {
         [] | [_] => Wanted::Word,

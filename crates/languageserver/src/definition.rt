@@ -1,4 +1,5 @@
-//! Where what is at a place of a line of code comes from: a label's line, the lines that set a variable, what has a name.
+//! Where what is at a place of a line of code comes from: a label's line, the lines that set a variable, what has a
+//! name.
 
 use crate::code::CodeLine;
 use crate::made::Made;

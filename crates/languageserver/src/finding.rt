@@ -1,4 +1,5 @@
-//! What is found in a document: what is wrong with its text, and of a machine file with an event text beside it what is wrong with the run.
+//! What is found in a document: what is wrong with its text, and of a machine file with an event text beside it what is
+//! wrong with the run.
 
 use crate::documents::Documents;
 use crate::made::Made;

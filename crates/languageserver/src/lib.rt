@@ -1,5 +1,5 @@
-//! A language server for machine files and event texts: what an editor asks by the Language Server Protocol, and what it is answered. It knows
-//! of no file and of no run: these are given to it.
+//! A language server for machine files and event texts: what an editor asks by the Language Server Protocol, and what
+//! it is answered. It knows of no file and of no run: these are given to it.
 #![tactic(auto)]
 
 mod actions;

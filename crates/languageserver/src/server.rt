@@ -98,9 +98,11 @@ fn take_next<O: Outside, R: Read + Drop, W: Write>(
     }
 }
 
-/// Serves an editor: takes its messages, in the frames of the protocol, and writes what there is to say, until the editor has it end or goes away.
+/// Serves an editor: takes its messages, in the frames of the protocol, and writes what there is to say, until the
+/// editor has it end or goes away.
 ///
-/// A document is looked at when no more whole messages are here, so of several changes that have come the last one counts.
+/// A document is looked at when no more whole messages are here, so of several changes that have come the last one
+/// counts.
 ///
 /// # Errors
 ///

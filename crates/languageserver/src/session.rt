@@ -1,5 +1,5 @@
-//! What a server knows: the documents that are open, and how far the talk with the editor is. It takes one message after another, and keeps what
-//! it has to say.
+//! What a server knows: the documents that are open, and how far the talk with the editor is. It takes one message
+//! after another, and keeps what it has to say.
 
 use crate::documents::Documents;
 use crate::finding::{Outside, found_in};

@@ -10,7 +10,8 @@ use taskscript::{LinePlace, Owner};
 /// Where a place of a text is in its code.
 #[derive(Drop)]
 pub struct Spot {
-    /// The place of the line of code; of a line whose string is not closed, what has the line and the number of the next one.
+    /// The place of the line of code; of a line whose string is not closed, what has the line and the number of the
+    /// next one.
     pub place: LinePlace,
     /// The line of code; of one whose string is not closed, what of it is before the place.
     pub code: String,
@@ -72,7 +73,8 @@ impl Query<'_> {
     /// How many characters of a line of code are before a place, if the line has `count`.
     fn characters_before(&self, place: LinePlace, count: usize, at: FilePlace) -> usize {
         let (mut low, mut high) = (0usize, count.saturating_add(1));
-        // The character `low` is not after the place, and `high` is or is none: the middle one halves what is between them.
+        // The character `low` is not after the place, and `high` is or is none: the middle one halves what is between
+        // them.
         for _ in 0..usize::BITS {
             let middle = low.midpoint(high);
             if middle == low {
@@ -141,7 +143,8 @@ impl Query<'_> {
         }
     }
 
-    /// The string that is not closed before a place, and the place of its first character, if one begins in the line after a column.
+    /// The string that is not closed before a place, and the place of its first character, if one begins in the line
+    /// after a column.
     fn open_string(&self, column: usize, at: FilePlace) -> Made<Option<(String, FilePlace)>> {
         let count = at.column.saturating_sub(column);
         let typed: String = self
@@ -162,7 +165,8 @@ impl Query<'_> {
         Ok(Some((code, first)))
     }
 
-    /// Where a place is in a line whose string is not closed: what is typed of a string that begins in the same line of the text.
+    /// Where a place is in a line whose string is not closed: what is typed of a string that begins in the same line of
+    /// the text.
     fn open_spot(&self, at: FilePlace) -> Made<Option<Spot>> {
         let Some(owner) = self.last_owner(at) else {
             return Ok(None);

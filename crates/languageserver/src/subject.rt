@@ -122,7 +122,7 @@ fn subject_of<'a>(
     }
 }
 
-/// What is at a place of a line of code, before which are so many of its characters.
+/// What is at a place of a line of code, before which are that many of its characters.
 pub(crate) fn subject_at<'a>(
     alloc: Global,
     code: &'a str,

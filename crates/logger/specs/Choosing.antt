@@ -12,8 +12,8 @@ abbrev pub IsPast : Option ℕ → (last : ℕ) → Type 0
 IsPast None last = ⊥
 IsPast (Some number) last = last < number
 
--- The run has the steps that the options name, in that order, and these are chosen, or its first and its last one; and a line and a name are chosen
--- if they are given.
+-- The run has the steps that the options name, in that order, and these are chosen, or its first and its last one; and
+-- a line and a name are chosen if they are given.
 pub record Chooses (options : Options) (last : ℕ) (choice : Choice) : Type 0 where
   pub has_from : IsWithin options.from last
   pub has_to : IsWithin options.to last

@@ -13,7 +13,8 @@ use Rattle.execrun.specs.declared.unread.TextFault.TheVariants as text
 use Rattle.logger.specs.declared.failure.Failure.{Failure}
 use Rattle.logger.specs.declared.failure.Failure.TheVariants as failure
 
--- the status that the command ends with: 1 if a text is refused, 4 if memory, reading or writing failed, and otherwise 2
+-- the status that the command ends with: 1 if a text is refused, 4 if memory, reading or writing failed, and otherwise
+-- 2
 abbrev pub status_of : Failure → ℕ
 status_of (failure.Machine fault) = 1
 status_of (failure.Events fault) = 1

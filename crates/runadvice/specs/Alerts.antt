@@ -47,7 +47,8 @@ pub record Tells (m : MachineData) (seen : Seen) (text : List ℕ) (refused : Re
   pub tells : TellsOf m text refused
   pub place : refused.spot.owner ≡ Task → option_map (λ view. view.place) (task_seen refused.spot.item seen) ≡ Some refused.spot.place
 
--- A text ends with the line of this alert, whose command is written in that line of the file; and a task that it stopped is at that command.
+-- A text ends with the line of this alert, whose command is written in that line of the file; and a task that it
+-- stopped is at that command.
 pub record Stops (m : MachineData) (listing : ListingData) (seen : Seen) (text : List ℕ) (alert : Alert) : Type 0 where
   pub name : List ℕ
   pub ends : EndsWith text (printed_line (trace.Alert alert.code.now name (word_text alert.word)))
@@ -56,8 +57,8 @@ pub record Stops (m : MachineData) (listing : ListingData) (seen : Seen) (text :
   pub line : line_in listing alert.spot.owner alert.spot.item alert.spot.place ≡ alert.line
   pub place : alert.spot.owner ≡ Task → option_map (λ view. view.place) (task_seen alert.spot.item seen) ≡ Some alert.spot.place
 
--- The trace of a run ends with the line of this alert: its code, the name of the body, and the word of the command at that place of the body, which
--- is written in that line. A task is at that place when the run ends.
+-- The trace of a run ends with the line of this alert: its code, the name of the body, and the word of the command at
+-- that place of the body, which is written in that line. A task is at that place when the run ends.
 pub record EndsRun (m : MachineData) (listing : ListingData) (o : Outcome) (alert : Alert) : Type 0 where
   pub name : List ℕ
   pub ends : EndsWith (printed o.lines) (printed_line (trace.Alert alert.code.now name (word_text alert.word)))

@@ -10,7 +10,8 @@ pub record EndsWith (whole end : List ℕ) : Type 0 where
   pub front : List ℕ
   pub parts : whole ≡ front ++ end
 
--- The machine goes on over some events, one after another. What is kept of its lines was the end of what it had printed, and is again.
+-- The machine goes on over some events, one after another. What is kept of its lines was the end of what it had
+-- printed, and is again.
 pub record Goes (list : List Event) (old new : Seen) (before after : List ℕ) : Type 0 where
   pub agrees : (s : State) → Agrees old s → Agrees new (events list s).state
   pub tells : (s : State) → Agrees old s → EndsWith (before ++ printed (events list s).lines) after

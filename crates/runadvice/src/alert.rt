@@ -140,7 +140,8 @@ fn of_body<'a>(machine: &Linked, file: &'a MachineFile, text: &[u8]) -> Option<R
     }
 }
 
-/// The call that the alert has refused whose line is the last that the machine has printed; none if no alert has stopped it.
+/// The call that the alert has refused whose line is the last that the machine has printed; none if no alert has
+/// stopped it.
 pub fn refused_call<'a>(machine: &Linked, file: &'a MachineFile, room: &Room) -> Option<Refused<'a>>
     ensures { IfSome result (Tells file.now machine.now.seen room.now.bytes.items) }
 {

@@ -1,5 +1,5 @@
-//! Which bodies of interrupts have run, by the lines that they printed. A body runs straight to its end, so each of its commands that print has
-//! a line, in their order, up to an alert.
+//! Which bodies of interrupts have run, by the lines that they printed. A body runs straight to its end, so each of its
+//! commands that print has a line, in their order, up to an alert.
 ghost use Rattle.std.specs.Prelude.{◌≡◌, map, option_copied, slice_get, option_map};
 ghost use Rattle.script.specs.Commands.{command_view};
 ghost use Rattle.runadvice.specs.Alerts.{code_in, command_in};
@@ -89,7 +89,8 @@ pub fn command_at<'a>(file: &'a MachineFile, spot: Spot) -> Option<&'a Command>
     at_place(code, spot.place)
 }
 
-/// The place of the command of some code that prints its line after that many others; the number of commands if there is none.
+/// The place of the command of some code that prints its line after that many others; the number of commands if there
+/// is none.
 fn printing_place(code: &[Command], lines: usize) -> usize {
     let mut left = lines;
     for (place, command) in code.iter().enumerate() {

@@ -82,7 +82,8 @@ fn add_running<'a>(
     run.scene(page.alloc).add_running(page, running, lap)
 }
 
-/// Adds what there is to say of a machine that no alert has stopped. If a task runs, the machine goes on for some steps more.
+/// Adds what there is to say of a machine that no alert has stopped. If a task runs, the machine goes on for some steps
+/// more.
 fn add_end<'a>(page: &mut Page<'a>, run: &mut Run<'_>) -> Result<(), AllocError>
     requires going { run.old.machine.failed ≡ false }
     requires good { run.old.room.state ≡ SinkState.Good }

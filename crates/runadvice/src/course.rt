@@ -1,4 +1,5 @@
-//! What is noted of each step of a run: when each command was done last, when the bodies of interrupts were run last, and what was freed.
+//! What is noted of each step of a run: when each command was done last, when the bodies of interrupts were run last,
+//! and what was freed.
 ghost use Rattle.std.specs.Prelude.{◌≡◌, ◌<◌, ◌≤◌, ◌⊎◌, []};
 
 use crate::bodies::{Begun, after_line, begun_by, begun_likely, command_at, count_of};
@@ -43,7 +44,8 @@ pub struct Course<'a> {
     pub tasks: Vec<TaskPast>,
     /// What is noted of each command of each task.
     marks: Vec<Vec<Marks>>,
-    /// The body that began last after each number of a body, from the second on; the first is for those that began before any other of their event.
+    /// The body that began last after each number of a body, from the second on; the first is for those that began
+    /// before any other of their event.
     likely: Vec<usize>,
     /// What the bodies of interrupts send, as far as their code says it.
     interrupt_sends: InterruptSends,
@@ -240,7 +242,8 @@ impl<'a> Course<'a> {
         self.asking[0] || self.asking[1] || self.asking[2]
     }
 
-    /// The steps of a task that can be done at once, at most that many. Plain words are noted; of those that go on without end only the last ones.
+    /// The steps of a task that can be done at once, at most that many. Plain words are noted; of those that go on
+    /// without end only the last ones.
     fn part_of_task(&mut self, turn: TaskPlace, most: u32) -> Part
         requires { 0 < most }
         ensures some { 0 < result.steps }
@@ -263,8 +266,8 @@ impl<'a> Course<'a> {
         }
     }
 
-    /// The next steps that can be done at once, at most that many: plain words, up to a call; or all, if none does anything. Where a source asks, its
-    /// servers may run after any step.
+    /// The next steps that can be done at once, at most that many: plain words, up to a call; or all, if none does
+    /// anything. Where a source asks, its servers may run after any step.
     pub fn part(&mut self, next: Next, most: u32) -> Part
         requires { 0 < most }
         ensures some { 0 < result.steps }
@@ -413,7 +416,8 @@ impl<'a> Course<'a> {
         self.note_loss();
     }
 
-    /// Notes what the call of a task has sent, by its arguments, which hold what they held before; or that the task has ended, after its last command.
+    /// Notes what the call of a task has sent, by its arguments, which hold what they held before; or that the task has
+    /// ended, after its last command.
     fn note_own(&mut self, machine: &Linked, turn: TaskPlace) {
         let Some(command) = self.command(turn) else {
             return self.note_sent(machine, END, (0, 0), turn.spot());
@@ -423,7 +427,8 @@ impl<'a> Course<'a> {
         self.note_sent(machine, command.word, (first, second), turn.spot());
     }
 
-    /// Notes what a line of a command, or of the end of a task, says that was sent. After the last command of another body it says nothing of it.
+    /// Notes what a line of a command, or of the end of a task, says that was sent. After the last command of another
+    /// body it says nothing of it.
     fn note_line(&mut self, machine: &Linked, line: &str, spot: Spot) {
         match command_at(self.file, spot) {
             Some(command) if is_sending(command.word) => {
@@ -476,7 +481,8 @@ impl<'a> Course<'a> {
         Some(body)
     }
 
-    /// Notes what a line says that was sent after the last body that has begun, and answers the body that has begun then.
+    /// Notes what a line says that was sent after the last body that has begun, and answers the body that has begun
+    /// then.
     fn note_next(
         &mut self,
         machine: &Linked,
@@ -514,7 +520,8 @@ impl<'a> Course<'a> {
         self.is_whole = self.is_whole && self.sends.is_whole;
     }
 
-    /// Notes what a step of a task has sent in which no source was asking. Its own call has the only line of the step that says so, unless that is read.
+    /// Notes what a step of a task has sent in which no source was asking. Its own call has the only line of the step
+    /// that says so, unless that is read.
     fn note_alone(&mut self, machine: &Linked, turn: TaskPlace, room: &Room) {
         match self.marks_at(turn) {
             Some(marks) if marks.is_read || marks.finishes && room.has_more() => {
@@ -621,8 +628,8 @@ impl<'a> Course<'a> {
         }
     }
 
-    /// Notes what bodies of interrupts have set in the event of the alert, by its lines after the first few. The last of them is that of the alert, if
-    /// one has begun.
+    /// Notes what bodies of interrupts have set in the event of the alert, by its lines after the first few. The last
+    /// of them is that of the alert, if one has begun.
     fn note_alerted(&mut self, room: &Room, when: When, skipped: usize) {
         let Ok(text) = from_utf8(&room.bytes) else {
             return

@@ -46,11 +46,11 @@ pub enum Cause {
     Version(u16, u32),
     /// No region has these attributes.
     NoRegion(u32),
-    /// There is no gap of so many bytes, and the largest has so many.
+    /// There is no gap of that many bytes; the second number is the size of the largest.
     NoGap(u32, u32),
     /// A block has at least one byte.
     NoSize,
-    /// There are so many objects of that kind already, which is the pool.
+    /// That many objects of that kind live already, which is the pool.
     NoObject(u32),
     /// The port of a request is 0.
     NoReplyPort,

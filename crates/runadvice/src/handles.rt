@@ -58,7 +58,8 @@ impl Asking<'_, '_> {
         Ok(Some(format!(in alloc; "is the number of task \"{name}\", which {end}")?))
     }
 
-    /// Why nothing begins at an address, as the end of a sentence: which block it is in, and what has freed what was there.
+    /// Why nothing begins at an address, as the end of a sentence: which block it is in, and what has freed what was
+    /// there.
     pub fn unfound_text(&self, address: u32) -> Result<String, AllocError> {
         let inside = self.inside_text(address)?;
         let freed = self.freed_text(address)?;

@@ -1,4 +1,5 @@
-//! What the bodies of interrupts send each time that they run, as far as their code says it: then their lines are not read.
+//! What the bodies of interrupts send each time that they run, as far as their code says it: then their lines are not
+//! read.
 use crate::page::Spot;
 use crate::past::{is_reached, rank_of};
 use crate::scene::Linked;
@@ -36,7 +37,7 @@ pub(crate) struct InterruptSends {
     has_requests: bool,
 }
 
-/// What an argument of a call always is, if the code says it; 0 for what is no number.
+/// What an argument of a call always is, if the code says it; 0 for what is not a number.
 fn constant(command: &Command, number: usize) -> Option<u32> {
     match command.arguments.get(number) {
         Some(Argument::Number(value)) => Some(*value),

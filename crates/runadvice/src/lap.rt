@@ -180,8 +180,9 @@ fn shows_again(
     Ok(tasks_shown(alloc, machine)?.as_str() == tasks)
 }
 
-/// Some steps more of a machine in which a task runs, up to the one after which it shows what it shows now, or else as many as are looked at. None if a
-/// task ends in them, or the machine stops, or if what its memory shows is another too often.
+/// Some steps more of a machine in which a task runs, up to the one after which it shows what it shows now, or else as
+/// many as are looked at. None if a task ends in them, or the machine stops, or if what its memory shows is another too
+/// often.
 fn lap_from(alloc: Global, run: &mut Run<'_>) -> Result<Option<Lap>, AllocError>
     requires going { run.old.machine.failed ≡ false }
     requires good { run.old.room.state ≡ SinkState.Good }
@@ -216,8 +217,9 @@ fn lap_from(alloc: Global, run: &mut Run<'_>) -> Result<Option<Lap>, AllocError>
     Ok(Some(lap))
 }
 
-/// The steps that bring a machine in which a task runs back to what it shows now, if some steps do; or else to what it shows later, if the steps before
-/// are in the same parts of the code, as when a quantum had begun. It goes on, and where no steps do it shows something else then.
+/// The steps that bring a machine in which a task runs back to what it shows now, if some steps do; or else to what it
+/// shows later, if the steps before are in the same parts of the code, as when a quantum had begun. It goes on, and
+/// where no steps do it shows something else then.
 pub fn lap_of(alloc: Global, run: &mut Run<'_>) -> Result<Option<Lap>, AllocError>
     requires going { run.old.machine.failed ≡ false }
     requires good { run.old.room.state ≡ SinkState.Good }

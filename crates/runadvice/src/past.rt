@@ -82,8 +82,8 @@ impl TaskPast {
         self.commands.get(place).copied().unwrap_or(Past::NONE)
     }
 
-    /// Notes the plain words that the task does after some steps, whatever its variables hold, and answers the steps up to the last of them or to the
-    /// call after them, at most that many.
+    /// Notes the plain words that the task does after some steps, whatever its variables hold, and answers the steps up
+    /// to the last of them or to the call after them, at most that many.
     pub fn part(&mut self, code: &[Command], turn: TaskPlace, most: u32, steps: u64) -> Part
         requires { 0 < most }
         ensures some { 0 < result.steps }
@@ -119,8 +119,8 @@ impl TaskPast {
         Part::new(most, Next::Noted)
     }
 
-    /// Whether the task goes on without end from a place on, whatever its variables hold, by commands that print nothing, set no shared variable and
-    /// were each done since its last call. It is asked once in that many steps.
+    /// Whether the task goes on without end from a place on, whatever its variables hold, by commands that print
+    /// nothing, set no shared variable and were each done since its last call. It is asked once in that many steps.
     pub fn is_endless(&mut self, code: &[Command], place: usize, steps: u64, pause: u64) -> bool {
         if steps < self.asks_at {
             return false;
@@ -141,7 +141,8 @@ impl TaskPast {
         call
     }
 
-    /// Whether after each command that was done after a step there is one that was too, and none of them sets a shared variable.
+    /// Whether after each command that was done after a step there is one that was too, and none of them sets a shared
+    /// variable.
     fn is_closed(&self, code: &[Command], step: u64) -> bool {
         for (place, command) in code.iter().enumerate() {
             if self.at(place).visited > step {
@@ -186,7 +187,8 @@ impl Time {
     }
 }
 
-/// Whether a server runs before another one of its source, or is that: by priority, and those of one priority in the order of the file.
+/// Whether a server runs before another one of its source, or is that: by priority, and those of one priority in the
+/// order of the file.
 fn is_before(file: &MachineFile, one: usize, other: usize) -> bool {
     let (Some(first), Some(second)) = (file.servers().get(one), file.servers().get(other)) else {
         return false;

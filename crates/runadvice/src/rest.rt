@@ -1,4 +1,5 @@
-//! What may still be done: the commands of tasks and interrupts that may send something, and the variables that may be set before.
+//! What may still be done: the commands of tasks and interrupts that may send something, and the variables that may be
+//! set before.
 use crate::scene::{Linked, Scene};
 use crate::value::held_by;
 use script::{Argument, Command, PortWord, RequestWord, SignalWord, Variable, Word};

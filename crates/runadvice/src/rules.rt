@@ -158,7 +158,8 @@ impl Asking<'_, '_> {
         Ok(Fault::of(2, why, false))
     }
 
-    /// The alert LINK of a message, or of the reply of a request, that is in a port. `what` is said of it, with what takes it out.
+    /// The alert LINK of a message, or of the reply of a request, that is in a port. `what` is said of it, with what
+    /// takes it out.
     fn in_port_fault(&self, number: usize, what: &str, end: &str) -> Result<Fault, AllocError> {
         let value = self.refused.value(number);
         let port = self.machine.port_with(value).unwrap_or(0);
@@ -241,7 +242,8 @@ impl Asking<'_, '_> {
         Ok(Fault::of(0, why, false))
     }
 
-    /// That the task of the call has asked for a semaphore in vain before, as the end of a sentence, if that was the last time it asked for one.
+    /// That the task of the call has asked for a semaphore in vain before, as the end of a sentence, if that was the
+    /// last time it asked for one.
     fn missed_text(&self, address: u32) -> Result<String, AllocError> {
         let missed = match self.refused.task() {
             None => None,

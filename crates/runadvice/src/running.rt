@@ -1,4 +1,5 @@
-//! What is said of a task that runs when the events end: that it runs without end, alone or with others, or that the events end too early.
+//! What is said of a task that runs when the events end: that it runs without end, alone or with others, or that the
+//! events end too early.
 use crate::argument::{counted, grouped, joined};
 use crate::course::RECENT;
 use crate::lap::{Lap, Stretch, turn_of};
@@ -54,7 +55,8 @@ fn ends_other(code: &[Command]) -> bool {
     })
 }
 
-/// What the steps of a lap come to, which brings the machine back to what it showed; of steps that were done, or are the next ones.
+/// What the steps of a lap come to, which brings the machine back to what it showed; of steps that were done, or are
+/// the next ones.
 fn effect_of(lap: &Lap, is_done: bool) -> &'static str {
     if lap.stretches.len() > 1 {
         return match (lap.waits, lap.prints) {
@@ -214,7 +216,8 @@ impl Scene<'_, '_> {
             || file.servers().iter().any(|server| ends_other(&server.code))
     }
 
-    /// The part of the code that the running task is in and cannot leave, if it is in one, no task has ended, and no other code ends a task.
+    /// The part of the code that the running task is in and cannot leave, if it is in one, no task has ended, and no
+    /// other code ends a task.
     fn shut_lap(&self, running: &Running) -> Result<Option<Lap>, AllocError> {
         if running.is_one_over {
             return Ok(None);
@@ -276,7 +279,8 @@ impl Scene<'_, '_> {
         )
     }
 
-    /// Adds what there is to say of the task that runs, and of the steps that bring the machine back to what it shows, if some do.
+    /// Adds what there is to say of the task that runs, and of the steps that bring the machine back to what it shows,
+    /// if some do.
     pub(crate) fn add_running<'a>(
         &self,
         page: &mut Page<'a>,

@@ -1,4 +1,5 @@
-//! Which signals came to tasks and were cleared, who put messages into ports, and what was sent to tasks that had ended: the last of each.
+//! Which signals came to tasks and were cleared, who put messages into ports, and what was sent to tasks that had
+//! ended: the last of each.
 use crate::argument::port_at;
 use crate::page::Spot;
 use crate::scene::Linked;

@@ -13,7 +13,8 @@ fn mark(marks: &mut Vec<bool>, place: usize) -> Option<bool> {
     Some(is_new)
 }
 
-/// Marks where each marked command goes on; whether a place was not marked before. None if one is a call, or if the code ends there.
+/// Marks where each marked command goes on; whether a place was not marked before. None if one is a call, or if the
+/// code ends there.
 fn spread(marks: &mut Vec<bool>, code: &[Command]) -> Option<bool> {
     let mut is_new = false;
     for (place, command) in code.iter().enumerate() {
@@ -30,7 +31,8 @@ fn spread(marks: &mut Vec<bool>, code: &[Command]) -> Option<bool> {
     Some(is_new)
 }
 
-/// The part of the code that a task is in and no line leads out of, if all its lines are plain words. The task runs there without end.
+/// The part of the code that a task is in and no line leads out of, if all its lines are plain words. The task runs
+/// there without end.
 pub fn shut_part(
     alloc: Global,
     code: &[Command],

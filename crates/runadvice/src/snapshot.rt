@@ -1,4 +1,5 @@
-//! All that a machine shows of its tasks and of its memory, as text. A machine that shows the same again goes on as it did before.
+//! All that a machine shows of its tasks and of its memory, as text. A machine that shows the same again goes on as it
+//! did before.
 use crate::memory::{QUEUE, blocks_of, nodes_of, queued};
 use crate::scene::Linked;
 use crate::value::numbers_of;

@@ -1,4 +1,5 @@
-//! Which task alone could end the wait of another one: the owner of a semaphore, or the only task whose further commands may send what is awaited.
+//! Which task alone could end the wait of another one: the owner of a semaphore, or the only task whose further
+//! commands may send what is awaited.
 use crate::memory::{Block, blocks_of};
 use crate::rest::{Rest, Target, may_be};
 use crate::scene::Scene;
@@ -9,7 +10,7 @@ use execsim::{ObjectView, PortView};
 use msgport::action::PortAction;
 use std::alloc::AllocError;
 
-/// The port to which what is in a block is replied; 0 if it is no message and no request.
+/// The port to which what is in a block is replied; 0 if it is neither a message nor a request.
 pub(crate) fn reply_port(block: &Block) -> u32 {
     match block.view.object {
         ObjectView::Message(message) => message.reply,
@@ -28,7 +29,8 @@ pub(crate) fn is_awaited(waiter: &Waiter, address: u32, port: PortView) -> bool 
 }
 
 impl Scene<'_, '_> {
-    /// What would end a wait, if a command would: no port of it is set to wake nobody, and no request in progress is to be replied there.
+    /// What would end a wait, if a command would: no port of it is set to wake nobody, and no request in progress is to
+    /// be replied there.
     fn target_of(&self, waiter: &Waiter, blocks: &[Block]) -> Result<Option<Target>, AllocError> {
         let mask = match waiter.awaited {
             Awaited::Signals(mask) => mask,
@@ -117,7 +119,8 @@ impl Scene<'_, '_> {
         }
     }
 
-    /// The tasks of the circle that a task is in, from that task on; none if it is in no circle, or if each of them may serve others.
+    /// The tasks of the circle that a task is in, from that task on; none if it is in no circle, or if each of them may
+    /// serve others.
     pub(crate) fn circle_of(
         &self,
         task: usize,

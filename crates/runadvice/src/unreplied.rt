@@ -102,8 +102,8 @@ impl Scene<'_, '_> {
         Ok(String::new(self.alloc))
     }
 
-    /// Of a wait at some ports that nothing can end: what has become of a message that is to be replied there, as a part of a sentence; nothing if that
-    /// is not known.
+    /// Of a wait at some ports that nothing can end: what has become of a message that is to be replied there, as a
+    /// part of a sentence; nothing if that is not known.
     pub(crate) fn unreplied_text(
         &self,
         waiter: &Waiter,
@@ -131,7 +131,8 @@ impl Scene<'_, '_> {
         ports.iter().any(|port| self.port_name(*port).is_some())
     }
 
-    /// That no line puts a message into a port, or which software interrupt would and is not caused, as a part of a sentence; nothing otherwise.
+    /// That no line puts a message into a port, or which software interrupt would and is not caused, as a part of a
+    /// sentence; nothing otherwise.
     fn unput_text(&self) -> Result<String, AllocError> {
         let file = self.course.file;
         if !is_put(file) {

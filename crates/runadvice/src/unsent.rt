@@ -1,4 +1,5 @@
-//! What would end a wait that nothing ends: an interrupt that nothing causes, one that sends another signal, or a task that was not added.
+//! What would end a wait that nothing ends: an interrupt that nothing causes, one that sends another signal, or a task
+//! that was not added.
 use crate::memory::Block;
 use crate::scene::Scene;
 use crate::wait::{Awaited, Waiter, wait_of};
@@ -99,7 +100,8 @@ fn is_sent(file: &MachineFile, task: usize, mask: u32) -> bool {
 }
 
 impl Scene<'_, '_> {
-    /// Which software interrupt would send one of these signals to a task, but is not caused, as a part of a sentence; nothing if none would.
+    /// Which software interrupt would send one of these signals to a task, but is not caused, as a part of a sentence;
+    /// nothing if none would.
     fn uncaused_text(&self, task: usize, mask: u32) -> Result<String, AllocError> {
         let file = self.course.file;
         for softint in file.softints() {
@@ -147,8 +149,8 @@ impl Scene<'_, '_> {
         }
     }
 
-    /// Which task would send one of these signals to another one, but was not added or waits too, or that no line sends one, as a part of a sentence; nothing if
-    /// another line may.
+    /// Which task would send one of these signals to another one, but was not added or waits too, or that no line sends
+    /// one, as a part of a sentence; nothing if another line may.
     fn unadded_text(&self, task: usize, mask: u32) -> Result<String, AllocError> {
         let file = self.course.file;
         for (number, record) in file.tasks().iter().enumerate() {
@@ -164,8 +166,8 @@ impl Scene<'_, '_> {
         format!(in self.alloc; "; no line sends it to this task")
     }
 
-    /// Of a wait for signals that nothing can end, of which none is that of a port: what would send one, or that nothing does, as a part of a sentence;
-    /// nothing if something else came, or if that is not known.
+    /// Of a wait for signals that nothing can end, of which none is that of a port: what would send one, or that
+    /// nothing does, as a part of a sentence; nothing if something else came, or if that is not known.
     fn unsent_by_name(&self, waiter: &Waiter, mask: u32) -> Result<String, AllocError> {
         if mask == 0 {
             return Ok(String::new(self.alloc));
@@ -186,7 +188,8 @@ impl Scene<'_, '_> {
         self.unadded_text(turn.task, mask)
     }
 
-    /// Of a wait that nothing can end: what would end it and does not come, as a part of a sentence; nothing if that is not known.
+    /// Of a wait that nothing can end: what would end it and does not come, as a part of a sentence; nothing if that is
+    /// not known.
     pub(crate) fn unsent_text(
         &self,
         waiter: &Waiter,

@@ -44,7 +44,7 @@ pub fn variable_at(command: &Command, number: usize) -> Option<Variable> {
     }
 }
 
-/// The arguments of a call; 0 for what is no number.
+/// The arguments of a call; 0 for what is not a number.
 pub fn numbers_of(call: &Call) -> [u32; 4] {
     [
         call.number(0),

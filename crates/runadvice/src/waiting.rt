@@ -143,7 +143,8 @@ impl Scene<'_, '_> {
         }
     }
 
-    /// The port at which a message or a reply would end a wait: that of the call, of its request, or of an awaited signal; 0 if there is none.
+    /// The port at which a message or a reply would end a wait: that of the call, of its request, or of an awaited
+    /// signal; 0 if there is none.
     fn port_of(&self, waiter: &Waiter, blocks: &[Block]) -> Result<u32, AllocError> {
         Ok(match waiter.awaited {
             Awaited::Message(port) => port,
@@ -246,7 +247,8 @@ impl Scene<'_, '_> {
         Ok(())
     }
 
-    /// Adds what there is to say of a task that waits: that it is in a circle, that its port has a message, or else what would end its wait.
+    /// Adds what there is to say of a task that waits: that it is in a circle, that its port has a message, or else
+    /// what would end its wait.
     fn add_wait<'a>(
         &self,
         page: &mut Page<'a>,

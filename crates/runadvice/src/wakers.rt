@@ -1,4 +1,5 @@
-//! What can still wake a task when no task is left that can run: a software interrupt that is caused, a request in progress, and the servers.
+//! What can still wake a task when no task is left that can run: a software interrupt that is caused, a request in
+//! progress, and the servers.
 use crate::argument::{counted, joined};
 use crate::memory::{blocks_of, queued};
 use crate::scene::{Linked, Scene};

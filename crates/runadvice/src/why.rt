@@ -1,4 +1,5 @@
-//! Why a task waits on: its port has a message, its signal came and was cleared, or another one came; and what was sent to tasks that had ended.
+//! Why a task waits on: its port has a message, its signal came and was cleared, or another one came; and what was sent
+//! to tasks that had ended.
 use crate::argument::request_at;
 use crate::bodies::command_at;
 use crate::memory::blocks_of;
@@ -182,14 +183,15 @@ impl Scene<'_, '_> {
         Ok(())
     }
 
-    /// Whether a signal that a command has cleared is missing where its task waits: the wait itself has not taken it, and where tasks still run no
-    /// other wait has, as in a task that waits in turn at several lines.
+    /// Whether a signal that a command has cleared is missing where its task waits: the wait itself has not taken it,
+    /// and where tasks still run no other wait has, as in a task that waits in turn at several lines.
     fn is_lost(&self, turn: TaskPlace, gone: Act) -> bool {
         let is_cleared = self.word_of(gone) == Some(Word::Signals(SignalWord::SetSignal));
         gone.spot != Some(turn.spot()) && (is_cleared || self.is_idle())
     }
 
-    /// The signal of a mask that a task has received and another of its commands has cleared, the last if there are several.
+    /// The signal of a mask that a task has received and another of its commands has cleared, the last if there are
+    /// several.
     pub(crate) fn lost(&self, turn: TaskPlace, mask: u32) -> Option<(u32, Came, Act)> {
         let mut last: Option<(u32, Came, Act)> = None;
         for signal in 0..32 {
@@ -207,7 +209,8 @@ impl Scene<'_, '_> {
         last
     }
 
-    /// That a signal for which a task waits came and was cleared, as a part of a sentence, if one was, and by which commands.
+    /// That a signal for which a task waits came and was cleared, as a part of a sentence, if one was, and by which
+    /// commands.
     pub(crate) fn lost_text(
         &self,
         page: &Page<'_>,
@@ -263,7 +266,8 @@ impl Scene<'_, '_> {
         format!(in self.alloc; "; signal {signal} came at step {moment} from {who}")
     }
 
-    /// The first signal of a mask that was last sent to another task, which has it still, and that task; none while tasks still run, which may take it.
+    /// The first signal of a mask that was last sent to another task, which has it still, and that task; none while
+    /// tasks still run, which may take it.
     fn astray(&self, turn: TaskPlace, mask: u32) -> Option<(u32, Act, usize)> {
         if !self.is_idle() {
             return None;

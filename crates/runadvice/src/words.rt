@@ -1,4 +1,5 @@
-//! What each word asks of its arguments, what else is at fault when one is refused, which end an object, and why they answer 0: one row a word.
+//! What each word asks of its arguments, what else is at fault when one is refused, which end an object, and why they
+//! answer 0: one row a word.
 use script::{
     LibraryWord, ListWord, MemoryWord, NestingWord, PortWord, RequestWord, SemaphoreWord,
     SignalWord, TaskWord, Word,
@@ -42,11 +43,12 @@ pub enum Flaw {
     Plain,
     /// This is said of the first argument, or of the call if it is a sentence.
     Said(&'static str),
-    /// A number that is no signal of scripts.
+    /// A number that is not a signal of scripts.
     Signal,
     /// This argument is a mask with a signal that is none of scripts.
     Mask(usize),
-    /// This argument has bits beside these, or two of which one is allowed; `more` says which are allowed beside those of all such calls.
+    /// This argument has bits beside these, or two of which one is allowed; `more` says which are allowed beside those
+    /// of all such calls.
     Bits {
         number: usize,
         allowed: u32,
@@ -68,7 +70,8 @@ pub enum Flaw {
     Owned(&'static str),
 }
 
-/// The bits that all calls take that ask for attributes of memory (exec/memory.h): MEMF_PUBLIC, MEMF_CHIP, MEMF_FAST and MEMF_CLEAR.
+/// The bits that all calls take that ask for attributes of memory (exec/memory.h): MEMF_PUBLIC, MEMF_CHIP, MEMF_FAST
+/// and MEMF_CLEAR.
 const ALLOC_BITS: u32 = 0x0001_0007;
 
 /// MEMF_LARGEST and MEMF_TOTAL, of which one may be taken.
@@ -358,7 +361,7 @@ fn makers_of_kind(kind: &str) -> &'static str {
     }
 }
 
-/// Which words return what an argument has to name; nothing if it is no object.
+/// Which words return what an argument has to name; nothing if it is not an object.
 pub(crate) fn makers_of(wanted: Wanted) -> &'static str {
     match wanted {
         Wanted::Object(kind) => makers_of_kind(kind),

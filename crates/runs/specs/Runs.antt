@@ -1,4 +1,5 @@
--- What a whole run of two texts is: both are read, and it prints the trace of the defined machine over the defined events.
+-- What a whole run of two texts is: both are read, and it prints the trace of the defined machine over the defined
+-- events.
 use Rattle.std.specs.Prelude.{◌≡◌, ℕ, List, Result, Ok, Err}
 use Rattle.exectrace.specs.Trace.{printed}
 use Rattle.script.specs.{File.MachineData, declared.event.Event.Event}

@@ -1,4 +1,5 @@
--- Whatever the memory is, a machine whose words do not touch it does the same: each thing that it does, from one command to whole events.
+-- Whatever the memory is, a machine whose words do not touch it does the same: each thing that it does, from one
+-- command to whole events.
 use Rattle.std.proofs.Common.{◌≡◌, ◌∙◌, ℕ, zero, suc, Bool, true, false, List, [], ◌∷◌, ◌++◌, Option, None, Some, refl, sym, ap, subst, All, IfSome, if◌then◌else◌}
 use Rattle.std.proofs.lemmas.List.Elements.{All-head, All-tail}
 use Rattle.execlist.specs.Disciplines.{by_arrival}

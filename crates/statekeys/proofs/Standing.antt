@@ -1,4 +1,5 @@
--- Machines of one file that have one key are where the same events come; and an event leads from there to where these and it come.
+-- Machines of one file that have one key are where the same events come; and an event leads from there to where these
+-- and it come.
 use Rattle.std.proofs.Common.{◌≡◌, ◌∙◌, ℕ, Bool, true, false, List, [], ◌∷◌, ◌++◌, None, Some, Ok, refl, sym, ap, subst}
 use Rattle.exectrace.specs.{Sink.Tape, Trace.printed, declared.sinks.SinkState.SinkState}
 use Rattle.script.specs.{File.MachineData, declared.event.Event.Event}
@@ -74,7 +75,8 @@ one_key_of first second one other list others same e at there =
 
 -- ---- one event
 
--- what an event does from where a machine is: what the machine shows then, whether an alert has stopped it, and the text that it writes
+-- what an event does from where a machine is: what the machine shows then, whether an alert has stopped it, and the
+-- text that it writes
 pub record Led (machine : MachineData) (list : List Event) (e : Event) (new : Shown) (flow : Flows) (text : List ℕ) : Type 0 where
   pub flow_is : flow ≡ flow_of (run machine (list ++ e ∷ [])).state.stopped
   pub text_is : text ≡ printed (event e (run machine list).state).lines

@@ -41,7 +41,8 @@ placed_in memory o = record o { state = placed memory o.state }
 
 -- ---- what stays
 
--- of the schedule: names, how long a quantum is, how many tasks there are; and if the machine was reported as idle, no task runs
+-- of the schedule: names, how long a quantum is, how many tasks there are; and if the machine was reported as idle, no
+-- task runs
 pub record StaysSchedule (b s : Schedule) : Type 0 where
   pub names : s.queue.names ≡ b.queue.names
   pub quantum : s.quantum ≡ b.quantum
@@ -72,7 +73,8 @@ pub record Stays (b s : State) : Type 0 where
 
 -- ---- whatever the memory is
 
--- an action from a state with any cleared memory: but for the memory it does the same, and what stays in a run has stayed
+-- an action from a state with any cleared memory: but for the memory it does the same, and what stays in a run has
+-- stayed
 pub record Drifts (b : State) (acts : Memory → Outcome) : Type 0 where
   pub core : Outcome
   pub same : (m : Memory) → (k : Memory) × (acts m ≡ placed_in k core)

@@ -10,8 +10,8 @@ pub record GoesAlike (e : Event) (m : Memory) (s : State) : Type 0 where
   pub state : (event e (placed m s)).state ≡ placed memory (event e s).state
   pub lines : (event e (placed m s)).lines ≡ (event e s).lines
 
--- Nothing that a run does depends on what the clock shows: in any state of any run, with any other cleared memory in its place, its clock and system
--- time among it, an event does the same.
+-- Nothing that a run does depends on what the clock shows: in any state of any run, with any other cleared memory in
+-- its place, its clock and system time among it, an event does the same.
 abbrev pub TheClockIsUnseen : Type 0
 TheClockIsUnseen =
     (machine : MachineData) (list : List Event) (e : Event) (m : Memory) → IsBareMachine machine → GoesAlike e m (run machine list).state

@@ -1,5 +1,5 @@
--- What distinguishes the states of a machine, as numbers: who runs and for how long, what is pending, what each task is about, and the variables. What
--- stays over a run is left out; so are the memory and the clock.
+-- What distinguishes the states of a machine, as numbers: who runs and for how long, what is pending, what each task is
+-- about, and the variables. What stays over a run is left out; so are the memory and the clock.
 use Rattle.std.specs.Prelude.{ℕ, zero, suc, ◌+◌, ℤ, pos, negsuc, Bool, true, false, List, [], ◌∷◌, ◌++◌, Option, None, Some, length}
 use Rattle.exectrace.specs.Trace.{Argument, Value, Quoted}
 use Rattle.script.specs.declared.variable.Variable.{Variable}

@@ -57,8 +57,9 @@ report_text name kinds is_closed states alerts =
 -- ---- what it ensures
 
 module _ {S : Type 0} (machine_of : S → MachineData) (stands : S → List Event → Type 0) (key : S → List ℕ) where
-  -- The text says how many states and alerts there are. If the set is closed it is everything: whatever events of these kinds come, the state is one
-  -- of those found, or one of the alerts has ended the run. Each alert is that of its events, closed or not.
+  -- The text says how many states and alerts there are. If the set is closed it is everything: whatever events of these
+  -- kinds come, the state is one of those found, or one of the alerts has ended the run. Each alert is that of its
+  -- events, closed or not.
   pub record Reports (machine : MachineData) (name : List ℕ) (kinds : List Event) (is_closed : Bool) (number : ℕ) (text : List ℕ) : Type 0 where
     pub keys : List (List ℕ)
     pub alerts : List Alert

@@ -16,9 +16,9 @@ pub record IsAmong (machine : MachineData) (keys : List (List ℕ)) (list : List
   pub going : (run machine list).state.stopped ≡ false
   pub found : IsOneOf keys (key_in_order (run machine list).state)
 
--- The text says how many states and alerts there are. If the set is closed, each list of events of these kinds, in whatever order and however long,
--- leads from the start to a state of one of that many keys, or one of the listed alerts has ended its run. Each alert is that of the events that are
--- listed with it.
+-- The text says how many states and alerts there are. If the set is closed, each list of events of these kinds, in
+-- whatever order and however long, leads from the start to a state of one of that many keys, or one of the listed
+-- alerts has ended its run. Each alert is that of the events that are listed with it.
 pub record SaysEvery (machine : MachineData) (name : List ℕ) (kinds : List Event) (is_closed : Bool) (number : ℕ) (text : List ℕ) : Type 0 where
   pub keys : List (List ℕ)
   pub alerts : List Alert

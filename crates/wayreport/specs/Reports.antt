@@ -73,7 +73,8 @@ part_text (Some p) = codes "part " ++ (decimal p.number ++ (codes " of " ++ (dec
 abbrev pub outcomes_text : ℕ → List ℕ
 outcomes_text n = decimal n ++ (if n == 1 then codes " outcome" else codes " outcomes")
 
--- the lines before that many entries: what was searched, the part, the program, the digests of both texts, and what is seen
+-- the lines before that many entries: what was searched, the part, the program, the digests of both texts, and what is
+-- seen
 abbrev pub title_line : ℕ → ReportData → List ℕ
 title_line outcomes r = r.title ++ (codes ": " ++ (ways_text r.all ++ (codes ", " ++ (outcomes_text outcomes ++ codes "\n"))))
 

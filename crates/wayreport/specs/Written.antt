@@ -79,8 +79,8 @@ pub record IsWrittenPart (part : Part) : Type 0 where
   pub of : part.of < 2 ^ 32
   pub ways : part.ways < 2 ^ 64
 
--- A report of lines that a terminal shows as they are, whose numbers have 64 bits and fit together, whose first ways are ways, and which has no more bytes
--- than a report may have: as is each that a search writes.
+-- A report of lines that a terminal shows as they are, whose numbers have 64 bits and fit together, whose first ways
+-- are ways, and which has no more bytes than a report may have: as is each that a search writes.
 pub record IsWritten (r : ReportData) : Type 0 where
   pub right : IsRight r
   pub size : length (text_of r) ≤ REPORT_LIMIT

@@ -1,4 +1,5 @@
--- What a search sees of a run, and how its listener hears: it keeps the lines that are seen, as one puts them to a sink.
+-- What a search sees of a run, and how its listener hears: it keeps the lines that are seen, as one puts them to a
+-- sink.
 use Rattle.std.specs.Prelude.{◌≡◌, ℕ, Bool, true, false, ◌||◌, bytes_eq, codes, List, [], ◌∷◌, ◌++◌, flat_map, if◌then◌else◌}
 use Rattle.std.proofs.Common.{ap, ap₂, refl, sym, subst, ◌∙◌}
 use Rattle.std.proofs.lemmas.Grind.{flat_map-append}

@@ -1,5 +1,5 @@
--- What is seen of a way: the lines of its run that are seen, and then how it ends. A run that an alert ends has the alert's line at the end;
--- any other has who runs, and the line of the call of each task that waits.
+-- What is seen of a way: the lines of its run that are seen, and then how it ends. A run that an alert ends has the
+-- alert's line at the end; any other has who runs, and the line of the call of each task that waits.
 use Rattle.std.specs.Prelude.{ℕ, Bool, true, false, List, [], ◌++◌}
 use Rattle.script.specs.{File.MachineData, declared.event.Event.Event}
 use Rattle.scheduler.specs.Schedule.{Schedule}

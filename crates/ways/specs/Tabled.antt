@@ -1,4 +1,5 @@
--- What notes ways, as its callers see it: what shows them, the table so far, and the number of ways that end in an alert.
+-- What notes ways, as its callers see it: what shows them, the table so far, and the number of ways that end in an
+-- alert.
 use Rattle.std.specs.Prelude.{ℕ, List}
 use Rattle.script.specs.declared.event.Event.{Event}
 use Rattle.ways.specs.Tables.{Entry}

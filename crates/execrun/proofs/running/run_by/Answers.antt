@@ -1,5 +1,5 @@
--- The proof of `run_by`: runs the program over any texts on the words of its command line, without its own name, and answers the
--- status with which it ends.
+-- The proof of `run_by`: runs the program over any texts on the words of its command line, without its own name, and
+-- answers the status with which it ends.
 use Rattle.std.proofs.Common.{◌∙◌, ap}
 use Rattle.clap.specs.Walk.{texts}
 use Rattle.execrun.specs.Ending.{code_of}

@@ -1,4 +1,5 @@
--- The proof of `run_to_end`: what the machine shows is the state in which the run ends, and the room has the end of its trace.
+-- The proof of `run_to_end`: what the machine shows is the state in which the run ends, and the room has the end of its
+-- trace.
 use Rattle.std.proofs.Common.{List, subst}
 use Rattle.exectrace.specs.Trace.{printed}
 use Rattle.script.specs.declared.event.Event.{Event}

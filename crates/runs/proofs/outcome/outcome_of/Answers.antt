@@ -1,4 +1,5 @@
--- The proof of `outcome_of`: what the program comes to over a machine file and an event text, on list spaces of the type S.
+-- The proof of `outcome_of`: what the program comes to over a machine file and an event text, on list spaces of the
+-- type S.
 use Rattle.std.proofs.Common.{rules, Ok, Err}
 use Rattle.runs.proofs.outcome.outcome_of.Goals as goal
 

@@ -1,4 +1,5 @@
--- The proof of `search`: runs each way of a part from the first state of the machine, and answers the table of what is seen.
+-- The proof of `search`: runs each way of a part from the first state of the machine, and answers the table of what is
+-- seen.
 use Rattle.std.proofs.Common.{◌≡◌, ◌∙◌, ◌+◌, ap, arith}
 use Rattle.ways.specs.{Ways.ways as ways_of, Ways.part_of, Tabled.Tabled, Tables.number_where, Tables.table_of}
 use Rattle.wayrun.specs.{Seen.is_alerted, Seen.seen_of, Sought.Sought}

@@ -1,5 +1,5 @@
--- The proof of `table_of_part`: notes what is seen of each way of a part: of the ways with at most `sizes.most` extras of these kinds
--- among the actions those that the part names by their numbers.
+-- The proof of `table_of_part`: notes what is seen of each way of a part: of the ways with at most `sizes.most` extras
+-- of these kinds among the actions those that the part names by their numbers.
 use Rattle.std.proofs.Common.{◌∙◌, ap}
 use Rattle.std.proofs.lemmas.Result.{on_ok_weaker}
 use Rattle.ways.specs.{Ways.ways as ways_of, Ways.part_of, Tabled.Tabled}

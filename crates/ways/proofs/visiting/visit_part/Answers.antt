@@ -1,5 +1,5 @@
--- The proof of `visit_part`: visits the ways with at most that many extras among the actions from number `skip` on, `left` of them, each
--- once and in their order.
+-- The proof of `visit_part`: visits the ways with at most that many extras among the actions from number `skip` on,
+-- `left` of them, each once and in their order.
 use Rattle.std.proofs.lemmas.Result.{on_ok_weaker}
 use Rattle.ways.specs.Ways.{ways}
 use Rattle.ways.proofs.Parts.{state_after}

@@ -1,5 +1,5 @@
--- The proof of `Sizes::new`: the numbers for up to that many extras of that many kinds among up to that many actions, or none if one is
--- beyond 64 bits.
+-- The proof of `Sizes::new`: the numbers for up to that many extras of that many kinds among up to that many actions,
+-- or none if one is beyond 64 bits.
 use Rattle.std.proofs.Common.{◌≡◌, ◌∙◌, suc, ◌+◌, ◌++◌, List, ℕ, length, ap, sym, subst, arith, length-append}
 use Rattle.ways.specs.Rows.{IsRow, AreRows}
 use Rattle.ways.proofs.Rows.{rows_more}
