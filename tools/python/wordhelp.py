@@ -31,7 +31,8 @@ pub struct WordHelp {
     pub name: &'static str,
     /// The word with what its arguments are, and what it returns.
     pub form: &'static str,
-    /// Its arguments, what it returns, its effect, its alerts, a line of C and one of a body, and where all of it is written, in Markdown.
+    /// Its arguments, what it returns, its effect, its alerts, a line of C and one of a body, and where all of it is
+    /// written, in Markdown.
     pub text: &'static str,
     /// What the name is that it takes.
     pub names: Names,
