@@ -1,5 +1,5 @@
 //! Says what is wrong with a machine file or an event text: what `execsim` says of the text, where, and what may have
-//! been meant.
+//! been meant. Callers use `check_machine` and `check_events`, and show what these find by `rendered`.
 #![tactic(auto)]
 
 mod advice;

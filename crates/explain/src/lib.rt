@@ -1,5 +1,5 @@
 //! What each fault, alert and warning is that a text or a run may have, with texts that show it and texts in which it
-//! is mended.
+//! is mended. `sections` has all of them.
 #![tactic(auto)]
 
 mod alerts;

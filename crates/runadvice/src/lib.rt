@@ -1,6 +1,6 @@
 //! Explains how a run ends: the alert that stopped it, each task that still waits, a deadlock, and a task that runs
 //! without end. `course`, `sends`, `interrupt_sends` and `failing` note what each step did, `following` makes the run,
-//! `lap` goes on from its end, and the other files ask the machine there.
+//! `lap` goes on from its end, and the other files ask the machine there. `check_run` is what callers use.
 #![tactic(auto)]
 
 mod alert;

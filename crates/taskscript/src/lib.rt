@@ -1,4 +1,6 @@
-//! Reads the two texts of a run: the machine file and the event text.
+//! Reads the two texts of a run: the machine file and the event text. Callers use `read_machine` and `read_events`,
+//! which say what a text states or its first fault, and `read_placed` and `read_listed`, which also say where a fault
+//! is, and the lines and the variables of a file.
 #![tactic(auto)]
 
 mod accepted;

@@ -1,5 +1,5 @@
 //! What is seen of each way: one way is run from the first state of its machine, and a search notes what is seen of all
-//! ways of a part.
+//! ways of a part. `search` is what callers use.
 #![tactic(auto)]
 
 mod look;
