@@ -119,7 +119,8 @@ fn judge_events(
     Ok(is_refused)
 }
 
-/// Adds to a sheet what is found in the run of two texts, of which the machine file was judged, and answers whether an alert ended it.
+/// Adds to a sheet what is found in the run of two texts, of which the machine file was judged, and answers whether an
+/// alert ended it.
 #[tactic(auto, using(crate::proofs::JudgingLemmas::refused_ends))]
 fn judge_run(
     alloc: Global,

@@ -1,5 +1,5 @@
-//! Names that are a verb and what it is done to, as `NewPort`, `mutex_lock` and `TaskDelete`, in the manner of many systems, each with what has
-//! its place.
+//! Names that are a verb and what it is done to, as `NewPort`, `mutex_lock` and `TaskDelete`, in the manner of many
+//! systems, each with what has its place.
 
 use script::word_of;
 

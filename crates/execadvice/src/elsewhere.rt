@@ -64,8 +64,8 @@ const KEEP_OTHERS: &str = "Forbid, or Disable to keep interrupts out too";
 
 const LET_OTHERS: &str = "Permit, or Enable after Disable";
 
-/// Names of calls of amiga.lib, of dos.library and of other systems, that make, end and time tasks, and show numbers, each with what is written in their
-/// place.
+/// Names of calls of amiga.lib, of dos.library and of other systems, that make, end and time tasks, and show numbers,
+/// each with what is written in their place.
 const CALLS: [(&str, &str); 68] = [
     ("NewCreateTask", NEW_TASK),
     ("CreateTaskTags", NEW_TASK),

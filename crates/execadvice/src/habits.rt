@@ -1,12 +1,13 @@
-//! Names of other systems that have the letters of a word, or are the head of a loop, with another meaning, by what is after them: `wait $pid`,
-//! `WAIT 50`, `signal(SIGINT, f)` and `while (GetMsg(p))`.
+//! Names of other systems that have the letters of a word, or are the head of a loop, with another meaning, by what is
+//! after them: `wait $pid`, `WAIT 50`, `signal(SIGINT, f)` and `while (GetMsg(p))`.
 
 use crate::foreign::Instead;
 use crate::values::{is_posix_signal, shell_variable};
 use script::word_of;
 use taskscript::number_of;
 
-/// What has the place of the wait of the shell, of a wait for a time, of a handler, and of a loop whose condition is a call.
+/// What has the place of the wait of the shell, of a wait for a time, of a handler, and of a loop whose condition is a
+/// call.
 const JOIN: &str = "Wait MASK, with a signal that the other task sends at its end";
 
 const SLEEP: &str =

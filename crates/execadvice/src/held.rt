@@ -53,8 +53,8 @@ fn without_point(text: &str) -> &str {
     }
 }
 
-/// The attributes of a region that are meant by a name as `chip`, with or without what is before it in Exec's header, or
-/// by several.
+/// The attributes of a region that are meant by a name as `chip`, with or without what is before it in Exec's header,
+/// or by several.
 fn attributes_named(alloc: Global, key: Key, text: &str) -> Made<Option<String>> {
     if key != Key::Attrs {
         return Ok(None);
@@ -97,7 +97,8 @@ fn micros_of(text: &str) -> Option<u32> {
     u32::from_str_radix(digits, 10).ok()?.checked_mul(micros)
 }
 
-/// The number that is meant by a name of attributes, or by a number with a unit of time, if a key of a table may hold it.
+/// The number that is meant by a name of attributes, or by a number with a unit of time, if a key of a table may hold
+/// it.
 fn named_number(alloc: Global, of: TablePlace, key: Key, text: &str) -> Made<Option<String>> {
     if key != Key::TickMicros {
         return attributes_named(alloc, key, text);

@@ -164,8 +164,8 @@ pub(crate) fn is_basic_number(alloc: Global, field: &str) -> Made<bool> {
     Ok(field.starts_with("&") && number_in(alloc, field)?.is_some())
 }
 
-/// The variable that a part is meant to be, if there is one: with small letters, and without the `&` of C and the `$` of
-/// the shell.
+/// The variable that a part is meant to be, if there is one: with small letters, and without the `&` of C and the `$`
+/// of the shell.
 fn variable_meant(alloc: Global, field: &str) -> Made<Option<String>> {
     if is_basic_number(alloc, field)? {
         return Ok(None);

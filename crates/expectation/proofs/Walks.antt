@@ -42,8 +42,8 @@ time_for_one list k d within m enough =
 
 -- ---- where a walk is
 
--- After that many of some events from a state the machine shows the state to which these come, and whether one of the states is of a kind is whether one of
--- those from here on is.
+-- After that many of some events from a state the machine shows the state to which these come, and whether one of the
+-- states is of a kind is whether one of those from here on is.
 pub record IsOn (test : State → Bool) (way : List Event) (k : ℕ) (seen : Seen) (s : State) : Type 0 where
   pub agrees : Agrees seen (events (take k way) s).state
   pub same : comes_to test way s ≡ comes_to test (drop k way) (events (take k way) s).state

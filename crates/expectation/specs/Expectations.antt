@@ -9,8 +9,8 @@ use Rattle.expectation.specs.declared.expectation.Expectation.TheVariants.{Never
 abbrev pub tells : Expectation → MachineData → List Event → Bool
 tells line machine list = is_among line (run machine list).lines
 
--- the run of some events meets what it names: `never alert` an alert, `never print` and `print before` such a print, `reach` and `apart` such
--- a state
+-- the run of some events meets what it names: `never alert` an alert, `never print` and `print before` such a print,
+-- `reach` and `apart` such a state
 abbrev pub meets : Expectation → MachineData → List Event → Bool
 meets (NeverAlert code by) machine list = tells (NeverAlert code by) machine list
 meets (NeverPrint value) machine list = tells (NeverPrint value) machine list

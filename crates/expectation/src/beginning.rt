@@ -23,7 +23,8 @@ fn meets_by(
     meets(alloc, bench, file, line, &way[..number])
 }
 
-/// A number of events between two, of which the smaller does not come to what an expectation names and the larger does: the least that does.
+/// A number of events between two, of which the smaller does not come to what an expectation names and the larger does:
+/// the least that does.
 fn halved(
     alloc: Global,
     bench: &mut Bench,

@@ -15,17 +15,19 @@ pub struct Section {
     pub last: usize,
 }
 
-/// What is expected of each run of a machine. Each names something that a run may meet: `Reach` holds of some lists of events if the run of one
-/// meets it, each of the others if the run of none does.
+/// What is expected of each run of a machine. Each names something that a run may meet: `Reach` holds of some lists of
+/// events if the run of one meets it, each of the others if the run of none does.
 #[derive(Clone, Copy)]
 pub enum Expectation {
-    /// No call is refused: none with this code, if one is given, and none of the task or body of this name, if one is given.
+    /// No call is refused: none with this code, if one is given, and none of the task or body of this name, if one is
+    /// given.
     NeverAlert(Option<Alert>, Option<Name>),
     /// No body prints this value.
     NeverPrint(u32),
     /// The second value is printed only after the first.
     PrintBefore(u32, u32),
-    /// The task of this number, from 0, comes to the command of this number, from 0: it runs, and that is its next command.
+    /// The task of this number, from 0, comes to the command of this number, from 0: it runs, and that is its next
+    /// command.
     Reach(usize, usize),
     /// Two tasks are never both in their sections: the next command of each, or the call that it waits in, is there.
     Apart(Section, Section),

@@ -1,5 +1,5 @@
-//! What is to hold of a run, and whether it holds of each way of a frame: lines such as `never alert` and `print 1 before print 2`, each of them one
-//! definition over the run of the abstract machine.
+//! What is to hold of a run, and whether it holds of each way of a frame: lines such as `never alert` and `print 1
+//! before print 2`, each of them one definition over the run of the abstract machine.
 #![tactic(auto)]
 
 mod beginning;

@@ -1,4 +1,5 @@
-//! Whether the run of some events meets what an expectation names. The machine is kept from run to run, and reset before each.
+//! Whether the run of some events meets what an expectation names. The machine is kept from run to run, and reset
+//! before each.
 ghost use Rattle.std.specs.Prelude.{◌≡◌, ◌≤◌, ◌+◌, IfOk, OnOk, false, true, sum_by};
 ghost use Rattle.script.specs.Events.{event_ticks};
 ghost use Rattle.execmodel.specs.State.{booted};
@@ -63,7 +64,8 @@ impl Bench {
     }
 }
 
-/// Puts a machine back to its first state: that of the file, before its start. One that was made of another file is made anew.
+/// Puts a machine back to its first state: that of the file, before its start. One that was made of another file is
+/// made anew.
 fn made_again(
     alloc: Global,
     machine: &mut Machine<LinkSpace>,
@@ -132,7 +134,8 @@ fn meets_again(
     meets_on(&mut bench.machine, file, line, list)
 }
 
-/// Whether the run of some events meets what an expectation names: whatever the bench was used for, the run begins at the first state of the machine.
+/// Whether the run of some events meets what an expectation names: whatever the bench was used for, the run begins at
+/// the first state of the machine.
 ///
 /// # Errors
 ///

@@ -108,7 +108,8 @@ fn start(machine: &mut Machine<LinkSpace>, out: &mut Silence) -> Result<(), Allo
     }
 }
 
-/// Whether a state that an expectation names comes while the machine of a file, which was not started, does some events.
+/// Whether a state that an expectation names comes while the machine of a file, which was not started, does some
+/// events.
 pub(crate) fn comes_to(
     machine: &mut Machine<LinkSpace>,
     _file: &MachineFile,

@@ -46,7 +46,8 @@ fn refuse_name<E: Write>(err: &mut E) -> u8
     COMMAND_LINE_REFUSED
 }
 
-/// Searches the ways of a run; or all states of a machine, or whether something holds in all ways, if a word of the command line asks for that.
+/// Searches the ways of a run; or all states of a machine, or whether something holds in all ways, if a word of the
+/// command line asks for that.
 fn explore<R: Env + Files + Clock + AllocGlobal, W: Write + Drop, E: Write + IsTerminal>(
     rt: &R,
     out: W,

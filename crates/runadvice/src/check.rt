@@ -176,7 +176,8 @@ fn no_report(alloc: Global) -> Report
     }
 }
 
-/// What the run of a machine file and an event text comes to, as `check_run` says it, where the file is accepted and was read. These are its bytes.
+/// What the run of a machine file and an event text comes to, as `check_run` says it, where the file is accepted and
+/// was read. These are its bytes.
 ///
 /// # Errors
 ///
@@ -200,8 +201,9 @@ pub fn check_run_of(
     report_on(page, &accepted.listed, &events)
 }
 
-/// What the run of a machine file and an event text comes to: the alert that ended it, each task that waits at its end, a deadlock, a task
-/// that runs without end, and events that end too early. Nothing is found if a text is refused. Each place is one of the machine file.
+/// What the run of a machine file and an event text comes to: the alert that ended it, each task that waits at its end,
+/// a deadlock, a task that runs without end, and events that end too early. Nothing is found if a text is refused. Each
+/// place is one of the machine file.
 ///
 /// # Errors
 ///

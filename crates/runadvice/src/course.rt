@@ -100,7 +100,8 @@ fn jumps(command: &Command) -> bool {
     )
 }
 
-/// Whether a command that is done after a call prints nothing and asks nothing of Exec, and leaves what the call was made with and what it answered.
+/// Whether a command that is done after a call prints nothing and asks nothing of Exec, and leaves what the call was
+/// made with and what it answered.
 fn is_apart(call: &Command, command: &Command) -> bool {
     let is_silent = match way_after(command, 0) {
         Way::To(_) | Way::Either(_, _) => true,
@@ -113,7 +114,8 @@ fn is_apart(call: &Command, command: &Command) -> bool {
             || target != call.target && !numbers.any(|number| variable_at(call, number) == target))
 }
 
-/// How many of the commands after a call can be done before what is noted of the call is asked: up to the first that jumps, and some at most.
+/// How many of the commands after a call can be done before what is noted of the call is asked: up to the first that
+/// jumps, and some at most.
 fn joined_after(call: &Command, after: &[Command]) -> u32 {
     let mut joined = 0u32;
     for command in after.iter().take(MOST_JOINED) {
@@ -393,7 +395,8 @@ impl<'a> Course<'a> {
         is_waiting
     }
 
-    /// Notes a call that a task has done: what it has freed or closed, which signals it has cleared, and whether it has failed.
+    /// Notes a call that a task has done: what it has freed or closed, which signals it has cleared, and whether it has
+    /// failed.
     fn note_call(&mut self, machine: &Linked, turn: TaskPlace, command: &Command, marks: Marks) {
         let site = Site {
             spot: turn.spot(),
@@ -687,7 +690,8 @@ impl<'a> Course<'a> {
         self.note_alerted(room, when, skipped);
     }
 
-    /// Notes what the call of a task has done and sent, if the task does not wait in it, and what it has sent before it waits.
+    /// Notes what the call of a task has done and sent, if the task does not wait in it, and what it has sent before it
+    /// waits.
     fn note_marked(
         &mut self,
         machine: &Linked,
@@ -718,7 +722,8 @@ impl<'a> Course<'a> {
         }
     }
 
-    /// Notes a call that `call_of` has named, and so many commands after it, which are joined to it. The lines of the call are in the room.
+    /// Notes a call that `call_of` has named, and so many commands after it, which are joined to it. The lines of the
+    /// call are in the room.
     pub(crate) fn note_turn(
         &mut self,
         machine: &Linked,
@@ -742,7 +747,8 @@ impl<'a> Course<'a> {
         self.note_joined(turn, joined);
     }
 
-    /// Notes some steps, a tick or a request that are over, whose lines are in the room. Nothing is noted after an alert.
+    /// Notes some steps, a tick or a request that are over, whose lines are in the room. Nothing is noted after an
+    /// alert.
     pub fn note(&mut self, machine: &Linked, one: Event, next: Next, flow: Flow, room: &Room) {
         if self.stopped_in.is_some() {
             return;

@@ -1,5 +1,5 @@
-//! A run, as many steps at a time as nothing has to be asked between, with what is noted of them. What is asked later is asked of the machine at
-//! the end of that run.
+//! A run, as many steps at a time as nothing has to be asked between, with what is noted of them. What is asked later
+//! is asked of the machine at the end of that run.
 ghost use Rattle.std.specs.Prelude.{◌≡◌, ◌<◌, ◌≤◌, ◌+◌, ◌∷◌, ℕ, [], false, sum_by, IfOk, OnOk};
 ghost use Rattle.exectrace.specs.{Trace.printed, declared.sinks.SinkState.SinkState};
 ghost use Rattle.script.specs.{Events.event_ticks, File.MachineData, declared.event.Event.Event};
@@ -56,7 +56,8 @@ fn advance(run: &mut Run<'_>, one: Event, next: Next) -> Result<(), AllocError>
     }
 }
 
-/// Does the call of a task, and that many commands after it at most, which are joined to it; notes them, and answers how many these were.
+/// Does the call of a task, and that many commands after it at most, which are joined to it; notes them, and answers
+/// how many these were.
 fn advance_call(
     run: &mut Run<'_>,
     turn: TaskPlace,

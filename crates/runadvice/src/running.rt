@@ -159,8 +159,8 @@ impl Scene<'_, '_> {
         Ok(text)
     }
 
-    /// Which steps were in a part of the code, or are: the last ones, that many, or for 0 the next ones. The last of them has its number among steps,
-    /// ticks and requests.
+    /// Which steps were in a part of the code, or are: the last ones, that many, or for 0 the next ones. The last of
+    /// them has its number among steps, ticks and requests.
     fn steps_text(&self, steps: u64) -> Result<String, AllocError> {
         if steps == 0 {
             return format!(in self.alloc; "the next steps are all");

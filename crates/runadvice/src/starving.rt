@@ -1,5 +1,5 @@
-//! What is said of a task that is ready when the events end and has not run for ten quanta, since the one that runs has a higher priority or keeps
-//! others away.
+//! What is said of a task that is ready when the events end and has not run for ten quanta, since the one that runs has
+//! a higher priority or keeps others away.
 use crate::page::Page;
 use crate::scene::Scene;
 use crate::step::TaskPlace;
@@ -17,7 +17,8 @@ impl Scene<'_, '_> {
         }
     }
 
-    /// Whether a task that runs keeps another one away that is ready: it has a higher priority, or has called Forbid or Disable.
+    /// Whether a task that runs keeps another one away that is ready: it has a higher priority, or has called Forbid or
+    /// Disable.
     fn is_kept_by(&self, task: usize, running: usize) -> bool {
         match (self.machine.task(task), self.machine.task(running)) {
             (Some(own), Some(other)) => {

@@ -1,4 +1,5 @@
--- The proof of `check_machine`: what the bytes of a machine file are refused for, and where, or else what is worth a warning.
+-- The proof of `check_machine`: what the bytes of a machine file are refused for, and where, or else what is worth a
+-- warning.
 use Rattle.std.proofs.Common.{◌≡◌, Option, Some, Result, Ok, Err, ap, subst, IfOk, IsSome, MatchOption}
 use Rattle.toml.specs.View.{table_view}
 use Rattle.script.specs.File.{MachineData}
