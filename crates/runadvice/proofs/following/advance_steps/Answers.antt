@@ -20,7 +20,7 @@ advance_some-requires-clause-time c = c.loop-done.invariant.time 0 c.requires.ti
 
 pub loop-done-preserved : goal.loop-done-preserved
 loop-done-preserved c =
-    let some = c.in_ok-advance_some.ensures in
+    let some = c.in_ok-done.ensures in
     record {
       within = omega (arith, some.within, c.loop-done-test.true);
       goes = goes_steps _ _ c.loop-done.invariant.goes some.goes;
