@@ -5,7 +5,7 @@ use Rattle.clap.specs.declared.parser.matches.ArgMatches.{ArgMatches}
 use Rattle.clap.proofs.OnLiterals.{clap_on_literals}
 use Rattle.clap.proofs.WalkLemmas.{first_value-rows, raw_values-rows}
 use Rattle.everyway.specs.CommandLine.{IsAskedIn, IsExtra, IsGivenBy, command_line, number_in, or_none}
-use Rattle.everyway.specs.declared.command_line.Asked.{Asked}
+use Rattle.everyway.specs.declared.asked.Asked.{Asked}
 
 pub is_simple_here : is_simple command_line ≡ true
 unfolding clap_on_literals

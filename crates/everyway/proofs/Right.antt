@@ -1,19 +1,23 @@
 -- What was found of a line says that it holds exactly if it does.
-use Rattle.std.proofs.Common.{◌≡◌, ◌∙◌, ℕ, zero, suc, ◌+◌, ◌<◌, ◌++◌, Bool, true, false, List, [], ◌∷◌, Option, None, Some, is_none, is_some, codes, cond, refl, ap, sym, subst, arith, inl, inr}
+use Rattle.std.proofs.Common.{◌≡◌, ◌∙◌, ◌==◌, ℕ, zero, suc, ◌+◌, ◌<◌, ◌++◌, Bool, true, false, List, [], ◌∷◌, Option, None, Some, is_none, is_some, codes, cond, refl, ap, sym, subst, arith, inl, inr}
 use Rattle.std.specs.Global.{Vec}
 use Rattle.std.specs.Io.{StartsWith}
-use Rattle.std.proofs.lemmas.Bool.{false≢true}
+use Rattle.std.proofs.lemmas.Bool.{false≢true, Decides.nat_tests}
 use Rattle.script.specs.{File.MachineData, declared.event.Event.Event}
 use Rattle.ways.specs.{Rules.IsOneOf, Tables.number_where, Tables.one_if}
 use Rattle.expectation.specs.{Expectations.is_sought, Expectations.meets, Judged.IsFound, Judged.IsFirst, Judged.NoneMeets, declared.expectation.Expectation.Expectation}
 use Rattle.execexplore.specs.declared.frame.Frame.{Frame}
-use Rattle.everyway.specs.{Reports.FailsIf, Reports.HoldsIf, Reports.IsOf, Reports.IsRight, Reports.OneMeets, Reports.all_ways, Reports.is_held, Texts.head_text, declared.searching.Judged.Judged}
+use Rattle.everyway.specs.{Reports.FailsIf, Reports.HoldsIf, Reports.IsOf, Reports.IsRight, Reports.OneMeets, Reports.all_ways, Reports.is_held, Texts.head_text, Texts.of_ways_text, Texts.ways_text, declared.searching.Judged.Judged}
 
 -- ---- what is printed
 
+not_none : (count : ℕ) → 0 < count → (count == 0) ≡ false
+not_none count some = grind (arith, nat_tests)
+
 sought_met : (count ways : ℕ) (rest : List ℕ) → 0 < count → StartsWith (head_text true count ways ++ rest) (codes "holds")
-sought_met zero ways rest some = absurd (omega (arith, some))
-sought_met (suc count) ways rest some = refl
+sought_met count ways rest some =
+    subst (λ (b : Bool). StartsWith (cond b (codes "does not hold, met in none of " ++ ways_text ways) (codes "holds, met in " ++ of_ways_text count ways) ++ rest) (codes "holds"))
+    (sym (not_none count some)) refl
 
 sought_missed : (count ways : ℕ) (rest : List ℕ) → count ≡ 0 → StartsWith (head_text true count ways ++ rest) (codes "does not hold")
 sought_missed zero ways rest none = refl
@@ -24,8 +28,9 @@ unwanted_missed zero ways rest none = refl
 unwanted_missed (suc count) ways rest none = absurd (omega (arith, none))
 
 unwanted_met : (count ways : ℕ) (rest : List ℕ) → 0 < count → StartsWith (head_text false count ways ++ rest) (codes "does not hold")
-unwanted_met zero ways rest some = absurd (omega (arith, some))
-unwanted_met (suc count) ways rest some = refl
+unwanted_met count ways rest some =
+    subst (λ (b : Bool). StartsWith (cond b (codes "holds in each of " ++ ways_text ways) (codes "does not hold in " ++ of_ways_text count ways) ++ rest) (codes "does not hold"))
+    (sym (not_none count some)) refl
 
 module _ (line : Expectation) (machine : MachineData) where
   -- ---- how many
@@ -34,7 +39,7 @@ module _ (line : Expectation) (machine : MachineData) where
   none_counts [] none = refl
   none_counts (w ∷ rest) none =
       let others = none_counts rest (λ k d less. none (suc k) d (omega (arith, less))) in
-      ap (λ (b : Bool). one_if b + number_where (meets line machine) rest) (none 0 w (omega arith)) ∙ others
+      subst (λ (b : Bool). one_if b + number_where (meets line machine) rest ≡ 0) (sym (none 0 w (omega arith))) (omega (arith, others))
 
   some_counts : (earlier later : List (List Event)) (way : List Event) → meets line machine way ≡ true
       → 0 < number_where (meets line machine) (earlier ++ way ∷ later)

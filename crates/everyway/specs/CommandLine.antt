@@ -8,7 +8,7 @@ use Rattle.clap.specs.declared.builder.command.Command.{Command}
 use Rattle.clap.specs.declared.parser.matches.ArgMatches.{ArgMatches}
 use Rattle.execexplore.specs.declared.whole.Paths.{Paths}
 use Rattle.execrun.specs.CommandLine.{IsNoAnswer, nameless_app, option_rule, path_rule}
-use Rattle.everyway.specs.declared.command_line.{Asked.Asked, Refusal.Refusal}
+use Rattle.everyway.specs.{declared.asked.Asked.Asked, declared.command_line.Refusal.Refusal}
 use Rattle.everyway.specs.declared.command_line.Refusal.TheVariants as refusal
 
 abbrev pub with_option : App → Text → App

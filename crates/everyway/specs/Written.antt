@@ -5,7 +5,7 @@ use Rattle.std.specs.Prelude.{◌≡◌, ◌+◌, ⊤, ℕ, Bool, List, Option, 
 use Rattle.clap.specs.Words.{Text}
 use Rattle.execrun.specs.{Running.Held, Texts.IsTextAt, Texts.TextAt}
 use Rattle.execexplore.specs.declared.options.Options.{Options}
-use Rattle.everyway.specs.{CommandLine.IsGivenBy, Reports.Expects, declared.command_line.Asked.Asked, declared.failure.Failure.Failure}
+use Rattle.everyway.specs.{CommandLine.IsGivenBy, Reports.Expects, declared.asked.Asked.Asked, declared.failure.Failure.Failure}
 use Rattle.everyway.specs.declared.failure.Failure.TheVariants.{NoMemory, WriteFailed}
 
 -- the status of a report: of one in which all lines hold, and of one in which one does not

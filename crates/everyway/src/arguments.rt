@@ -5,7 +5,8 @@ ghost use Rattle.clap.specs.Walk.{texts as words_of};
 ghost use Rattle.execrun.specs.{CommandLine.AreRight, CommandLine.IsNoAnswer, Texts.IsTextAt, Texts.nothing_told};
 ghost use Rattle.everyway.specs.{CommandLine.command_line, Written.ExpectsAsked, Written.IsAtWork, Written.IsOfFile, Written.WritesGiven, Written.WritesVerdicts, Written.status_of};
 
-use crate::command_line::{Asked, Refusal, asked_by, not_text_error};
+use crate::asked::Asked;
+use crate::command_line::{Refusal, asked_by, not_text_error};
 use crate::failure::{Failure, report};
 use crate::file::Wanted;
 use crate::making::{document_at, items_at, report_in};

@@ -5,30 +5,13 @@ ghost use Rattle.clap.specs.Walk.{texts};
 ghost use Rattle.execrun.specs.CommandLine.{AreRight, IsNoAnswer, option_rule, path_rule};
 ghost use Rattle.everyway.specs.CommandLine.{ArePathsIn, IsAskedIn, IsExtra, IsGivenBy, IsNoHelp, TakesWords, command_line, lines_alone, number_in, options_alone, or_none, texts_at};
 
+use crate::asked::Asked;
 use crate::failure::Failure;
 use clap::error::ErrorKind;
 use clap::{Arg, ArgAction, ArgMatches, Command, Error};
 use escape::{HIDDEN_WORD, words_if_hidden};
 use execexplore::{MOST_EXTRAS, Paths};
 use std::alloc::{AllocError, Global};
-
-/// What a command line asks for.
-#[derive(Drop)]
-pub struct Asked<'a> {
-    /// Where both texts are.
-    pub paths: Paths<'a>,
-    /// The lines that are expected.
-    pub lines: Vec<&'a str>,
-    /// Where more of them are, if a file is given.
-    pub expect: Option<&'a str>,
-    /// How many extras a way has at most.
-    pub extra: usize,
-    ghost few: { extra ≤ 8 },
-    /// The kinds of the extras, as they are listed; none for those that the machine file serves.
-    pub of: Option<&'a str>,
-    /// The line of which only the events are printed, from 1, if one is asked for.
-    pub events: Option<usize>,
-}
 
 /// An option that takes a value.
 fn option<'a>(alloc: Global, name: &'static str, value: &'static str, help: &'static str) -> Arg<'a>

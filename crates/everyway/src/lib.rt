@@ -3,6 +3,7 @@
 #![tactic(auto)]
 
 mod arguments;
+mod asked;
 mod command_line;
 mod failure;
 mod file;

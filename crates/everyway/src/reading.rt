@@ -96,6 +96,20 @@ fn why_of<'a>(without: usize, items: &[Wanted<'a>], number: usize) -> Option<&'a
     items.get(at)?.why
 }
 
+/// Adds a line with its reason.
+fn push_expected<'a>(
+    expected: &mut Vec<Expected<'a>>,
+    line: &Expectation,
+    why: Option<&'a str>,
+) -> Result<(), AllocError>
+    ensures { OnOk result (length expected.new.items ≡ length expected.old.items + 1) }
+{
+    if expected.push(Expected { line: *line, why }).is_err() {
+        return Err(AllocError);
+    }
+    Ok(())
+}
+
 /// Lines with the reasons for which they are expected; the first so many have none.
 fn with_reasons<'a>(
     alloc: Global,
@@ -109,7 +123,7 @@ fn with_reasons<'a>(
     let mut number = 0usize;
     for line in found {
         let why = why_of(without, items, number);
-        expected.push(Expected { line: *line, why })?;
+        push_expected(&mut expected, line, why)?;
         number = number.saturating_add(1);
     }
     Ok(expected)
