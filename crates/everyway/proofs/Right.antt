@@ -6,8 +6,7 @@ use Rattle.std.proofs.lemmas.Bool.{false≢true, Decides.nat_tests}
 use Rattle.script.specs.{File.MachineData, declared.event.Event.Event}
 use Rattle.ways.specs.{Rules.IsOneOf, Tables.number_where, Tables.one_if}
 use Rattle.expectation.specs.{Expectations.is_sought, Expectations.meets, Judged.IsFound, Judged.IsFirst, Judged.NoneMeets, declared.expectation.Expectation.Expectation}
-use Rattle.execexplore.specs.declared.frame.Frame.{Frame}
-use Rattle.everyway.specs.{Reports.FailsIf, Reports.HoldsIf, Reports.IsOf, Reports.IsRight, Reports.OneMeets, Reports.all_ways, Reports.is_held, Texts.head_text, Texts.of_ways_text, Texts.ways_text, declared.searching.Judged.Judged}
+use Rattle.everyway.specs.{Reports.FailsIf, Reports.HoldsIf, Reports.IsRight, Reports.OneMeets, Reports.all_ways, Texts.head_text, Texts.of_ways_text, Texts.ways_text}
 
 -- ---- what is printed
 

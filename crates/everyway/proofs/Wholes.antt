@@ -1,5 +1,5 @@
 -- All ways are the part of them that has as many as there are; and what was found of one line more.
-use Rattle.std.proofs.Common.{◌≡◌, ◌∙◌, ℕ, ◌+◌, ◌<◌, ◌++◌, All, List, [], ◌∷◌, length, get_or, map, refl, ap, ap₂, sym, subst, take, take_all, arith}
+use Rattle.std.proofs.Common.{◌≡◌, ◌∙◌, ℕ, ◌+◌, ◌<◌, ◌++◌, List, [], ◌∷◌, length, get_or, map, ap, ap₂, sym, take, take_all, arith}
 use Rattle.std.proofs.lemmas.List.{map-append, take_more}
 use Rattle.script.specs.declared.event.Event.{Event}
 use Rattle.ways.specs.Ways.{count_all, part_of, ways}

@@ -7,7 +7,7 @@ use Rattle.wayreport.specs.Events.{event_line}
 use Rattle.ways.specs.Grouping.{grouped}
 use Rattle.script.specs.{File.MachineData, declared.event.Event.Event}
 use Rattle.ways.specs.{Rules.IsOneOf, Ways.ways}
-use Rattle.expectation.specs.{Expectations.is_sought, Expectations.meets, Judged.IsVerdict, Judged.NoneMeets, declared.expectation.Expectation.Expectation, declared.judging.Verdict.Verdict}
+use Rattle.expectation.specs.{Expectations.is_sought, Expectations.meets, Judged.IsVerdict, Judged.NoneMeets, declared.expectation.Expectation.Expectation}
 use Rattle.execexplore.specs.{Framing.IsFrameOf, declared.frame.Frame.Frame, declared.options.Options.Options, declared.whole.Paths.Paths}
 use Rattle.everyway.specs.{Texts.title_text, Texts.verdict_text, declared.reading.Expected.Expected, declared.searching.Judged.Judged}
 

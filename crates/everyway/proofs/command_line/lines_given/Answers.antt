@@ -1,6 +1,5 @@
 -- The lines are the values of the option.
-use Rattle.std.proofs.Common.{◌∙◌, List, ap, option_map, sym}
-use Rattle.std.specs.Borrow.{Bor}
+use Rattle.std.proofs.Common.{◌∙◌, ap, option_map, sym}
 use Rattle.std.proofs.lemmas.Result.{IfOk-weaker}
 use Rattle.everyway.specs.CommandLine.{or_none, texts_at}
 use Rattle.everyway.proofs.command_line.lines_given.Goals as goal
