@@ -1,5 +1,5 @@
 -- What an expectation says of the run of some events. Each names something that a run may meet.
-use Rattle.std.specs.Prelude.{◌≡◌, Bool, true, false, All, List}
+use Rattle.std.specs.Prelude.{Bool, true, false, List}
 use Rattle.script.specs.{File.MachineData, declared.event.Event.Event}
 use Rattle.execmodel.specs.{State.booted, Step.run, Step.starts}
 use Rattle.expectation.specs.{Lines.is_among, States.comes_to, States.is_at, declared.expectation.Expectation.Expectation}

@@ -1,5 +1,5 @@
 -- It is met at once, or between no event and all.
-use Rattle.std.proofs.Common.{◌≡◌, ◌∙◌, ap, arith, length, List, sym, take_all}
+use Rattle.std.proofs.Common.{◌∙◌, ap, arith, length, List, sym, take_all}
 use Rattle.script.specs.declared.event.Event.{Event}
 use Rattle.expectation.specs.Expectations.{meets}
 use Rattle.expectation.proofs.Longer.{at_once, some_events}

@@ -1,5 +1,5 @@
 -- The proof of `judge`: none of the ways, or the first that does.
-use Rattle.std.proofs.Common.{◌≡◌, ◌∙◌, ◌<◌, ap, arith, subst, List}
+use Rattle.std.proofs.Common.{◌∙◌, ◌<◌, ap, arith, subst, List}
 use Rattle.script.specs.declared.event.Event.{Event}
 use Rattle.ways.specs.Ways.{part_of, ways}
 use Rattle.expectation.specs.{Expectations.meets, Judged.ComesFirst}

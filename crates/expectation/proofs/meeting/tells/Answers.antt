@@ -1,5 +1,4 @@
 -- The listener has heard the lines of the run.
-use Rattle.std.proofs.Common.{◌∙◌, refl}
 use Rattle.execmodel.specs.{State.booted, Step.run}
 use Rattle.expectation.proofs.Hearing.{hears_among}
 use Rattle.expectation.proofs.meeting.tells.Goals as goal

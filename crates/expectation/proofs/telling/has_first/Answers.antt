@@ -1,5 +1,5 @@
 -- The arguments are those of the line.
-use Rattle.std.proofs.Common.{◌≡◌, ◌∙◌, ap, sym}
+use Rattle.std.proofs.Common.{◌∙◌, ap, sym}
 use Rattle.exectrace.specs.{Heard.heard, declared.telling.Said.Said}
 use Rattle.expectation.specs.Lines.{has_first}
 use Rattle.expectation.proofs.telling.has_first.Goals as goal
