@@ -436,9 +436,9 @@ fn lone_reason(text: &str, count: usize) -> Option<&'static str> {
     }
 }
 
-/// What is said of a line of BASIC, of an assembler, of Python or of a graphics program, which begins with a text that
-/// is not a word.
-fn dialect_reason(text: &str, fields: &[&str]) -> Option<&'static str> {
+/// What is said of a line of BASIC, of an assembler, of Python or of a graphics program, which begins with a text that is
+/// no word.
+fn dialect_reason(line: &str, text: &str, fields: &[&str]) -> Option<&'static str> {
     let next = fields.get(1).copied().unwrap_or("");
     if next.eq_ignore_ascii_case("equ") {
         Some(NOT_NAMED)
@@ -451,7 +451,7 @@ fn dialect_reason(text: &str, fields: &[&str]) -> Option<&'static str> {
     } else if text.starts_with("\"") {
         Some(TEXT_ALONE)
     } else if next == "is" && instead_of(text).is_none() {
-        Some(compared_reason(text))
+        Some(compared_reason(line))
     } else if asks(next) && instead_of(text).is_none() {
         Some(CHOICES)
     } else if has_joined_label(text) {
@@ -668,6 +668,9 @@ fn shape_reason(field: &str) -> Option<&'static str> {
 
 /// Why a part is neither a number nor a variable.
 fn value_reason(alloc: Global, field: &str) -> Made<&'static str> {
+    if field.contains('|') && number_meant(alloc, field)?.is_some() {
+        return Ok(foreign_number_reason(field));
+    }
     if let Some(reason) = shape_reason(field) {
         return Ok(reason);
     }
@@ -1144,10 +1147,10 @@ impl Line<'_, '_, '_> {
             return String::from_str(alloc, reason);
         }
         if let Some(instead) = instead_before_colon(self.text, fields) {
-            return instead_reason(alloc, text, instead);
+            return instead_reason(alloc, text.trim_end_matches(':'), instead);
         }
         let dialect = if at == 0 {
-            dialect_reason(text, fields)
+            dialect_reason(self.text, text, fields)
         } else {
             None
         };
@@ -1369,7 +1372,8 @@ impl Line<'_, '_, '_> {
         };
         let is_call = self.text.contains('(') && word_of(first).is_some();
         let has_sign = self.text.contains(',') || self.text.contains("; ");
-        let is_listed = self.meant.is_none() && has_sign && !is_call;
+        let is_text = self.text.contains('"');
+        let is_listed = self.meant.is_none() && has_sign && !is_call && !is_text;
         Ok(if is_listed && arguments.len() > word.kinds().len() {
             extra_value_reason(word)
         } else {

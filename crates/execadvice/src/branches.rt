@@ -84,7 +84,7 @@ fn has_nothing_at(line: &str, operator: &str) -> bool {
 
 /// What has the place of a comparison of a line with 0, if it has one.
 fn zero_reason(line: &str) -> Option<&'static str> {
-    if has_nothing_at(line, " == ") {
+    if has_nothing_at(line, " == ") || has_nothing_at(line, " is ") {
         Some(IS_ZERO)
     } else if has_nothing_at(line, " != ") || has_nothing_at(line, " <> ") {
         Some(IS_NOT_ZERO)

@@ -194,12 +194,21 @@ const HABITS: [(&str, &str); 70] = [
     ("irq", SMALL),
 ];
 
+/// What has the place of a word that is one of several, without the s at its end; nothing of a word of an event.
+fn habit_of_one(word: &str) -> Option<&'static str> {
+    if is_event_word(word) {
+        None
+    } else {
+        row_of(&HABITS, word)
+    }
+}
+
 /// Why the first word of a line begins no event.
 fn word_advice(alloc: Global, line: &str) -> Made<Advice> {
     let (word, _) = line.split_once(" ").unwrap_or((line, ""));
     let habit = match row_of(&HABITS, word) {
         Some(reason) => Some(reason),
-        None => row_of(&HABITS, word.trim_end_matches('s')),
+        None => habit_of_one(word.trim_end_matches('s')),
     };
     let reason = match (habit, source_named(word)) {
         (Some(reason), _) => reason,

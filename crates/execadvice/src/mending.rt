@@ -82,6 +82,12 @@ fn moved<'a>(alloc: Global, fields: &[&'a str], from: usize, to: usize) -> Made<
     Ok(out)
 }
 
+/// Whether a text is a word in another case, or a name of another system that has its place, and not misspelt.
+fn is_other_name(word: Word, text: &str) -> bool {
+    let has_letters = text.eq_ignore_ascii_case(word.text());
+    text != word.text() && (has_letters || instead_of(text).is_some())
+}
+
 /// Whether an argument of a word that is a mask is a number that can be none.
 fn has_no_mask(word: Word, fields: &[&str]) -> bool {
     fields.iter().enumerate().any(|(i, field)| {
@@ -232,7 +238,11 @@ impl Mending<'_> {
         if let Some(number) = number_of_role(self.alloc, role, field)? {
             return Ok(Some(written_number(self.alloc, number)?));
         }
-        match value_meant(self.alloc, without_quoted_number(field))? {
+        let plain = without_quoted_number(field);
+        if plain.len() < field.len() && role == "mask" && number_of_no_mask(plain).is_some() {
+            return Ok(None);
+        }
+        match value_meant(self.alloc, plain)? {
             None => Ok(None),
             Some(value) => Ok(Some(self.in_body(value)?)),
         }
@@ -338,7 +348,7 @@ impl Mending<'_> {
         };
         match word_meant(self.alloc, *text)? {
             None => self.idiom_meant(target, &fields),
-            Some(word) if word.text() != *text && has_no_mask(word, after) => Ok(None),
+            Some(word) if is_other_name(word, *text) && has_no_mask(word, after) => Ok(None),
             Some(word) => self.with_word(target, word, after),
         }
     }
