@@ -436,8 +436,8 @@ fn lone_reason(text: &str, count: usize) -> Option<&'static str> {
     }
 }
 
-/// What is said of a line of BASIC, of an assembler, of Python or of a graphics program, which begins with a text that is
-/// no word.
+/// What is said of a line of BASIC, of an assembler, of Python or of a graphics program, which begins with a text that
+/// is no word.
 fn dialect_reason(line: &str, text: &str, fields: &[&str]) -> Option<&'static str> {
     let next = fields.get(1).copied().unwrap_or("");
     if next.eq_ignore_ascii_case("equ") {

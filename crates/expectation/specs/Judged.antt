@@ -1,4 +1,5 @@
--- What is found of some ways: how many meet what an expectation names, and the events after which the first of these does.
+-- What is found of some ways: how many meet what an expectation names, and the events after which the first of these
+-- does.
 use Rattle.std.specs.Prelude.{◌≡◌, ◌<◌, ◌≤◌, ◌+◌, ◌==◌, ◌&&◌, ℕ, Bool, true, false, All, List, ◌∷◌, ◌++◌, length, take, Option, None, Some, if◌then◌else◌}
 use Rattle.std.specs.Global.{Vec}
 use Rattle.script.specs.{File.MachineData, declared.event.Event.Event}
