@@ -8,6 +8,13 @@ use crate::found::Alert;
 use crate::walker::Walker;
 use std::alloc::Global;
 
+/// The place of an alert that has a line.
+pub(crate) fn place_of(alerts: &[Alert], line: &[u8]) -> Option<usize> {
+    alerts
+        .iter()
+        .position(|alert| alert.line.as_slice() == line)
+}
+
 /// Whether the alert of a number has this line. Past the last none has.
 pub(crate) fn has_line(alerts: &[Alert], i: usize, line: &[u8]) -> bool
     ensures within { result ≡ true → i < length (lines_of alerts.now) }

@@ -2,11 +2,10 @@
 //! found.
 ghost use Rattle.std.specs.Prelude.{◌≡◌, ◌<◌, ℕ, List, [], true, length, slice_index_or, IfOk, OnOk};
 ghost use Rattle.script.specs.declared.event.Event.{Event};
-ghost use Rattle.closure.specs.Closed.{GoesOn, IsAt, IsEverything, IsFound, IsNumber, Leads, lines_of};
+ghost use Rattle.closure.specs.Closed.{GoesOn, IsAt, IsEverything, IsFound, IsNumber, IsOneOf, Leads, lines_of};
 
-use crate::alerts::has_line;
 use crate::fault::Fault;
-use crate::found::{Found, Next};
+use crate::found::Found;
 use crate::walker::Walker;
 use script::Event;
 use std::alloc::Global;
@@ -51,29 +50,29 @@ fn begins<W: Walker>(walker: &mut W, found: &Found, text: &mut Vec<u8>) -> Resul
     is_at(walker, found, 0, text)
 }
 
+/// Whether the key of where a walker is is that of one of the states that were found.
+fn is_among<W: Walker>(walker: &W, found: &Found, text: &mut Vec<u8>) -> Result<bool, Fault>
+    ensures { IfOk result (λ yes. yes ≡ true → IsOneOf found.now.keys (W.key walker.now)) }
+{
+    walker.tell(text)?;
+    Ok(found.has_key(text.as_slice()))
+}
+
 /// Whether an event leads from where a walker is to what was found.
 fn leads<W: Walker>(
     walker: &mut W,
     one: Event,
     found: &Found,
-    next: Option<Next>,
     text: &mut Vec<u8>,
 ) -> Result<bool, Fault>
     ensures same { W.machine_of walker.new ≡ W.machine_of walker.old }
     ensures leads { IfOk result (λ yes. yes ≡ true → (list : List Event) → W.stands walker.old list
         → Leads W.machine_of W.stands W.key (W.machine_of walker.old) found.now.keys (lines_of found.now.alerts.items) list one) }
 {
-    let ended = walker.go(one, text)?;
-    match next {
-        None => Ok(false),
-        Some(Next::State(state)) => {
-            if ended {
-                return Ok(false);
-            }
-            is_at(walker, found, state, text)
-        }
-        Some(Next::Alert(alert)) => Ok(ended && has_line(&found.alerts, alert, text.as_slice())),
+    if walker.go(one, text)? {
+        return Ok(found.has_alert(text.as_slice()));
     }
+    is_among(walker, found, text)
 }
 
 /// Whether some events come to the state of a number, and the kind of a number leads from it to what was found.
@@ -96,8 +95,7 @@ fn goes_on<W: Walker>(
     if !walk(walker, list, text)? || !is_at(walker, found, state, text)? {
         return Ok(false);
     }
-    let next = found.next(kinds.len(), state, kind);
-    let led = leads(walker, *one, found, next, text)?;
+    let led = leads(walker, *one, found, text)?;
     Ok(led)
 }
 

@@ -4,9 +4,8 @@ ghost use Rattle.std.specs.Prelude.{◌≡◌};
 
 use crate::check::walk;
 use crate::fault::Fault;
-use crate::found::{Alert, Found, Next, Node};
+use crate::found::{Found, Mark, Node};
 use crate::walker::Walker;
-use indexmap::IndexMap;
 use script::Event;
 use std::alloc::Global;
 
@@ -25,132 +24,112 @@ pub struct Limits {
     pub events: u64,
 }
 
-/// What a search has found, and whether that is all: if not, it has met a limit.
+/// What a search has found, and whether that is all: if not, it has met a limit, or its plan is no tree of this machine.
 #[derive(Drop)]
 pub struct Searched {
     pub found: Found,
     pub is_whole: bool,
 }
 
-/// A search in progress: what was found, and the number of each state by its key.
-#[derive(Drop)]
-struct SoFar {
+/// Which kinds a search tries from each state.
+#[derive(Clone, Copy)]
+pub enum Plan<'a> {
+    /// Each kind.
+    All,
+    /// Those that lead to a new state or a new alert, as these marks say: of each state and each kind there is one, in
+    /// the order of a search. All other kinds are taken to lead to what is known.
+    Tree(&'a [Mark]),
+}
+
+impl Plan<'_> {
+    /// Whether a kind is not tried, whose mark has this place.
+    fn leaves_out(&self, place: usize) -> bool {
+        match self {
+            Plan::All => false,
+            Plan::Tree(marks) => match marks.get(place) {
+                None => true,
+                Some(mark) => *mark == Mark::Known,
+            },
+        }
+    }
+
+    /// Whether a search that left these marks has gone by the plan, and has done all of it.
+    fn is_done(&self, left: &[Mark]) -> bool {
+        match self {
+            Plan::All => true,
+            Plan::Tree(marks) => *marks == left,
+        }
+    }
+}
+
+/// Begins anew, goes along the events to a state and on by a kind, and notes where that leads.
+fn go_to<W: Walker>(
     alloc: Global,
-    found: Found,
-    numbers: IndexMap<Vec<u8>, usize>,
-}
-
-/// The place of the alert that has a line.
-fn place_of(alerts: &[Alert], line: &[u8]) -> Option<usize> {
-    alerts
-        .iter()
-        .position(|alert| alert.line.as_slice() == line)
-}
-
-impl SoFar {
-    /// A search that has found nothing yet.
-    fn new(alloc: Global) -> SoFar {
-        SoFar {
-            alloc,
-            found: Found::new(alloc),
-            numbers: IndexMap::new(alloc),
-        }
-    }
-
-    /// The state of a key, which is noted if it is new.
-    fn state(&mut self, key: &[u8], node: Node) -> Result<Next, Fault> {
-        if let Some(number) = self.numbers.get(key) {
-            return Ok(Next::State(*number));
-        }
-        let number = self.found.keys.len();
-        let copy = Vec::from_slice(self.alloc, key)?;
-        self.numbers.insert(copy, number)?;
-        self.found.keys.push(self.alloc, key)?;
-        self.found.nodes.push(node)?;
-        Ok(Next::State(number))
-    }
-
-    /// The alert of a line, which is noted if it is new.
-    fn alert(&mut self, before: &[Event], last: Event, line: &[u8]) -> Result<Next, Fault> {
-        if let Some(place) = place_of(&self.found.alerts, line) {
-            return Ok(Next::Alert(place));
-        }
-        let number = self.found.alerts.len();
-        let alert = Alert {
-            before: Vec::from_slice(self.alloc, before)?,
-            last,
-            line: Vec::from_slice(self.alloc, line)?,
-        };
-        self.found.alerts.push(alert)?;
-        Ok(Next::Alert(number))
-    }
-
-    /// What was found, and whether that is all.
-    fn ended(self, is_whole: bool) -> Searched {
-        let SoFar {
-            alloc: _,
-            found,
-            numbers: _,
-        } = self;
-        Searched { found, is_whole }
-    }
-}
-
-/// Where a kind leads from where a walker is, to which some events come.
-fn next_of<W: Walker>(
     walker: &mut W,
-    so_far: &mut SoFar,
+    found: &mut Found,
     list: &[Event],
     one: Event,
     node: Node,
     text: &mut Vec<u8>,
-) -> Result<Next, Fault>
+) -> Result<Mark, Fault>
     ensures { W.machine_of walker.new ≡ W.machine_of walker.old }
 {
+    // The events came to a state before, and do so again.
+    walk(walker, list, text)?;
     if walker.go(one, text)? {
-        return so_far.alert(list, one, text.as_slice());
+        return found.note_alert(alloc, list, one, text.as_slice());
     }
     walker.tell(text)?;
-    so_far.state(text.as_slice(), node)
+    found.note_state(alloc, text.as_slice(), node)
 }
 
 /// Notes where each kind leads from a state, to which some events come.
 fn try_kinds<W: Walker>(
+    alloc: Global,
     walker: &mut W,
-    so_far: &mut SoFar,
+    found: &mut Found,
     list: &[Event],
     kinds: &[Event],
+    plan: Plan<'_>,
     state: usize,
     text: &mut Vec<u8>,
 ) -> Result<(), Fault>
     ensures { W.machine_of walker.new ≡ W.machine_of walker.old }
 {
     for kind in 0..kinds.len() {
-        // The events came to a state before, and do so again.
-        walk(walker, list, text)?;
         let node = Node {
             parent: state,
             kind,
         };
-        let next = next_of(walker, so_far, list, kinds[kind], node, text)?;
-        so_far.found.nexts.push(next)?;
+        let mark = if plan.leaves_out(found.marks.len()) {
+            Mark::Known
+        } else {
+            go_to(alloc, walker, found, list, kinds[kind], node, text)?
+        };
+        found.marks.push(mark)?;
     }
     Ok(())
 }
 
 /// Notes the first state.
-fn begin<W: Walker>(walker: &mut W, so_far: &mut SoFar, text: &mut Vec<u8>) -> Result<(), Fault>
+fn begin<W: Walker>(
+    alloc: Global,
+    walker: &mut W,
+    found: &mut Found,
+    text: &mut Vec<u8>,
+) -> Result<(), Fault>
     ensures { W.machine_of walker.new ≡ W.machine_of walker.old }
 {
     walker.begin()?;
     walker.tell(text)?;
     let first = Node { parent: 0, kind: 0 };
-    let _ = so_far.state(text.as_slice(), first)?;
+    let _ = found.note_state(alloc, text.as_slice(), first)?;
     Ok(())
 }
 
 /// Searches for the states to which events of these kinds come, in whatever order and however many, and for the alerts
-/// in which they end. What was found before a limit is met is answered too.
+/// in which they end: by each kind from each state, or by those of a tree alone. What was found before a limit is met is
+/// answered too, and what was found by a tree that is not as its marks say.
 ///
 /// # Errors
 ///
@@ -161,29 +140,35 @@ pub fn search<W: Walker, P: Watcher>(
     alloc: Global,
     walker: &mut W,
     kinds: &[Event],
+    plan: Plan<'_>,
     limits: Limits,
     watcher: &mut P,
 ) -> Result<Searched, Fault>
     ensures { W.machine_of walker.new ≡ W.machine_of walker.old }
 {
-    let mut so_far = SoFar::new(alloc);
+    let mut found = Found::new(alloc);
     let mut list = Vec::new(alloc);
     let mut text = Vec::new(alloc);
     let mut events: u64 = 0;
-    begin(walker, &mut so_far, &mut text)?;
+    begin(alloc, walker, &mut found, &mut text)?;
     for state in 0..limits.states {
-        let states = so_far.found.keys.len();
+        let states = found.keys.len();
         if state >= states {
-            return Ok(so_far.ended(true));
+            break;
         }
         if states > limits.states || events > limits.events {
-            return Ok(so_far.ended(false));
+            return Ok(Searched {
+                found,
+                is_whole: false,
+            });
         }
-        so_far.found.events(kinds, state, &mut list)?;
+        found.events(kinds, state, &mut list)?;
         events = events.saturating_add(list.len() as u64);
-        try_kinds(walker, &mut so_far, &list, kinds, state, &mut text)?;
-        watcher.report(so_far.found.keys.len(), so_far.found.alerts.len());
+        try_kinds(
+            alloc, walker, &mut found, &list, kinds, plan, state, &mut text,
+        )?;
+        watcher.report(found.keys.len(), found.alerts.len());
     }
-    let is_whole = so_far.found.keys.len() <= limits.states;
-    Ok(so_far.ended(is_whole))
+    let is_whole = found.keys.len() <= limits.states && plan.is_done(&found.marks);
+    Ok(Searched { found, is_whole })
 }

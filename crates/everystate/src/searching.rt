@@ -6,7 +6,7 @@ ghost use Rattle.statewalk.specs.Every.{SaysEvery};
 
 use crate::failure::Failure;
 use crate::kinds::{kinds_listed, kinds_served};
-use closure::{Limits, Watcher};
+use closure::{Limits, Plan, Watcher};
 use script::{Event, MachineFile};
 use statekeys::first_beyond;
 use statereport::StateReport;
@@ -58,7 +58,7 @@ fn report_of<'a, P: Watcher>(
     if let Some(beyond) = first_beyond(file) {
         return Err(Failure::NotCovered(beyond));
     }
-    let report = every_state(alloc, file, name, kinds, LIMITS, watcher)?;
+    let report = every_state(alloc, file, name, kinds, Plan::All, LIMITS, watcher)?;
     Ok(report)
 }
 

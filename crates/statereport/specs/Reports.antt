@@ -24,6 +24,10 @@ abbrev pub events_text : (mark : List ℕ) → List Event → List ℕ
 events_text mark [] = []
 events_text mark (event ∷ rest) = event_text event ++ flat_map (after mark) rest
 
+-- the kinds of events that lists are made of
+abbrev pub kinds_text : List Event → List ℕ
+kinds_text kinds = events_text (codes " and ") kinds
+
 abbrev pub states_text : ℕ → List ℕ
 states_text n = decimal n ++ (if n == 1 then codes " state" else codes " states")
 
@@ -34,7 +38,7 @@ found_text is_closed states =
 
 abbrev pub title_line : List ℕ → List Event → Bool → ℕ → List ℕ
 title_line name kinds is_closed states =
-    shown name ++ (codes ": every list of " ++ (events_text (codes " and ") kinds ++ (codes ": " ++ found_text is_closed states)))
+    shown name ++ (codes ": every list of " ++ (kinds_text kinds ++ (codes ": " ++ found_text is_closed states)))
 
 abbrev pub alerts_line : ℕ → List ℕ
 alerts_line n = decimal n ++ (if n == 1 then codes " alert\n" else codes " alerts\n")

@@ -6,3 +6,4 @@ mod report;
 mod text;
 
 pub use report::{StateReport, report_states};
+pub use text::kinds_text;

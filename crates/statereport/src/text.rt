@@ -1,6 +1,6 @@
 //! The text of a report.
 ghost use Rattle.std.specs.Prelude.{◌≡◌, ◌++◌, IfOk, OnOk, flat_map, string_bytes};
-ghost use Rattle.statereport.specs.Reports.{after, alert_end, alert_text, alerts_line, event_text, events_text, report_text, states_text, title_line, way_of};
+ghost use Rattle.statereport.specs.Reports.{after, alert_end, alert_text, alerts_line, event_text, events_text, kinds_text, report_text, states_text, title_line, way_of};
 
 use closure::Alert;
 use escape::Shown;
@@ -60,6 +60,19 @@ fn events_text(alloc: Global, mark: &str, events: &[Event]) -> Result<String, Al
     }
 }
 
+/// The kinds of events that lists are made of.
+///
+/// # Errors
+///
+/// Memory was refused.
+///
+/// Source: project rule.
+pub fn kinds_text(alloc: Global, kinds: &[Event]) -> Result<String, AllocError>
+    ensures { IfOk result (λ text. string_bytes text ≡ kinds_text kinds.now) }
+{
+    events_text(alloc, " and ", kinds)
+}
+
 /// A number of states.
 fn states_text(alloc: Global, states: usize) -> Result<String, AllocError>
     ensures { IfOk result (λ text. string_bytes text ≡ states_text states) }
@@ -82,7 +95,7 @@ fn title_line(
     ensures { IfOk result (λ text. string_bytes text ≡ title_line name.now kinds.now is_closed states) }
 {
     let name = Shown(name);
-    let kinds = events_text(alloc, " and ", kinds)?;
+    let kinds = kinds_text(alloc, kinds)?;
     let counted = states_text(alloc, states)?;
     if is_closed {
         format!(in alloc; "{name}: every list of {kinds}: {counted}, closed\n")

@@ -1,22 +1,11 @@
--- The report is that of what was found and looked through.
-use Rattle.std.proofs.Common.{rules, ◌≡◌, ◌∙◌, All, List, true, sym, subst}
+-- The report is of the machine over which the search went.
+use Rattle.std.proofs.Common.{◌≡◌, subst}
 use Rattle.script.specs.File.{MachineData}
-use Rattle.closure.specs.{Closed.IsEverything, Closed.IsShown, Closed.lines_of, declared.found.Alert.Alert}
+use Rattle.statereport.specs.Reports.{Reports}
 use Rattle.statereport.proofs.report.report_states.Goals as goal
 
 pub returns : goal.returns
 returns g c =
-    let found = c.in_ok-searched.searched.found in
-    let first = c.search.ensures in
-    let yes : c.in_ok-are_shown.field-0 ≡ true = search rules in
-    record {
-      keys = found.keys;
-      alerts = found.alerts.items;
-      says = search rules;
-      counts = search rules;
-      closed = λ is.
-          subst (λ (m : MachineData). IsEverything g.W.Walker.machine_of g.W.Walker.stands g.W.Walker.key m c.args.kinds.now found.keys (lines_of found.alerts.items))
-          (c.are_shown.ensures.same ∙ first) (c.in_ok-is_closed.ensures is);
-      shown = subst (λ (l : List Alert). All (IsShown (g.W.Walker.machine_of c.args.walker.now)) l) c.deref.ensures.value
-          (subst (λ (m : MachineData). All (IsShown m) c.deref.result.now) first (c.in_ok-are_shown.ensures.shown yes));
-    }
+    let r = c.in_ok-report.report in
+    subst (λ (m : MachineData). Reports g.W.Walker.machine_of g.W.Walker.stands g.W.Walker.key m c.args.name.now c.args.kinds.now r.is_closed r.alerts r.text.items)
+    c.search.ensures c.in_ok-report.ensures
