@@ -6,9 +6,13 @@ use Rattle.clap.specs.declared.builder.command.Command.{Command}
 use Rattle.execrun.specs.CommandLine.{flag_rule, nameless_app, option_rule, path_rule}
 use Rattle.everystate.specs.declared.command_line.Asked.{Asked}
 
--- the options
+-- the options that say which lists of events are meant
+abbrev pub of_lists : App
+of_lists = with_rule (with_rule (nameless_app (codes "execexplore")) (flag_rule (codes "all"))) (option_rule (codes "of") Set)
+
+-- all options
 abbrev pub options_alone : App
-options_alone = with_rule (with_rule (with_rule (nameless_app (codes "execexplore")) (flag_rule (codes "all"))) (option_rule (codes "of") Set)) (flag_rule (codes "progress"))
+options_alone = with_rule (with_rule (with_rule of_lists (option_rule (codes "keep") Set)) (option_rule (codes "check") Set)) (flag_rule (codes "progress"))
 
 -- the whole command line
 abbrev pub command_line : App

@@ -2,13 +2,14 @@
 ghost use Rattle.std.specs.Prelude.{◌≡◌, ◌≢◌, ◌≤◌, ◌⊎◌, IfOk, OnOk};
 ghost use Rattle.std.specs.Io.KnownBytes.{Appends};
 ghost use Rattle.clap.specs.Walk.{texts as words_of};
-ghost use Rattle.execrun.specs.{CommandLine.AreRight, CommandLine.IsNoAnswer, Texts.nothing_told};
+ghost use Rattle.execrun.specs.{CommandLine.AreRight, CommandLine.IsNoAnswer, Texts.IsTextAt, Texts.nothing_told};
 ghost use Rattle.everystate.specs.{CommandLine.command_line, Searched.Reports, Written.WritesGiven, Written.WritesStates, Written.status_of};
 
 use crate::command_line::{Asked, asked_by, not_text_error};
 use crate::failure::{Failure, report};
+use crate::keeping::put;
 use crate::progress::Progress;
-use crate::searching::states_by;
+use crate::searching::{AllStates, Proposal, states_by};
 use clap::error::ErrorKind;
 use execrun::{SystemTexts, Texts, read_text};
 use statereport::StateReport;
@@ -73,26 +74,80 @@ fn write_report<'a, W: Write>(report: &StateReport, out: &mut W) -> Result<u8, F
     }
 }
 
-/// Makes the report of a text. It reports how far it is if that is asked for, or if `err` is a terminal.
+/// The text at a path.
+fn text_at<'a, T: Texts>(texts: &T, alloc: Global, path: &'a str) -> Result<Vec<u8>, Failure<'a>>
+    ensures { IfOk result (λ bytes. IsTextAt (T.text_at texts.now) path.now bytes.items) }
+{
+    match read_text(texts, alloc, path) {
+        Ok(text) => Ok(text),
+        Err(fault) => Err(Failure::of_text(path, fault)),
+    }
+}
+
+/// Makes the report of a text, by a search or by a certificate. It reports how far it is if that is asked for, or if
+/// `err` is a terminal.
 fn report_for<'a, C: Clock, E: Write + IsTerminal>(
     clock: &C,
     alloc: Global,
     text: &[u8],
     name: &str,
     asked: &Asked<'a>,
+    proposal: Option<Proposal<'a, '_>>,
     err: &mut E,
-) -> Result<StateReport, Failure<'a>>
-    ensures { IfOk result (λ report. Reports text.now name.now report.is_closed report.alerts report.text.items) }
+) -> Result<AllStates, Failure<'a>>
+    ensures { IfOk result (λ all. Reports text.now name.now all.report.is_closed all.report.alerts all.report.text.items) }
 {
     let is_on = asked.progress || err.is_terminal();
     let watcher = Progress::new(clock, err, is_on);
-    states_by(alloc, text, name, asked.of, watcher)
+    states_by(alloc, text, name, asked.of, proposal, watcher)
 }
 
-/// Writes the report that is asked for, and answers its status.
-fn write_states<'a, T: Texts, C: Clock, W: Write, E: Write + IsTerminal>(
+/// Makes the report of a text, by the certificate that is asked for if one is.
+fn report_asked<'a, T: Texts, C: Clock, E: Write + IsTerminal>(
     texts: &T,
     clock: &C,
+    alloc: Global,
+    text: &[u8],
+    name: &str,
+    asked: &Asked<'a>,
+    err: &mut E,
+) -> Result<AllStates, Failure<'a>>
+    ensures { IfOk result (λ all. Reports text.now name.now all.report.is_closed all.report.alerts all.report.text.items) }
+{
+    let Some(path) = asked.check else {
+        return report_for(clock, alloc, text, name, asked, None, err);
+    };
+    let certificate = text_at(texts, alloc, path)?;
+    let proposal = Proposal {
+        path,
+        text: &certificate,
+    };
+    report_for(clock, alloc, text, name, asked, Some(proposal), err)
+}
+
+/// Writes the certificate of what was found, if that is asked for.
+fn keep<'a, R: Files>(
+    files: &R,
+    alloc: Global,
+    path: Option<&'a str>,
+    certificate: &Option<Vec<u8>>,
+) -> Result<(), Failure<'a>> {
+    let Some(path) = path else {
+        return Ok(());
+    };
+    match certificate {
+        None => Err(Failure::NoCertificate),
+        Some(text) => match put(files, alloc, path, text) {
+            Ok(()) => Ok(()),
+            Err(why) => Err(Failure::CannotKeep(path, why)),
+        },
+    }
+}
+
+/// Writes the report that is asked for, and then the certificate, and answers the status of the report.
+fn write_states<'a, T: Texts, R: Files + Clock, W: Write, E: Write + IsTerminal>(
+    texts: &T,
+    rt: &R,
     alloc: Global,
     asked: Asked<'a>,
     out: &mut W,
@@ -102,15 +157,22 @@ fn write_states<'a, T: Texts, C: Clock, W: Write, E: Write + IsTerminal>(
     ensures writes { IfOk result (WritesStates (T.text_at texts.now) asked.entry.machine (W.contents out.old) (W.contents out.new)) }
 {
     let machine = asked.machine;
-    let text = match read_text(texts, alloc, machine) {
+    let text = match text_at(texts, alloc, machine) {
         Ok(text) => text,
-        Err(fault) => return Err(Failure::of_text(machine, fault)),
-    };
-    let report = match report_for(clock, alloc, &text, name_in(machine), &asked, err) {
-        Ok(report) => report,
         Err(failure) => return Err(failure),
     };
-    write_report(&report, out)
+    let all = match report_asked(texts, rt, alloc, &text, name_in(machine), &asked, err) {
+        Ok(all) => all,
+        Err(failure) => return Err(failure),
+    };
+    let status = match write_report(&all.report, out) {
+        Ok(status) => status,
+        Err(failure) => return Err(failure),
+    };
+    match keep(rt, alloc, asked.keep, &all.certificate) {
+        Ok(()) => Ok(status),
+        Err(failure) => Err(failure),
+    }
 }
 
 /// Writes the help, and flushes it.
@@ -138,14 +200,14 @@ fn answer_without_work<W: Write, E: Write>(error: &clap::Error, out: &mut W, err
     }
 }
 
-/// Does what the words of a command line ask for, over any texts and any clock, and answers the status: 0 with a closed set and no alert, or after
-/// the help, 1 if the machine file is refused, 2 if the command line is, 3 with alerts, 4 if memory, reading or writing failed, and 5 if the set is
-/// not closed or nothing is decided.
+/// Does what the words of a command line ask for, over any texts, and the files that are written and the clock of `rt`, and answers the status: 0 with a closed set and no alert, or after
+/// the help, 1 if the machine file is refused, 2 if the command line or a certificate is, 3 with alerts, 4 if memory, reading or writing failed, and 5
+/// if the set is not closed or nothing is decided.
 ///
 /// Source: project rule.
-pub fn run_on_texts<T: Texts, C: Clock, W: Write, E: Write + IsTerminal>(
+pub fn run_on_texts<T: Texts, R: Files + Clock, W: Write, E: Write + IsTerminal>(
     texts: &T,
-    clock: &C,
+    rt: &R,
     alloc: Global,
     words: &[&str],
     out: &mut W,
@@ -158,7 +220,7 @@ pub fn run_on_texts<T: Texts, C: Clock, W: Write, E: Write + IsTerminal>(
         Err(error) => return answer_without_work(&error, out, err),
         Ok(asked) => asked,
     };
-    match write_states(texts, clock, alloc, asked, out, err) {
+    match write_states(texts, rt, alloc, asked, out, err) {
         Ok(status) => status,
         Err(failure) => report(&failure, err),
     }

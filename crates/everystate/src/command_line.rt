@@ -1,9 +1,9 @@
-//! The command line: `--all`, options and a path.
+//! The command line: `--all` or `--check`, options and a path.
 ghost use Rattle.std.specs.Prelude.{◌≡◌, IfErr, IfOk, false, true, codes};
 ghost use Rattle.clap.specs.Words.{FailsBy, HasMatchesOf, app_of, fault_of, kind_of, rule_of, with_rule};
 ghost use Rattle.clap.specs.Walk.{texts};
-ghost use Rattle.execrun.specs.CommandLine.{AreRight, IsNoAnswer, flag_rule, option_rule, path_rule};
-ghost use Rattle.everystate.specs.CommandLine.{AreGivenBy, TakesWords, command_line, options_alone};
+ghost use Rattle.execrun.specs.CommandLine.{AreRight, IsNoAnswer, flag_rule, nameless_app, option_rule, path_rule};
+ghost use Rattle.everystate.specs.CommandLine.{AreGivenBy, TakesWords, command_line, of_lists, options_alone};
 
 use clap::error::ErrorKind;
 use clap::{Arg, ArgAction, ArgMatches, Command, Error};
@@ -17,6 +17,10 @@ pub struct Asked<'a> {
     pub machine: &'a str,
     /// The kinds of events, as they are listed; none for those that the machine file serves.
     pub of: Option<&'a str>,
+    /// Where the certificate of the states is to be written, if it is.
+    pub keep: Option<&'a str>,
+    /// Where the certificate is that is to be proved anew, if one is.
+    pub check: Option<&'a str>,
     /// Whether a long search reports.
     pub progress: bool,
 }
@@ -32,16 +36,16 @@ fn flag<'a>(alloc: Global, name: &'static str, help: &'static str) -> Arg<'a>
         .help(help)
 }
 
-/// The kinds of events.
-fn kinds<'a>(alloc: Global) -> Arg<'a>
-    ensures rule { rule_of result ≡ option_rule (codes "of") ArgAction.Set }
+/// An option that takes a value.
+fn option<'a>(alloc: Global, name: &'static str, value: &'static str, help: &'static str) -> Arg<'a>
+    ensures rule { rule_of result ≡ option_rule name.now ArgAction.Set }
     ensures local { result.global ≡ false }
 {
-    Arg::new(alloc, "of")
-        .long("of")
-        .value_name("LIST")
+    Arg::new(alloc, name)
+        .long(name)
+        .value_name(value)
         .action(ArgAction::Set)
-        .help("The kinds of events beside run 1, such as tick,PORTS [default: see below]")
+        .help(help)
 }
 
 /// The path.
@@ -63,28 +67,64 @@ fn with<'a>(command: Command<'a>, arg: Arg<'a>) -> Result<Command<'a>, AllocErro
     command.arg(arg)
 }
 
-/// The command with its options, whose words are given without its own name.
-fn command_of_options<'a>(alloc: Global) -> Result<Command<'a>, AllocError>
-    ensures { IfOk result (λ c. app_of c ≡ options_alone) }
+/// The command with no argument yet, whose words are given without its own name.
+fn bare_command<'a>(alloc: Global) -> Command<'a>
+    ensures { app_of result ≡ nameless_app (codes "execexplore") }
 {
-    let bare = Command::new(alloc, "execexplore")
+    Command::new(alloc, "execexplore")
         .about("Finds every state to which any list of events leads, and every alert")
-        .override_usage("execexplore --all [--of LIST] [--progress] MACHINE")
-        .after_help(
-            "Without --of, the kinds are run 1, tick 1 and the sources that servers of MACHINE\nserve. The words of MACHINE may be plain words, and those of signals, nesting,\ntasks and interrupts. Status 0: closed, no alert; 3: closed, and there are alerts;\n5: not closed, or not decided.\n\nExample: `execexplore --all alert.toml` says how many states there are, and\nafter which events each alert comes first.",
+        .override_usage(
+            "execexplore --all [--of LIST] [--keep CERT] [--progress] MACHINE\n       execexplore --check CERT [--of LIST] [--progress] MACHINE",
         )
-        .no_binary_name(true);
+        .after_help(
+            "Without --of, the kinds are run 1, tick 1 and the sources that servers of MACHINE\nserve. The words of MACHINE may be plain words, and those of signals, nesting,\ntasks and interrupts. Status 0: closed, no alert; 3: closed, and there are alerts;\n5: not closed, or not decided.\n\nExample: `execexplore --all --keep alert.cert alert.toml` says how many states\nthere are, and after which events each alert comes first. With alert.cert\n`execexplore --check alert.cert alert.toml` proves the same anew, in less time.",
+        )
+        .no_binary_name(true)
+}
+
+/// The command with the options that say which lists of events are meant.
+fn command_of_lists<'a>(alloc: Global) -> Result<Command<'a>, AllocError>
+    ensures { IfOk result (λ c. app_of c ≡ of_lists) }
+{
     let all = flag(
         alloc,
         "all",
         "Every list of events is meant, in whatever order and however long",
+    );
+    let of = option(
+        alloc,
+        "of",
+        "LIST",
+        "The kinds of events beside run 1, such as tick,PORTS [default: see below]",
+    );
+    with(with(bare_command(alloc), all)?, of)
+}
+
+/// The command with its options.
+fn command_of_options<'a>(alloc: Global) -> Result<Command<'a>, AllocError>
+    ensures { IfOk result (λ c. app_of c ≡ options_alone) }
+{
+    let keep = option(
+        alloc,
+        "keep",
+        "CERT",
+        "Writes the certificate of a closed set of states into this file",
+    );
+    let check = option(
+        alloc,
+        "check",
+        "CERT",
+        "Takes the states from this certificate, and proves them anew",
     );
     let progress = flag(
         alloc,
         "progress",
         "Reports progress on standard error, terminal or not",
     );
-    with(with(with(bare, all)?, kinds(alloc))?, progress)
+    with(
+        with(with(command_of_lists(alloc)?, keep)?, check)?,
+        progress,
+    )
 }
 
 /// The command.
@@ -123,6 +163,8 @@ fn asked_in<'a>(alloc: Global, words: &'a [&'a str]) -> Result<Asked<'a>, Error>
     Ok(Asked {
         machine,
         of: matches.get_str("of"),
+        keep: matches.get_str("keep"),
+        check: matches.get_str("check"),
         progress: matches.get_flag("progress"),
     })
 }

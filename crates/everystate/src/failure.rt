@@ -1,6 +1,8 @@
 //! Why there is no report, what the command says of it, and the status that it ends with.
 ghost use Rattle.std.specs.Prelude.{◌≢◌, ◌≤◌};
 
+use crate::keeping::Unwritten;
+use certificate::CertificateFault;
 use closure::Fault;
 use escape::Shown;
 use execrun::{CannotRead, TextFault, Unread};
@@ -10,7 +12,16 @@ use std::fmt;
 use std::io::Write;
 use taskscript::FileFault;
 
-/// Why there is no report.
+/// Why a certificate is refused.
+#[derive(Clone, Copy)]
+pub enum Uncertified {
+    /// Its text is not that of the certificate that is asked for.
+    Form(CertificateFault),
+    /// The machine does not do what it says, or comes to more states.
+    IsOther,
+}
+
+/// Why there is no report, or no certificate.
 #[derive(Drop)]
 pub enum Failure<'a> {
     /// Memory was refused.
@@ -27,6 +38,12 @@ pub enum Failure<'a> {
     NotCovered(Beyond),
     /// The states cannot be gone over, and why.
     NotDecided(Fault),
+    /// The certificate at this path is refused, and why.
+    Certificate(&'a str, Uncertified),
+    /// The certificate cannot be written at this path, and why.
+    CannotKeep(&'a str, Unwritten),
+    /// The set is not closed, so it has no certificate.
+    NoCertificate,
 }
 
 impl From<AllocError> for Failure<'_> {
@@ -79,9 +96,12 @@ impl Failure<'_> {
     {
         match self {
             Failure::Machine(_) => 1,
-            Failure::Kinds => 2,
-            Failure::NoMemory | Failure::CannotRead(_, _) | Failure::WriteFailed => 4,
-            Failure::NotCovered(_) | Failure::NotDecided(_) => 5,
+            Failure::Kinds | Failure::Certificate(_, _) => 2,
+            Failure::NoMemory
+            | Failure::CannotRead(_, _)
+            | Failure::WriteFailed
+            | Failure::CannotKeep(_, _) => 4,
+            Failure::NotCovered(_) | Failure::NotDecided(_) | Failure::NoCertificate => 5,
         }
     }
 }
@@ -110,6 +130,24 @@ fn show_beyond<W: fmt::Write>(beyond: &Beyond, f: &mut fmt::Formatter<W>) -> fmt
     )
 }
 
+/// What is wrong with a certificate, after its path.
+fn wrong_with(why: Uncertified) -> &'static str {
+    match why {
+        Uncertified::Form(CertificateFault::OutOfMemory) => "memory was refused",
+        Uncertified::Form(CertificateFault::NotACertificate) => "this is not a certificate",
+        Uncertified::Form(CertificateFault::IsChanged) => {
+            "the last line is not the SHA-256 of the lines above it, so this was cut off or changed"
+        }
+        Uncertified::Form(CertificateFault::IsOtherMachine) => {
+            "this is the certificate of another machine file"
+        }
+        Uncertified::Form(CertificateFault::IsOtherKinds) => {
+            "this is of other kinds of events, which its third line has: ask for these by --of"
+        }
+        Uncertified::IsOther => "this is not the tree of all states of the machine",
+    }
+}
+
 /// What the command says after its name.
 impl fmt::Display for Failure<'_> {
     fn fmt<W: fmt::Write>(&self, f: &mut fmt::Formatter<W>) -> fmt::Result {
@@ -123,6 +161,15 @@ impl fmt::Display for Failure<'_> {
             ),
             Failure::NotCovered(beyond) => show_beyond(beyond, f),
             Failure::NotDecided(fault) => show_not_decided(*fault, f),
+            Failure::Certificate(path, why) => {
+                write!(f, "{}: {}", Shown(*path), wrong_with(*why))
+            }
+            Failure::CannotKeep(path, why) => {
+                write!(f, "cannot write {}: {}", Shown(*path), why.reason())
+            }
+            Failure::NoCertificate => {
+                f.write_str("the states are not closed, so no certificate is written")
+            }
         }
     }
 }

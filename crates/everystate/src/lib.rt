@@ -5,11 +5,13 @@ mod arguments;
 mod asking;
 mod command_line;
 mod failure;
+mod keeping;
 mod kinds;
 mod progress;
 mod searching;
 
 pub use arguments::{run, run_on_arguments};
 pub use asking::asks_for_all;
-pub use failure::Failure;
-pub use searching::{LIMITS, states_in};
+pub use failure::{Failure, Uncertified};
+pub use keeping::Unwritten;
+pub use searching::{AllStates, LIMITS, Proposal, states_in};

@@ -1,1 +1,3 @@
+mod certified;
 mod closed;
+mod silent;

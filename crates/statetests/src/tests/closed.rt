@@ -1,21 +1,13 @@
 //! The states of small machines, and their alerts.
-use closure::Watcher;
+use crate::tests::silent::Silent;
 use everystate::states_in;
 use std::alloc::Global;
 use std::test::*;
 
-/// Nothing is reported while a search goes on.
-#[derive(Drop)]
-struct Silent;
-
-impl Watcher for Silent {
-    fn report(&mut self, _states: usize, _alerts: usize) {}
-}
-
 /// Whether this is the report of a machine file, and whether its set of states is closed.
 fn is_reported(alloc: Global, file: &[u8], report: &[u8], is_closed: bool) -> bool {
-    match states_in(alloc, file, "one.toml", None, &mut Silent) {
-        Ok(found) => found.text.as_slice() == report && found.is_closed == is_closed,
+    match states_in(alloc, file, "one.toml", None, None, &mut Silent) {
+        Ok(all) => all.report.text.as_slice() == report && all.report.is_closed == is_closed,
         Err(_) => false,
     }
 }
@@ -41,6 +33,6 @@ fn an_alert_comes_with_its_events(rt: HostRuntime) -> Result<(), Fail> {
 #[test]
 fn words_of_memory_are_not_covered(rt: HostRuntime) -> Result<(), Fail> {
     let file = b"task = [{ name = 'a', code = ['p = AllocMem 16 0'] }]";
-    assert!(rt; states_in(rt.alloc(), file, "one.toml", None, &mut Silent).is_err());
+    assert!(rt; states_in(rt.alloc(), file, "one.toml", None, None, &mut Silent).is_err());
     Ok(())
 }

@@ -6,10 +6,10 @@ use Rattle.statewalk.specs.Every.{SaysEvery}
 use Rattle.everystate.proofs.searching.states_in.Goals as goal
 
 pub returns : goal.returns
-returns c c' = IfOk-weaker c'.report_of.result _ _ (λ report says. record {
+returns c c' = IfOk-weaker c'.all_of.result _ _ (λ all says. record {
   machine = c'.in-Ok.file;
   kinds = c'.in-Ok-kinds_for.kinds.items;
   reads = c'.in-Ok.ensures;
-  says = subst (λ (kinds : List Event). SaysEvery c'.in-Ok.file c'.args.name.now kinds report.is_closed report.alerts report.text.items)
+  says = subst (λ (kinds : List Event). SaysEvery c'.in-Ok.file c'.args.name.now kinds all.report.is_closed all.report.alerts all.report.text.items)
       c'.deref.ensures.value says;
-}) c'.report_of.ensures
+}) c'.all_of.ensures
