@@ -51,6 +51,7 @@ _execsim() {
             option=$it used+="$it "
             ;;
         --cc | --cflags | --keep) option=$it used+="$it= " ;;
+        --check) if [[ $command == execexplore ]]; then option=$it used+="$it= "; else used+="$it "; fi ;;
         --?* | -h) [[ -n $option ]] && option='' || used+="$it " ;;
         --) is_path=/ ;;
         *)
@@ -70,7 +71,7 @@ _execsim() {
     --of) compopt -o nospace 2>/dev/null; _execsim_offer "$(_execsim_kinds)" && return ;;
     --accesses) _execsim_offer $'shared\nnone' && return ;;
     --cc) _execsim_offer $'gcc\nclang' && return ;;
-    --record | --keep) endings=('') ;;
+    --record | --keep | --check) endings=('') ;;
     ?*) return ;;
     esac
     if [[ $word == -* && -z $is_path$option ]]; then
@@ -78,7 +79,7 @@ _execsim() {
         [[ $command == execsim || $command == execc ]] || options+=' --version'
         [[ $command != execcheck ]] || options+=' --short --json --color --serves --fix --explain --lsp'
         [[ $command != execlog ]] || options+=' --plain-words --json --svg --chrome --state --from --to --at --task'
-        [[ $command != execexplore ]] || options+=' --extra --of --see --part --events --progress --sum --all'
+        [[ $command != execexplore ]] || options+=' --extra --of --see --part --events --progress --sum --all --keep= --check='
         [[ $command != execc ]] || options+=' --log --check --svg --state --record --explore --of --events --twice --quantum --accesses --jobs --cc= --cflags= --keep='
         for it in $options; do
             [[ $used == *" $it "* && $it != --serves ]] || _execsim_offer "$it"

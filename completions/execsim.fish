@@ -9,7 +9,9 @@ function __execsim_paths
     for it in (commandline -opc)[2..]
         if test $is_value = yes
             set is_value no
-        else if contains -- $it --state --from --to --at --task --extra --of --see --part --events
+        else if contains -- $it --state --from --to --at --task --extra --of --see --part --events --keep
+            set is_value yes
+        else if test $it = --check; and string match -q -- '*execexplore' (commandline -opc)[1]
             set is_value yes
         else if not string match -q -- '-*' $it
             set paths (math $paths + 1)
@@ -80,6 +82,8 @@ complete -c execexplore -l events -x -d 'Print the events of the first way of an
 complete -c execexplore -l progress -d 'Report how far the search is'
 complete -c execexplore -l sum -d 'Print the report of the whole, of the reports of all parts'
 complete -c execexplore -l all -d 'Try every list of events'
+complete -c execexplore -l keep -r -F -d 'Keep the certificate of all states'
+complete -c execexplore -l check -r -F -d 'Prove a certificate of all states anew'
 complete -c execexplore -n __execsim_sums -F
 complete -c execc -f
 complete -c execc -s h -l help -d 'Print the help'

@@ -1,4 +1,5 @@
 """What `execexplore --all` reports: of the examples, of random machines, and of machines that it does not decide. Used by `.ci/explore`."""
+import hashlib
 import pathlib
 import random
 import re
@@ -99,6 +100,140 @@ def refused(tries, folder):
     tries.note("--all to a full disk", (done.returncode, done.stderr) == (4, b"execexplore: write failed\n"), done)
 
 
+# ---- certificates
+
+HEAD = "execexplore certificate 1\nmachine file: SHA-256 {}\nkinds: {}\n"
+NO_CERTIFICATE = "this is not a certificate"
+CHANGED = "the last line is not the SHA-256 of the lines above it, so this was cut off or changed"
+OTHER_MACHINE = "this is the certificate of another machine file"
+OTHER_KINDS = "this is of other kinds of events, which its third line has: ask for these by --of"
+OTHER_TREE = "this is not the tree of all states of the machine"
+
+
+def sealed(body):
+    """Lines of a certificate, and the last line."""
+    return body + b"lines above: SHA-256 " + hashlib.sha256(body).hexdigest().encode() + b"\n"
+
+
+def parts_of(certificate):
+    """The lines before the marks, and the marks."""
+    head, marks, _ = certificate.decode().split("\n\n")
+    return head + "\n", marks.replace("\n", "")
+
+
+def with_marks(certificate, marks):
+    """A certificate that has other marks."""
+    lines = [marks[at : at + 64] for at in range(0, len(marks), 64)]
+    return sealed((parts_of(certificate)[0] + "".join(f"\n{line}" for line in lines) + "\n\n").encode())
+
+
+def kept(tries, room, machine, wanted):
+    """The certificate of a machine is a tree with as many new states and alerts as the report of its search has, and proves that report anew."""
+    path = room / "kept.cert"
+    path.unlink(missing_ok=True)
+    done = tries.run(["--all", "--keep", str(path), str(machine)])
+    tries.note(f"--keep {machine.name}", done == wanted, done)
+    if not path.exists():
+        tries.note(f"--keep {machine.name}: is written", False)
+        return b""
+    certificate, first = path.read_bytes(), FIRST.match(wanted[1].decode())
+    head, marks = parts_of(certificate)
+    is_headed = head == HEAD.format(hashlib.sha256(machine.read_bytes()).hexdigest(), first["kinds"])
+    counted = (marks.count("+") + 1, marks.count("!"), len(marks))
+    states, alerts = int(first["states"]), int(first["alerts"])
+    is_right = is_headed and counted == (states, alerts, states * len(first["kinds"].split(" and "))) and certificate == with_marks(certificate, marks)
+    tries.note(f"the certificate of {machine.name}", is_right, (certificate, counted))
+    for words in (["--check", str(path)], ["--all", f"--check={path}"], [f"--check={path}"]):
+        done = tries.run([*words, str(machine)])
+        tries.note(f"{words[0]} of {machine.name}", done == wanted, (words, done))
+    return certificate
+
+
+def unproved(tries, name, path, machine, certificate, said, words=()):
+    """A certificate is refused by a sentence, and nothing is printed."""
+    path.write_bytes(certificate)
+    done = tries.run([*words, "--check", str(path), str(machine)])
+    tries.note(f"a certificate {name}", done == (2, b"", f"execexplore: {path}: {said}\n"), (certificate, done))
+
+
+def damaged(tries, room, machine, certificate):
+    """A certificate that is cut off anywhere, or has another byte, is refused; so is one that fits its last line and is not of the machine."""
+    path, first = room / "damaged.cert", len(HEAD.split("\n", maxsplit=1)[0]) + 1
+    for end in range(len(certificate)):
+        unproved(tries, f"of {end} bytes", path, machine, certificate[:end], NO_CERTIFICATE if end < first else CHANGED)
+    dice = random.Random(82)
+    for at in range(len(certificate)):
+        other = bytes([certificate[at] ^ 1 << dice.randrange(7)])
+        unproved(tries, f"with byte {at} changed", path, machine, certificate[:at] + other + certificate[at + 1 :], NO_CERTIFICATE if at < first else CHANGED)
+    unproved(tries, "with a byte that is no text", path, machine, certificate[:-2] + b"\xff\n", NO_CERTIFICATE)
+    unproved(tries, "with a line more", path, machine, certificate + b"\n", CHANGED)
+    unproved(tries, "of no text", path, machine, machine.read_bytes(), NO_CERTIFICATE)
+    head, marks = parts_of(certificate)
+    new, alert = marks.rindex("+"), marks.index("!")
+    forged = {
+        "whose last state is left out": (marks[:new] + "." + marks[new + 1 : -2], OTHER_TREE),
+        "without its alert": (marks[:alert] + "." + marks[alert + 1 :], OTHER_TREE),
+        "with a state in place of the alert": (marks[:alert] + "+" + marks[alert + 1 :], OTHER_TREE),
+        "with a new state that is known": (marks[:-1] + "+..", OTHER_TREE),
+        "with an alert more": (marks[:-1] + "!", OTHER_TREE),
+        "with a mark more": (marks + ".", OTHER_TREE),
+        "with a mark less": (marks[:-1], OTHER_TREE),
+        "with no mark": ("", OTHER_TREE),
+        "with a mark of another kind": (marks[:-1] + "?", NO_CERTIFICATE),
+    }
+    for name, (other, said) in forged.items():
+        unproved(tries, name, path, machine, with_marks(certificate, other), said)
+    body = certificate[: certificate.rindex(b"lines above")]
+    for name, was, put, said in (
+        ("with an empty line more", b"\n\n", b"\n\n\n", NO_CERTIFICATE),
+        ("of another form", b"certificate 1\n", b"certificate 2\n", NO_CERTIFICATE),
+        ("with no kinds", b"\nkinds: ", b"\nkind: ", NO_CERTIFICATE),
+        ("of other kinds", b"tick 1", b"irq PORTS", OTHER_KINDS),
+    ):
+        unproved(tries, name, path, machine, sealed(body.replace(was, put, 1)), said)
+    unproved(tries, "and a list of other kinds", path, machine, certificate, OTHER_KINDS, ["--of", "PORTS,tick"])
+    unproved(tries, "of another machine", path, machine.with_name("signals.toml"), certificate, OTHER_MACHINE)
+
+
+def unkept(tries, room, folder):
+    """A certificate that cannot be written is said to be so, after the report."""
+    alert, taken = folder / "alert.toml", room / "taken.toml"
+    report = tries.run(["--all", str(alert)])[1]
+    taken.write_bytes(alert.read_bytes())
+    for path, said in (
+        ("/dev/full", "no room is left there"),
+        (str(room), "it is a folder"),
+        (str(room / "no-such" / "x.cert"), "there is no such folder"),
+        (str(taken), "a file that is no certificate is there, and is left alone"),
+    ):
+        done = tries.run(["--all", "--keep", path, str(alert)])
+        tries.note(f"--keep {said}", done == (4, report, f"execexplore: cannot write {path}: {said}\n"), done)
+    tries.note("what --keep leaves alone", taken.read_bytes() == alert.read_bytes())
+    empty = room / "empty.cert"
+    empty.write_bytes(b"")
+    done = tries.run(["--all", "--keep", str(empty), str(alert)])
+    tries.note("--keep into an empty file", done == (3, report, "") and empty.read_bytes(), done)
+    opened = room / "open.cert"
+    status, out, err = tries.run(["--all", "--keep", str(opened), str(folder / f"{OPEN[0]}.toml")])
+    is_right = status == 5 and b": not closed: " in out and err == "execexplore: the states are not closed, so no certificate is written\n"
+    tries.note("--keep of a set that is not closed", is_right and not opened.exists(), (status, out, err))
+    for path, said in (("no-such.cert", "there is no such file"), (str(room), "it is a folder")):
+        done = tries.run(["--check", path, str(alert)])
+        tries.note(f"--check {said}", done == (4, b"", f"execexplore: cannot read {path}: {said}\n"), done)
+    for words in (["--all", "--keep"], ["--check"], ["--check", str(empty)], ["--all", "--keep", str(empty)]):
+        status, out, err = tries.run(words)
+        tries.note(f"{words[:2]} alone", (status, out) == (2, b"") and "Usage: execexplore --all" in err, (status, out, err))
+
+
+def certificates(tries, room, folder):
+    for name, wanted in CLOSED.items():
+        machine = folder / f"{name}.toml"
+        certificate = kept(tries, room, machine, tries.run(["--all", str(machine)]))
+        if name == "alert" and certificate:
+            damaged(tries, room, machine, certificate)
+    unkept(tries, room, folder)
+
+
 # ---- random machines
 
 
@@ -140,6 +275,7 @@ def random_machines(tries, execsim, room):
         alerts = dict(ALERT.findall(text))
         replayed(tries, execsim, room, machine, alerts)
         if found:
+            kept(tries, room, machine, (status, out, err))
             closed.append((machine, alerts, FIRST.match(text)["kinds"].split(" and ")))
     tries.note("random machines that are closed", len(closed) > MACHINES // 4, len(closed))
     alerted = 0
@@ -160,4 +296,5 @@ def try_all(tries, folder):
         execsim.symlink_to(pathlib.Path(tries.program).resolve())
         examples(tries, execsim, room, folder)
         refused(tries, folder)
+        certificates(tries, room, folder)
         random_machines(tries, execsim, room)
