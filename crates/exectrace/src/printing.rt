@@ -68,10 +68,10 @@ fn hand_over<W: Sink>(line: &Draft, out: &mut W)
 }
 
 /// Puts a text that is not taken at once: into cells of the stack, and from there in one piece, if it is found to fit them. The answer is
-/// whether it is.
+/// whether it is. It takes a copy of the text, so that one that is taken at once needs no place in memory.
 #[inline(never)]
-fn put_copied<T: Text, W: Sink>(text: &T, out: &mut W) -> bool
-    ensures put { result ≡ true → Puts (W.tape out.old) (W.tape out.new) (T.bytes text.now) }
+fn put_copied<T: Text + Copy, W: Sink>(text: T, out: &mut W) -> bool
+    ensures put { result ≡ true → Puts (W.tape out.old) (W.tape out.new) (T.bytes text) }
     ensures left { result ≡ false → W.tape out.new ≡ W.tape out.old }
 {
     let mut cells = [0; ROOM];
@@ -86,14 +86,14 @@ fn put_copied<T: Text, W: Sink>(text: &T, out: &mut W) -> bool
 
 /// Puts a text into cells that the sink lends, or else from cells of the stack, if it is found to fit them. The answer is whether it is.
 #[inline(always)]
-fn put_whole<T: Text, W: Sink>(text: &T, out: &mut W) -> bool
+fn put_whole<T: Text + Copy, W: Sink>(text: &T, out: &mut W) -> bool
     ensures put { result ≡ true → Puts (W.tape out.old) (W.tape out.new) (T.bytes text.now) }
     ensures left { result ≡ false → W.tape out.new ≡ W.tape out.old }
 {
     if out.take_text(text) {
         return true;
     }
-    put_copied(text, out)
+    put_copied(*text, out)
 }
 
 /// Puts a text between two others, all of which may have no room in one piece.
