@@ -80,7 +80,7 @@ impl Word {
     }
 
     /// The text of the word, as it is in a line and in the trace.
-    #[inline(always)]
+    #[inline(never)]
     pub fn text(self) -> &'static str
         ensures { result.now ≡ word_text self }
     {
