@@ -79,12 +79,12 @@ fn no_call() -> Call {
 pub struct Program {
     code: Vec<Command>,
     place: usize,
-    variables: [u32; PRIVATE_VARIABLES],
-    // The call that the task waits in, if `waits` says that it does. They are separate so that one that goes on writes
-    // one byte.
-    call: Call,
+    // Whether the task waits in `call`. The two are separate so that a task that goes on writes one byte, and this one
+    // lies beside the place, which is written then too.
     waits: bool,
     starts: bool,
+    variables: [u32; PRIVATE_VARIABLES],
+    call: Call,
 }
 
 impl Model for Program {
